@@ -16,7 +16,7 @@ _kcore() {
     local words=
     case $command in
         '') words='replay live custody audit redact help --help --version' ;;
-        replay) words='--config --from --to --workers --dump --state --blank --explain --help' ;;
+        replay) words='--config --from --to --workers --lines --dump --state --blank --explain --help' ;;
         live) words='--config --workers --explain --help' ;;
         custody) words='--config --from --vm --summary --svg --html --refused --accesses --unseen --digests --explain --help' ;;
         audit) words='--all --explain --help' ;;

@@ -18,6 +18,7 @@ complete -c kcore -n '__fish_seen_subcommand_from replay live custody redact' -l
 complete -c kcore -n '__fish_seen_subcommand_from replay custody redact' -l from -rF -d 'Begin in this state'
 complete -c kcore -n '__fish_seen_subcommand_from replay' -l to -rF -d 'Compare the state left with this text'
 complete -c kcore -n '__fish_seen_subcommand_from replay live' -l workers -xa '(seq 64)' -d 'Use up to N threads'
+complete -c kcore -n '__fish_seen_subcommand_from replay' -l lines -d 'Write each call with its reply, as JSON'
 complete -c kcore -n '__fish_seen_subcommand_from replay' -l dump -d 'Write the dump of the core'
 complete -c kcore -n '__fish_seen_subcommand_from replay' -l state -d 'Write the text of the state'
 complete -c kcore -n '__fish_seen_subcommand_from replay' -l blank -d 'Zero the pages of active VMs first'

@@ -5,6 +5,7 @@ _kcore() {
     local from='--from=[begin in this state]:file:_files'
     local to='--to=[compare the state left with this text]:file:_files'
     local workers='--workers=[use up to N threads]:number:({1..64})'
+    local lines='--lines[write each call with its reply, as JSON]'
     local dump='--dump[write the dump of the core]'
     local state_text='--state[write the text of the state]'
     local blank='--blank[zero the pages of active VMs first]'
@@ -39,7 +40,7 @@ _kcore() {
         *) return ;;
     esac
     case $words[1] in
-        replay) _arguments $config $from $to $workers $dump $state_text $blank $explain $help $file ;;
+        replay) _arguments $config $from $to $workers $lines $dump $state_text $blank $explain $help $file ;;
         live) _arguments $config $workers $explain $help $file ;;
         custody) _arguments $config $from $vm $summary $svg $html $refused $accesses $unseen $digests $explain $help $file ;;
         audit) _arguments $all $explain $help $file ;;

@@ -27,13 +27,19 @@ DEFAULT = {
 }
 
 
-# What is said of a trace of another machine, whatever is asked for of its custody.
+# What is said of a trace of another machine, whatever is asked for of its replay or its custody.
 WARNING = "kcore: warning: more than half of the calls name frames or slots that the machine does not have\n"
 OUTSIDE = "refused bad-frame", "refused bad-vm"
 
 
+def lines_text(lines, replies):
+    """What is written of the calls on these lines of a trace with their replies."""
+    pairs = enumerate(zip(lines, replies), 2)
+    return "".join(json.dumps({"line": number, "call": call, "reply": reply}, separators=(",", ":")) + "\n" for number, (call, reply) in pairs)
+
+
 def warning_of(replies):
-    """What custody says on standard error of calls that are answered so."""
+    """What replay and custody say on standard error of calls that are answered so."""
     return WARNING if 2 * sum(it in OUTSIDE for it in replies) > len(replies) else ""
 
 

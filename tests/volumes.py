@@ -2,12 +2,13 @@
 of the state before it to that of the state after it; the same redacted, also of what the host wrote to frames of active
 VMs, between blank states; and such texts damaged."""
 import hashlib
+import os
 import random
 import re
 
 import calls
 from common import run
-from rules import PAGE, REMARKS, Core, denied_in, noted, warning_of
+from rules import PAGE, REMARKS, Core, denied_in, lines_text, noted, warning_of
 from states import blanked, fault_of, state_text
 
 WORKERS = (1, 2, 64)
@@ -28,8 +29,9 @@ class Volume:
         self.lines, self.before = lines, before
         # Each without the bytes of guests and the host's in active VMs' frames, as they are when it is made.
         made = [(core.redacted(line), core.answer(line)) for line in lines]
-        self.hidden, self.replies = [line for line, _ in made], "".join(f"{reply}\n" for _, reply in made)
-        self.warning = warning_of([reply for _, reply in made])
+        answers = [reply for _, reply in made]
+        self.hidden, self.replies = [line for line, _ in made], "".join(f"{reply}\n" for reply in answers)
+        self.answered, self.warning = lines_text(lines, answers), warning_of(answers)
         calls = len(lines), denied_in(remarks)
         self.custody = [([], core.custody_text(calls, told))]
         self.custody.append((list(REMARKS), core.custody_text(calls, noted(told, remarks, REMARKS))))
@@ -171,10 +173,10 @@ def volume_differs(rng, program, volume):
         form, wanted = rng.choice(volume.custody)
         same = program.ran(volume.lines, "custody", *form, *start) == (0, wanted, volume.warning)
         return None if same else "its custody"
-    plain = [], volume.replies
-    form, wanted = rng.choice([plain, plain, (["--state"], volume.behind), (["--dump"], volume.dump)])
+    forms = ([], volume.replies), (["--lines"], volume.answered), (["--state"], volume.behind), (["--dump"], volume.dump)
+    form, wanted = rng.choice(forms)
     words, workers = [*start, "--to", program.file("to", volume.behind)], str(rng.choice(WORKERS))
-    if program.ran(volume.lines, "replay", *form, *words, "--workers", workers) != (0, wanted, ""):
+    if program.ran(volume.lines, "replay", *form, *words, "--workers", workers) != (0, wanted, volume.warning):
         return f"{form[0] if form else 'its replies'} with {workers} workers"
     return None
 
@@ -190,7 +192,7 @@ def blank_differs(rng, program, volume):
         return "its custody, redacted"
     form, wanted = rng.choice([("--state", left), ("--dump", left[left.index("kcore-dump "):])])
     words = [*start, form, "--blank", "--to", program.file("to", left), "--workers", str(rng.choice(WORKERS))]
-    if program.ran(rng.choice([made, volume.lines]), "replay", *words) != (0, wanted, ""):
+    if program.ran(rng.choice([made, volume.lines]), "replay", *words) != (0, wanted, volume.warning):
         return f"{form} of the blank state"
     return None
 
@@ -205,7 +207,7 @@ def host_differs(rng, program, volume):
     if program.ran(volume.hidden, "custody", *form, *starts[rng.randrange(2)]) != (0, wanted, volume.warning):
         return "its custody, redacted with --host"
     words = [*starts[1], "--blank", "--to", program.file("to", blanked(volume.behind))]
-    is_left = program.ran(volume.hidden, "replay", *words)[::2] == (0, "")
+    is_left = program.ran(volume.hidden, "replay", *words)[::2] == (0, volume.warning)
     return None if is_left else "the blank state that it leaves, redacted with --host"
 
 
@@ -213,7 +215,13 @@ def end_differs(rng, program, volume):
     """What differs where a volume is compared with another text than that of the state it leaves, or None."""
     other = volume.before if volume.before != volume.behind and rng.random() < 0.3 else damaged(rng, volume.behind)
     words = ["replay", "--from", program.file("from", volume.before), "--to", program.file("to", other)]
-    return None if program.ran(volume.lines, *words) == (1, volume.replies, ANOTHER) else "compared with another text"
+    said = volume.warning + ANOTHER
+    if program.ran(volume.lines, *words) != (1, volume.replies, said):
+        return "compared with another text"
+    status, _, more = program.ran(volume.lines, *words, "--explain")
+    first = other[: len(os.path.commonprefix([other, volume.behind]))].count("\n") + 1
+    is_named = more.startswith(said) and f": line {first} is the first that differs\n" in more
+    return None if (status, is_named) == (1, True) else f"compared with another text, whose line {first} is the first that differs"
 
 
 def damage_differs(rng, program, volume):

@@ -5,6 +5,8 @@ use Rattle.kc_args.specs.declared.clash.Clash.TheVariants as clashes
 
 abbrev pub first_option : Clash → List ℕ
 first_option clashes.DumpState = codes "--dump"
+first_option clashes.LinesDump = codes "--lines"
+first_option clashes.LinesState = codes "--lines"
 first_option clashes.BlankAlone = codes "--blank"
 first_option clashes.ReplayConfigFrom = codes "--config"
 first_option clashes.CustodyConfigFrom = codes "--config"
@@ -30,6 +32,8 @@ link_of clash = codes "' cannot be used with '"
 
 abbrev pub other_option : Clash → List ℕ
 other_option clashes.DumpState = codes "--state"
+other_option clashes.LinesDump = codes "--dump"
+other_option clashes.LinesState = codes "--state"
 other_option clashes.BlankAlone = codes "--dump', '--state' and '--to"
 other_option clashes.ReplayConfigFrom = codes "--from"
 other_option clashes.CustodyConfigFrom = codes "--from"
@@ -49,6 +53,8 @@ other_option clashes.UnseenAccesses = codes "--accesses"
 
 abbrev pub command_of : Clash → List ℕ
 command_of clashes.DumpState = codes "replay"
+command_of clashes.LinesDump = codes "replay"
+command_of clashes.LinesState = codes "replay"
 command_of clashes.BlankAlone = codes "replay"
 command_of clashes.ReplayConfigFrom = codes "replay"
 command_of clashes.RedactConfigFrom = codes "redact"

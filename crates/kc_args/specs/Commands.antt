@@ -32,7 +32,8 @@ with_start app = with_rule (with_rule app (path_rule (codes "config"))) (path_ru
 
 -- the flags for what a replay writes
 abbrev pub with_outputs : App → App
-with_outputs app = with_rule (with_rule (with_rule app (flag_rule (codes "dump"))) (flag_rule (codes "state"))) (flag_rule (codes "blank"))
+with_outputs app = with_rule (with_rule (with_rule (with_rule app (flag_rule (codes "lines"))) (flag_rule (codes "dump"))) (flag_rule (codes "state")))
+    (flag_rule (codes "blank"))
 
 -- the flags for the form in which custody is reported
 abbrev pub with_forms : App → App

@@ -33,12 +33,15 @@ start_of config None = Some (starts.Boot config)
 start_of None (Some from) = Some (starts.State from)
 start_of (Some config) (Some from) = None
 
--- what is written of a replay, by `--dump` and `--state`; nothing for both
-abbrev pub replay_form : Bool → Bool → Option ReplayForm
-replay_form false false = Some replies.Replies
-replay_form true false = Some replies.Dump
-replay_form false true = Some replies.State
-replay_form true true = None
+-- what is written of a replay, by `--lines`, `--dump` and `--state`, which exclude each other
+abbrev pub replay_form : Bool → Bool → Bool → Result ReplayForm Clash
+replay_form false false false = Ok replies.Replies
+replay_form true false false = Ok replies.Lines
+replay_form false true false = Ok replies.Dump
+replay_form false false true = Ok replies.State
+replay_form lines true true = Err clashes.DumpState
+replay_form true true false = Err clashes.LinesDump
+replay_form true false true = Err clashes.LinesState
 
 -- a summary and a picture have no remarks, by `--refused` and `--accesses`, and begin at boot
 abbrev pub summary_of : Bool → Bool → Start → Result Account Clash
@@ -66,16 +69,17 @@ account_of false true false remarks start = picture_of remarks.refused remarks.a
 -- nothing that is asked for has a core's pages in it, which `--blank` zeroes
 abbrev pub is_alone : Bool → ReplayForm → Option Path → Bool
 is_alone true replies.Replies None = true
+is_alone true replies.Lines None = true
 is_alone blank form to = false
 
 abbrev pub blank_action : Bool → Action → Result Action Clash
 blank_action true action = Err clashes.BlankAlone
 blank_action false action = Ok action
 
-abbrev pub replay_action : Option ReplayForm → Option Start → Option Path → Bool → ℕ → Result Action Clash
-replay_action None start to blank workers = Err clashes.DumpState
-replay_action (Some form) None to blank workers = Err clashes.ReplayConfigFrom
-replay_action (Some form) (Some start) to blank workers = blank_action (is_alone blank form to) (actions.Replay start to form blank workers)
+abbrev pub replay_action : Result ReplayForm Clash → Option Start → Option Path → Bool → ℕ → Result Action Clash
+replay_action (Err clash) start to blank workers = Err clash
+replay_action (Ok form) None to blank workers = Err clashes.ReplayConfigFrom
+replay_action (Ok form) (Some start) to blank workers = blank_action (is_alone blank form to) (actions.Replay start to form blank workers)
 
 -- which texts are named by their digests, by `--digests`: the default configuration has no text to be named
 abbrev pub named_by : Bool → Start → Named
@@ -110,7 +114,7 @@ redact_from_action host (Some start) = redact_action host start
 
 -- what these options ask for, or what contradicts itself in them first
 abbrev pub action_of : Options → Result Action Clash
-action_of (options.Replay config from to workers dump state blank) = replay_action (replay_form dump state) (start_of config from) to blank workers
+action_of (options.Replay config from to workers lines dump state blank) = replay_action (replay_form lines dump state) (start_of config from) to blank workers
 action_of (options.Live config workers) = Ok (actions.Live config workers)
 action_of (options.Custody config from vm summary svg html refused accesses unseen digests) =
     custody_action summary svg html (record { refused = refused; accesses = accesses }) unseen digests (start_of config from) vm

@@ -47,9 +47,9 @@ IsFlag flag rows given = IsTrue given ↔ IsSet flag rows
 
 -- the options that the subcommand of this name is given, by their rows: there are `replay`, `live`, `custody`, `audit` and `redact` alone
 abbrev pub AreOptionsIn : Text → List Row → Options → Type 0
-AreOptionsIn name rows (Replay config from to workers dump state blank) = (name ≢ codes "live") × (name ≢ codes "custody") × (name ≢ codes "audit") × (name ≢ codes "redact")
+AreOptionsIn name rows (Replay config from to workers lines dump state blank) = (name ≢ codes "live") × (name ≢ codes "custody") × (name ≢ codes "audit") × (name ≢ codes "redact")
     × HasOptions rows config workers × HasPath (codes "from") rows from × HasPath (codes "to") rows to
-    × IsFlag (codes "dump") rows dump × IsFlag (codes "state") rows state × IsFlag (codes "blank") rows blank
+    × IsFlag (codes "lines") rows lines × IsFlag (codes "dump") rows dump × IsFlag (codes "state") rows state × IsFlag (codes "blank") rows blank
 AreOptionsIn name rows (Live config workers) = (name ≡ codes "live") × HasOptions rows config workers
 AreOptionsIn name rows (Custody config from vm summary svg html refused accesses unseen digests) = (name ≡ codes "custody")
     × HasPath (codes "config") rows config × HasPath (codes "from") rows from × (vm ≡ vm_in rows)

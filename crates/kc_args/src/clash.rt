@@ -9,6 +9,10 @@ use arrayvec::ArrayString;
 pub enum Clash {
     /// `replay --dump --state`
     DumpState,
+    /// `replay --lines --dump`
+    LinesDump,
+    /// `replay --lines --state`
+    LinesState,
     /// `replay --blank` with nothing that has a core's pages in it.
     BlankAlone,
     /// `replay --config PATH --from PATH`
@@ -49,6 +53,7 @@ impl Clash {
     {
         match self {
             Clash::DumpState => "--dump",
+            Clash::LinesDump | Clash::LinesState => "--lines",
             Clash::BlankAlone => "--blank",
             Clash::ReplayConfigFrom
             | Clash::CustodyConfigFrom
@@ -78,7 +83,8 @@ impl Clash {
         ensures { result.now ≡ other_option self.now }
     {
         match self {
-            Clash::DumpState => "--state",
+            Clash::DumpState | Clash::LinesState => "--state",
+            Clash::LinesDump => "--dump",
             Clash::BlankAlone => "--dump', '--state' and '--to",
             Clash::ReplayConfigFrom | Clash::CustodyConfigFrom | Clash::RedactConfigFrom =>
                 "--from",
@@ -95,7 +101,11 @@ impl Clash {
         ensures { result.now ≡ command_of self.now }
     {
         match self {
-            Clash::DumpState | Clash::BlankAlone | Clash::ReplayConfigFrom => "replay",
+            Clash::DumpState
+            | Clash::LinesDump
+            | Clash::LinesState
+            | Clash::BlankAlone
+            | Clash::ReplayConfigFrom => "replay",
             Clash::RedactConfigFrom | Clash::ConfigAlone | Clash::FromAlone => "redact",
             _ => "custody",
         }

@@ -10,7 +10,7 @@ use std::alloc::{AllocError, Global};
 
 /// What `--version` prints after the program's name: the version, which the first line of custody names too, and on a
 /// second line the toolchain that proves it.
-const VERSION: &str = "2.0.0\nrattle-kit-13f";
+const VERSION: &str = "2.0.0\nrattle-kit-13b";
 
 const TRACE_HELP: &str = "The trace; standard input if this is - or not given";
 
@@ -146,6 +146,8 @@ fn with_outputs<'a>(alloc: Global, command: Command<'a>) -> Result<Command<'a>, 
     ensures app { IfOk result (λ c. app_of c ≡ with_outputs (app_of command.entry)) }
     ensures local { IfOk result (λ c. (fields_of c).has_globals ≡ false) }
 {
+    let help = "Write each call with its reply and its line as JSON, in place of the replies";
+    let command = with_flag(alloc, command, "lines", help)?;
     let help = "Write the dump of the core that the trace leaves, in place of the replies";
     let command = with_flag(alloc, command, "dump", help)?;
     let help =

@@ -18,15 +18,18 @@ fn start_of<'a>(config: Option<&'a str>, from: Option<&'a str>) -> Option<Start<
     }
 }
 
-/// What is written of a replay, by `--dump` and `--state`; nothing for both.
-fn replay_form(dump: bool, state: bool) -> Option<ReplayForm>
-    ensures { result ≡ replay_form dump state }
+/// What is written of a replay, by `--lines`, `--dump` and `--state`.
+fn replay_form(lines: bool, dump: bool, state: bool) -> Result<ReplayForm, Clash>
+    ensures { result ≡ replay_form lines dump state }
 {
-    match (dump, state) {
-        (false, false) => Some(ReplayForm::Replies),
-        (true, false) => Some(ReplayForm::Dump),
-        (false, true) => Some(ReplayForm::State),
-        (true, true) => None,
+    match (lines, dump, state) {
+        (false, false, false) => Ok(ReplayForm::Replies),
+        (true, false, false) => Ok(ReplayForm::Lines),
+        (false, true, false) => Ok(ReplayForm::Dump),
+        (false, false, true) => Ok(ReplayForm::State),
+        (_, true, true) => Err(Clash::DumpState),
+        (true, true, false) => Err(Clash::LinesDump),
+        (true, false, true) => Err(Clash::LinesState),
     }
 }
 
@@ -35,7 +38,7 @@ fn is_alone(blank: bool, form: ReplayForm, to: Option<&str>) -> bool
     ensures { result ≡ is_alone blank form to.entry }
 {
     match (blank, form, to) {
-        (true, ReplayForm::Replies, None) => true,
+        (true, ReplayForm::Replies | ReplayForm::Lines, None) => true,
         _ => false,
     }
 }
@@ -119,13 +122,12 @@ pub(crate) fn action_of<'a>(options: Options<'a>) -> Result<Action<'a>, Clash>
             from,
             to,
             workers,
+            lines,
             dump,
             state,
             blank,
         } => {
-            let Some(form) = replay_form(dump, state) else {
-                return Err(Clash::DumpState);
-            };
+            let form = replay_form(lines, dump, state)?;
             let Some(start) = start_of(config, from) else {
                 return Err(Clash::ReplayConfigFrom);
             };

@@ -12,7 +12,7 @@ use Rattle.kc_faults.specs.declared.origin.Origin.{Origin}
 use Rattle.kc_faults.specs.Origins.{BeginsIn}
 use Rattle.kc_cli.specs.Answers.{AreAnsweredFrom, AreAnswered}
 
-one_each : (m : State) (calls : List Call) → length (replies_from m calls) ≡ length calls
+pub one_each : (m : State) (calls : List Call) → length (replies_from m calls) ≡ length calls
 one_each m [] = refl
 one_each m (call ∷ calls) = ap suc (one_each (next m call).1 calls)
 

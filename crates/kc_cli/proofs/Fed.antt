@@ -1,6 +1,7 @@
 -- Calls that are fed after others.
-use Rattle.std.proofs.Common.{◌≡◌, ◌++◌, ◌∙◌, ℕ, Bool, true, false, List, [], Option, Some, None, refl, ap, subst, sym, arith, length-append}
+use Rattle.std.proofs.Common.{◌≡◌, ◌≤◌, ◌++◌, ◌∙◌, ℕ, Bool, true, false, List, [], length, Option, Some, None, refl, ap, subst, sym, arith, length-append}
 use Rattle.std.specs.Prelude.{IsSome, IfSome}
+use Rattle.kc_types.specs.Limits.{call_limit}
 use Rattle.kc_types.specs.declared.call.Call.{Call}
 use Rattle.kc_types.specs.declared.reply.Reply.{Reply}
 use Rattle.kc_model.specs.State.{State}
@@ -10,10 +11,13 @@ use Rattle.kc_model.proofs.Promises.{promises_kept}
 use Rattle.kc_model.proofs.Redaction.Blank.{audited_blank}
 use Rattle.kc_dumping.proofs.Drawn.{sound-drawn}
 use Rattle.kc_trace.specs.Trace.{IsTrace}
-use Rattle.kc_cli.specs.Engine.{IsReplayed, left_as}
+use Rattle.kc_cli.specs.declared.order.ReplayForm.{ReplayForm}
+use Rattle.kc_cli.specs.declared.order.ReplayForm.TheVariants as forms
+use Rattle.kc_cli.specs.Engine.{IsReplayed, IsKept, kept_more, left_as}
 use Rattle.kc_model.specs.Next.{replies_from, state_after}
 use Rattle.kc_model.proofs.States.Runs.{replies_from-append, state_after-append}
 use Rattle.kc_replay.specs.Replayer.{Replaying, IsFed}
+use Rattle.kc_cli.proofs.Counted.{one_each}
 
 some_is : {X : Type 0} (x y : X) → Some x ≡ Some y → x ≡ y
 some_is x y e = cc
@@ -45,20 +49,41 @@ fed_more a b c xs ys rs ss h k =
 pub still_whole : (a b : Replaying) (calls : List Call) (given : List Reply) → IsFed a b calls given → IsSome b.state
 still_whole a b calls given h = rw h.state refl
 
-pub calls_known : (first : Option (List ℕ)) (a b : Replaying) (calls : List Call) (given : List Reply) → IfSome first (λ text. IsTrace text calls) → IsFed a b calls given → IfSome first (λ text. (made : List Call) × IsTrace text made × IsFed a b made given)
-calls_known None a b calls given traced fed = tt
-calls_known (Some text) a b calls given traced fed = (calls, traced, fed)
+-- no calls are kept, and then more
+pub kept_none : (form : ReplayForm) → IsKept form [] []
+kept_none forms.Lines = refl
+kept_none _ = tt
 
-pub replayed : (first : Option (List ℕ)) (start : State) (a b : Replaying) (given : List Reply) (core : State) → IsLawful start → a.state ≡ Some start → b.state ≡ Some core
-    → IfSome first (λ text. (calls : List Call) × IsTrace text calls × IsFed a b calls given) → IfSome first (λ text. IsReplayed start text given core)
-replayed None start a b given core is from to h = tt
-replayed (Some text) start a b given core is from to h =
+pub still_kept : (form : ReplayForm) (kept calls more : List Call) → IsKept form kept calls → IsKept form (kept_more form kept more) (calls ++ more)
+still_kept forms.Lines kept calls more is = ap (λ (l : List Call). l ++ more) is
+still_kept _ kept calls more is = tt
+
+-- the calls that came, and those that are kept of them
+abbrev pub Came : ReplayForm → Option (List ℕ) → Replaying → Replaying → List Call → List Reply → Type 0
+Came form first a b kept given = IfSome first (λ text. (calls : List Call) × IsTrace text calls × IsFed a b calls given × IsKept form kept calls)
+
+pub calls_known : (form : ReplayForm) (first : Option (List ℕ)) (a b : Replaying) (calls kept : List Call) (given : List Reply) → IfSome first (λ text. IsTrace text calls) → IsFed a b calls given → IsKept form kept calls → Came form first a b kept given
+calls_known form None a b calls kept given traced fed is = tt
+calls_known form (Some text) a b calls kept given traced fed is = (calls, traced, fed, is)
+
+-- there are no more replies than calls
+pub few_fed : (a b c : Replaying) (xs ys : List Call) (rs ss : List Reply) → IsFed a b xs rs → IsFed b c ys ss → length (xs ++ ys) ≤ call_limit → length (rs ++ ss) ≤ call_limit
+few_fed a b c xs ys rs ss h k few =
+    let fed = fed_more a b c xs ys rs ss h k in
+    let same = ap length fed.given ∙ one_each fed.start (xs ++ ys) in
+    omega (arith, same, few)
+
+pub replayed : (form : ReplayForm) (first : Option (List ℕ)) (start : State) (a b : Replaying) (kept : List Call) (given : List Reply) (core : State) → IsLawful start → a.state ≡ Some start → b.state ≡ Some core
+    → Came form first a b kept given → IfSome first (λ text. IsReplayed form start text kept given core)
+replayed form None start a b kept given core is from to h = tt
+replayed form (Some text) start a b kept given core is from to h =
     let fed = h.2 in
     let same : fed.start ≡ start = some_is fed.start start (sym fed.from ∙ from) in
     let left : core ≡ state_after start h.0 = some_is core (state_after start h.0) (sym to ∙ fed.state ∙ ap (λ (m : State). Some (state_after m h.0)) same) in
     record {
       calls = h.0;
       traced = h.1;
+      kept_are = h.3;
       given = fed.given ∙ ap (λ (m : State). replies_from m h.0) same;
       left = left;
       promises = promises_kept start h.0 is;

@@ -1,7 +1,8 @@
-//! What is written of a replay: its replies, or the core that it leaves.
+//! What is written of a replay: its replies, alone or with its calls, or the core that it leaves.
 ghost use Rattle.std.specs.Prelude.{◌≡◌, ◌≤◌, ◌⊎◌, false, is_err, vec_capacity, IfErr, IfOk, OnOk, OnErr};
 ghost use Rattle.std.specs.Io.KnownBytes.{Appends};
 ghost use Rattle.kc_trace.specs.ReplyText.{reply_text_of};
+ghost use Rattle.kc_trace.specs.AnswerText.{answer_text_of};
 ghost use Rattle.kc_dump_text.specs.DumpText.{dump_text};
 ghost use Rattle.kc_dumping.specs.Dumping.{dump_of};
 ghost use Rattle.kc_state_text.specs.StateText.{state_text};
@@ -16,12 +17,24 @@ use kc_digests::Lanes;
 use kc_dump_text::write_dump;
 use kc_dumping::dump;
 use kc_faults::TextFault;
-use kc_replay::Outcome;
+use kc_remarks::Answered;
 use kc_state_text::StatePieces;
 use kc_texts::{Failed, Sink, empty_piece, give_replies, write_whole};
-use kc_types::{Memory, Reply, SecretBytes};
+use kc_types::{Call, Memory, Reply, SecretBytes};
 use std::alloc::Global;
 use std::thread::Threads;
+
+/// What came of a trace that was replayed.
+#[derive(Drop)]
+pub(crate) struct Replayed {
+    /// The calls, if they are written too.
+    pub calls: Vec<Call>,
+    pub replies: Vec<Reply>,
+    /// How the calls were answered.
+    pub answered: Answered,
+    /// The core that it leaves.
+    pub core: KCore,
+}
 
 /// Gives the text of replies.
 fn give_text<K: Sink>(alloc: Global, replies: Vec<Reply>, out: &mut K) -> Result<(), TextFault>
@@ -37,6 +50,29 @@ fn give_text<K: Sink>(alloc: Global, replies: Vec<Reply>, out: &mut K) -> Result
         return Err(TextFault::Memory);
     };
     match give_replies(out, piece, replies) {
+        Ok(()) => Ok(()),
+        Err(_) => Err(TextFault::Write),
+    }
+}
+
+/// Gives the lines of calls with their replies.
+fn give_answers<K: Sink>(
+    alloc: Global,
+    calls: &[Call],
+    replies: &[Reply],
+    out: &mut K,
+) -> Result<(), TextFault>
+    requires { K.failed out.old ≡ false }
+    ensures ok { OnOk result (Appends (K.taken out.old) (K.taken out.new) (answer_text_of calls.now replies.now)) }
+    ensures sink { TellsSink (K.failed out.new)
+        (AppendsBeginning (K.taken out.old) (K.taken out.new) (answer_text_of calls.now replies.now))
+        (out.new ≡ out.old) result }
+    ensures fault { IfErr result (λ fault. (fault ≡ TextFault.Memory) ⊎ (fault ≡ TextFault.Write)) }
+{
+    let Ok(piece) = empty_piece(alloc) else {
+        return Err(TextFault::Memory);
+    };
+    match kc_texts::give_answers(out, piece, calls, replies) {
         Ok(()) => Ok(()),
         Err(_) => Err(TextFault::Write),
     }
@@ -131,10 +167,11 @@ fn give_state<K: Sink>(
     }
 }
 
-/// Gives what is wanted of replies and of the core after them.
+/// Gives what is wanted of calls, their replies, and the core after them.
 fn give_wanted<K: Sink>(
     rt: &(impl Threads + Sync),
     alloc: Global,
+    calls: Vec<Call>,
     replies: Vec<Reply>,
     core: &KCore,
     order: ReplayOrder,
@@ -142,37 +179,42 @@ fn give_wanted<K: Sink>(
 ) -> Result<(), TextFault>
     requires { K.failed out.old ≡ false }
     ensures ok { OnOk result
-        (Appends (K.taken out.old) (K.taken out.new) (written_text order.form replies.items core.now)) }
-    ensures sink { TellsSink (K.failed out.new)
-        (AppendsBeginning (K.taken out.old) (K.taken out.new) (written_text order.form replies.items core.now))
-        (out.new ≡ out.old) result }
+        (Appends (K.taken out.old) (K.taken out.new) (written_text order.form calls.items replies.items core.now)) }
+    ensures sink { TellsSink (K.failed out.new) (AppendsBeginning (K.taken out.old) (K.taken out.new)
+        (written_text order.form calls.items replies.items core.now)) (out.new ≡ out.old) result }
     ensures fault { IfErr result (λ fault. (fault ≡ TextFault.Memory) ⊎ (fault ≡ TextFault.Write)) }
 {
     match order.form {
         ReplayForm::Replies => give_text(alloc, replies, out),
+        ReplayForm::Lines => give_answers(alloc, &calls, &replies, out),
         ReplayForm::Dump => give_dump(rt, alloc, core, order.lanes, out),
         ReplayForm::State => give_state(rt, alloc, core, order.lanes, out),
     }
 }
 
 /// Gives what is wanted of a replay. Its core is wiped before it goes, whatever the outcome.
-pub(crate) fn give_outcome<K: Sink>(
+pub(crate) fn give_replayed<K: Sink>(
     rt: &(impl Threads + Sync),
     alloc: Global,
-    outcome: Outcome,
+    made: Replayed,
     order: ReplayOrder,
     out: &mut K,
 ) -> Result<(), TextFault>
     requires { K.failed out.old ≡ false }
-    ensures ok { OnOk result
-        (Appends (K.taken out.old) (K.taken out.new) (written_text order.form outcome.replies.items outcome.core)) }
+    ensures ok { OnOk result (Appends (K.taken out.old) (K.taken out.new)
+        (written_text order.form made.calls.items made.replies.items made.core)) }
     ensures sink { TellsSink (K.failed out.new) (AppendsBeginning (K.taken out.old) (K.taken out.new)
-        (written_text order.form outcome.replies.items outcome.core)) (out.new ≡ out.old) result }
+        (written_text order.form made.calls.items made.replies.items made.core)) (out.new ≡ out.old) result }
     ensures fault { IfErr result (λ fault. (fault ≡ TextFault.Memory) ⊎ (fault ≡ TextFault.Write)) }
 {
-    let Outcome { replies, core } = outcome;
+    let Replayed {
+        calls,
+        replies,
+        answered: _,
+        core,
+    } = made;
     let mut core = core;
-    let given = give_wanted(rt, alloc, replies, &core, order, out);
+    let given = give_wanted(rt, alloc, calls, replies, &core, order, out);
     core.wipe(rt);
     given
 }

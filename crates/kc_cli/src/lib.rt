@@ -35,5 +35,5 @@ pub use kc_texts::{Failed, Mem, ReadFault, Sink, Source, Std, read_whole, write_
 pub use live::live_text;
 pub use order::{ReplayForm, ReplayOrder};
 pub use reading::{DEFAULT_CONFIG, read_both, read_configuration};
-pub use replaying::{replay_text, replay_to_text};
+pub use replaying::{Compared, replay_text, replay_to_text};
 pub use starting::read_start;

@@ -7,6 +7,8 @@ use kc_faults::Origin;
 pub enum ReplayForm {
     /// The replies, a line each.
     Replies,
+    /// Each call with its reply and the number of its line, an object a line (JSON, RFC 8259).
+    Lines,
     /// The dump of the core that the trace leaves.
     Dump,
     /// The text of the state that it leaves.

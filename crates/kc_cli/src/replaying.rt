@@ -1,42 +1,67 @@
 //! The engine that replays a trace, over any sources and any sink.
-ghost use Rattle.std.specs.Prelude.{◌≡◌, ◌≢◌, ◌<◌, ◌⊎◌, ◌↔◌, ◌∷◌, [], List, true, false, IsTrue, IfOk, IfErr, IfSome, OnOk, Err, IsSome};
+ghost use Rattle.std.specs.Prelude.{◌≡◌, ◌≢◌, ◌<◌, ◌≤◌, ◌⊎◌, ◌∷◌, [], List, length, true, false, IfOk, IfErr, IfSome, OnOk, Err, IsSome};
 ghost use Rattle.std.specs.Io.KnownBytes.{IsAtEnd};
+ghost use Rattle.kc_types.specs.Limits.{call_limit};
 ghost use Rattle.kc_types.specs.declared.call.Call.{Call};
 ghost use Rattle.kc_trace.specs.declared.fault.TraceFault.{TraceFault};
 ghost use Rattle.kc_trace.specs.Trace.{IsTrace, IsRefused};
 ghost use Rattle.kc_state_text.specs.StateText.{state_text};
+ghost use Rattle.kc_state_text.specs.Differences.{IsDifference};
 ghost use Rattle.kc_texts.specs.Ends.{ReadFailed, seen};
 ghost use Rattle.kc_texts.specs.Written.{Writes, Begins};
 ghost use Rattle.kc_faults.specs.Outcomes.{TellsSources, TellsTexts, TellsReplay, TellsSink};
 ghost use Rattle.kc_replay.specs.Replayer.{IsFed};
-ghost use Rattle.kc_cli.specs.Engine.{AreReplayed, IsReplayFault, IsReplayText, IsLeftText, left_as};
+ghost use Rattle.kc_cli.specs.Engine.{AreReplayed, IsKept, IsReplayFault, IsReplayText, DiffersFromLeft, kept_more, left_as};
+ghost use Rattle.kc_cli.specs.Answers.{AreAnswered};
 
-use crate::giving::give_outcome;
-use crate::order::ReplayOrder;
+use crate::giving::{Replayed, give_replayed};
+use crate::order::{ReplayForm, ReplayOrder};
 use crate::starting::read_start;
 use kc_core::KCore;
 use kc_digests::Lanes;
 use kc_faults::TextFault;
-use kc_replay::{OpenGate, Outcome, ReplayFault, Replayer};
-use kc_state_text::is_state_text;
+use kc_remarks::Answered;
+use kc_replay::{OpenGate, ReplayFault, Replayer};
+use kc_state_text::difference_from_state;
 use kc_texts::{CallStream, PIECE, Sink, Source, read_secret};
-use kc_types::{Reply, WORKER_LIMIT};
+use kc_types::{Call, Memory, Reply, WORKER_LIMIT};
 use std::alloc::Global;
 use std::sync::Wait;
 use std::thread::Threads;
 
-/// Makes the calls of the trace that a source has left, as it is read, and gives their replies.
+/// What came of a trace's calls, as it was read.
+#[derive(Drop)]
+struct Fed {
+    /// The calls, if they are written too.
+    calls: Vec<Call>,
+    replies: Vec<Reply>,
+}
+
+/// Keeps more calls, if they are written too.
+fn keep(calls: &mut Vec<Call>, more: Vec<Call>, form: ReplayForm) -> Result<(), Memory>
+    ensures { OnOk result (calls.new.items ≡ kept_more form calls.old.items more.items) }
+{
+    let mut more = more;
+    if form == ReplayForm::Lines {
+        calls.append(&mut more)?;
+    }
+    Ok(())
+}
+
+/// Makes the calls of the trace that a source has left, as it is read.
 fn feed_source<T: Source, R: Threads + Wait + Sync>(
     rt: &R,
     alloc: Global,
     replayer: &mut Replayer,
     trace: &mut T,
-) -> Result<Vec<Reply>, TextFault>
+    form: ReplayForm,
+) -> Result<Fed, TextFault>
     requires trace { T.failed trace.old ≡ false }
     requires start { replayer.old.fed ≡ 0 }
     requires whole { IsSome replayer.old.state }
-    ensures ok { IfOk result (λ replies. IfSome (T.left trace.old)
-        (λ text. (calls : List Call) × IsTrace text calls × IsFed replayer.old replayer.new calls replies.items)) }
+    ensures ok { IfOk result (λ fed. IfSome (T.left trace.old) (λ text. (calls : List Call) × IsTrace text calls
+        × IsFed replayer.old replayer.new calls fed.replies.items × IsKept form fed.calls.items calls)) }
+    ensures few { IfOk result (λ fed. length fed.replies.items ≤ call_limit) }
     ensures ended { OnOk result (IsAtEnd (T.left trace.new)) }
     ensures trace { (fault : TraceFault) → result ≡ Err (TextFault.Trace fault)
         → IfSome (T.left trace.old) (λ text. IsRefused text fault) × IsAtEnd (T.left trace.new) }
@@ -47,6 +72,7 @@ fn feed_source<T: Source, R: Threads + Wait + Sync>(
 {
     let mut buffer = [0u8; PIECE];
     let mut stream = CallStream::new();
+    let mut calls = Vec::new(alloc);
     let mut replies = Vec::new(alloc);
     loop {
         let part = stream.next(alloc, trace, &mut buffer)?;
@@ -59,12 +85,15 @@ fn feed_source<T: Source, R: Threads + Wait + Sync>(
             Err(ReplayFault::Start) => return Err(TextFault::Start),
             Err(_) => return Err(TextFault::Memory),
         }
+        let Ok(()) = keep(&mut calls, part.calls, form) else {
+            return Err(TextFault::Memory);
+        };
         if part.is_last {
             break;
         }
     }
     match stream.finish() {
-        Ok(()) => Ok(replies),
+        Ok(()) => Ok(Fed { calls, replies }),
         Err(fault) => Err(TextFault::Trace(fault)),
     }
 }
@@ -86,11 +115,13 @@ fn replay_texts<C: Source, T: Source, R: Threads + Wait + Sync>(
     start: &mut C,
     trace: &mut T,
     order: ReplayOrder,
-) -> Result<Outcome, TextFault>
+) -> Result<Replayed, TextFault>
     requires start { C.failed start.old ≡ false }
     requires trace { T.failed trace.old ≡ false }
-    ensures ok { IfOk result
-        (λ outcome. AreReplayed order.origin (C.left start.old) (T.left trace.old) outcome.replies.items outcome.core) }
+    ensures ok { IfOk result (λ made. AreReplayed order.origin order.form (C.left start.old) (T.left trace.old)
+        made.calls.items made.replies.items made.core) }
+    ensures answered { IfOk result
+        (λ made. AreAnswered order.origin (C.left start.old) (T.left trace.old) made.answered) }
     ensures sources { TellsSources
         (seen C.failed C.left start.old start.new ∷ seen T.failed T.left trace.old trace.new ∷ []) result }
     ensures texts { TellsTexts order.origin (seen C.failed C.left start.old start.new)
@@ -106,10 +137,18 @@ fn replay_texts<C: Source, T: Source, R: Threads + Wait + Sync>(
         return Err(TextFault::Memory);
     };
     let mut replayer = replayer;
-    match feed_source(rt, alloc, &mut replayer, trace) {
-        Ok(replies) => match replayer.finish() {
-            Ok(core) => Ok(Outcome { replies, core }),
-            Err(_) => Err(TextFault::Memory),
+    match feed_source(rt, alloc, &mut replayer, trace, order.form) {
+        Ok(Fed { calls, replies }) => {
+            let answered = Answered::of(&replies);
+            match replayer.finish() {
+                Ok(core) => Ok(Replayed {
+                    calls,
+                    replies,
+                    answered,
+                    core,
+                }),
+                Err(_) => Err(TextFault::Memory),
+            }
         },
         Err(fault) => {
             wipe_left(rt, replayer);
@@ -118,20 +157,21 @@ fn replay_texts<C: Source, T: Source, R: Threads + Wait + Sync>(
     }
 }
 
-/// The outcome, with the pages of active VMs zeroed if that is asked for.
-fn left_as(outcome: Outcome, is_blank: bool) -> Outcome
-    ensures { result ≡ record outcome { core = left_as is_blank outcome.core } }
+/// The same, with the pages of active VMs zeroed if that is asked for.
+fn left_as(made: Replayed, is_blank: bool) -> Replayed
+    ensures { result ≡ record made { core = left_as is_blank made.core } }
 {
-    let mut outcome = outcome;
+    let mut made = made;
     if is_blank {
-        outcome.core.blank();
+        made.core.blank();
     }
-    outcome
+    made
 }
 
 /// Reads what the calls begin with and a trace, each to its end, has 1 to 64 workers make the trace's calls as they are
-/// read, and writes what is wanted: the reply text, the dump of the core that the trace leaves, or the text of its
-/// state. The number of workers is judged before anything is read.
+/// read, and writes what is wanted: the reply text, each call with its reply, the dump of the core that the trace
+/// leaves, or the text of its state; the result counts the calls, and those that were refused or rejected. The number
+/// of workers is judged before anything is read.
 ///
 /// Nothing is written before the whole trace was read and answered. A source that fails, or that has more than
 /// 1,073,741,824 bytes, is `Read`, even if its bytes so far are refused already. Out of memory or a worker that cannot
@@ -143,12 +183,13 @@ pub fn replay_text<C: Source, T: Source, K: Sink, R: Threads + Wait + Sync>(
     trace: &mut T,
     out: &mut K,
     order: ReplayOrder,
-) -> Result<(), TextFault>
+) -> Result<Answered, TextFault>
     requires start { C.failed start.old ≡ false }
     requires trace { T.failed trace.old ≡ false }
     requires out { K.failed out.old ≡ false }
 
-    // What is written is the text wanted for what the sources held.
+    // What is written is the text wanted for what the sources held, and the result is counted of the trace's replies.
+    ensures answered { IfOk result (AreAnswered order.origin (C.left start.old) (T.left trace.old)) }
     ensures ok { OnOk result (Writes (IsReplayText order.origin order.form order.is_blank)
         (C.left start.old) (T.left trace.old) (K.taken out.old) (K.taken out.new)) }
     ensures sources { TellsSources
@@ -159,33 +200,45 @@ pub fn replay_text<C: Source, T: Source, K: Sink, R: Threads + Wait + Sync>(
     ensures sink { TellsSink (K.failed out.new) (Begins (IsReplayText order.origin order.form order.is_blank)
         (C.left start.old) (T.left trace.old) (K.taken out.old) (K.taken out.new)) (out.new ≡ out.old) result }
 {
-    let outcome = replay_texts(rt, alloc, start, trace, order)?;
-    give_outcome(rt, alloc, left_as(outcome, order.is_blank), order, out)
+    let made = replay_texts(rt, alloc, start, trace, order)?;
+    let answered = made.answered;
+    give_replayed(rt, alloc, left_as(made, order.is_blank), order, out)?;
+    Ok(answered)
 }
 
-/// Whether what a source has left is the text of a core's state.
-fn is_left<S: Source>(
+/// The first line of what a source has left that differs from the text of a core's state; `None` if it is that text.
+fn difference_in<S: Source>(
     rt: &(impl Threads + Sync),
     alloc: Global,
     core: &KCore,
     to: &mut S,
     lanes: Lanes,
-) -> Result<bool, TextFault>
+) -> Result<Option<usize>, TextFault>
     requires { S.failed to.old ≡ false }
-    ensures ok { IfOk result (λ same. IfSome (S.left to.old) (λ text. IsTrue same ↔ (text ≡ state_text core.now))) }
+    ensures ok { IfOk result (λ line. IfSome (S.left to.old) (λ text. IsDifference line text (state_text core.now))) }
     ensures ended { OnOk result (IsAtEnd (S.left to.new)) }
     ensures read { result ≡ Err TextFault.Read → ReadFailed (S.failed to.new) (S.left to.old) (S.left to.new) }
     ensures source { S.failed to.new ≡ true → result ≡ Err TextFault.Read }
     ensures fault { IfErr result (λ fault. (fault ≡ TextFault.Memory) ⊎ (fault ≡ TextFault.Read)) }
 {
     let text = read_secret(alloc, to)?;
-    match is_state_text(rt, alloc, core, text.as_slice(), lanes) {
-        Ok(same) => Ok(same),
+    match difference_from_state(rt, alloc, core, text.as_slice(), lanes) {
+        Ok(line) => Ok(line),
         Err(_) => Err(TextFault::Memory),
     }
 }
 
-/// Does what `replay_text` does, and returns whether what a third source holds, which is read to its end, is the text
+/// What comes of a replay whose last state is compared with a text.
+#[derive(Clone, Copy, Debug, PartialEq, Eq)]
+pub struct Compared {
+    /// How the calls were answered.
+    pub answered: Answered,
+    /// The number of the first line of that text, from 1, that differs from the state's text; `None` if it is that
+    /// text.
+    pub difference: Option<usize>,
+}
+
+/// Does what `replay_text` does, and also compares what a third source holds, which is read to its end, with the text
 /// of the state that the trace leaves. That source is read after the trace and before anything is written.
 pub fn replay_to_text<C: Source, T: Source, S: Source, K: Sink, R: Threads + Wait + Sync>(
     rt: &R,
@@ -195,17 +248,18 @@ pub fn replay_to_text<C: Source, T: Source, S: Source, K: Sink, R: Threads + Wai
     to: &mut S,
     out: &mut K,
     order: ReplayOrder,
-) -> Result<bool, TextFault>
+) -> Result<Compared, TextFault>
     requires start { C.failed start.old ≡ false }
     requires trace { T.failed trace.old ≡ false }
     requires to { S.failed to.old ≡ false }
     requires out { K.failed out.old ≡ false }
 
-    // What is written is the text wanted for what the sources held, and what is answered is of the third one.
+    // What is written is the text wanted for what the sources held, and a difference is that of the third one.
+    ensures answered { IfOk result (λ made. AreAnswered order.origin (C.left start.old) (T.left trace.old) made.answered) }
     ensures ok { OnOk result (Writes (IsReplayText order.origin order.form order.is_blank)
         (C.left start.old) (T.left trace.old) (K.taken out.old) (K.taken out.new)) }
-    ensures same { IfOk result
-        (IsLeftText order.origin order.is_blank (C.left start.old) (T.left trace.old) (S.left to.old)) }
+    ensures difference { IfOk result (λ made. DiffersFromLeft order.origin order.is_blank
+        (C.left start.old) (T.left trace.old) (S.left to.old) made.difference) }
     ensures sources { TellsSources (seen C.failed C.left start.old start.new
         ∷ seen T.failed T.left trace.old trace.new ∷ seen S.failed S.left to.old to.new ∷ []) result }
     ensures texts { TellsTexts order.origin (seen C.failed C.left start.old start.new)
@@ -214,16 +268,20 @@ pub fn replay_to_text<C: Source, T: Source, S: Source, K: Sink, R: Threads + Wai
     ensures sink { TellsSink (K.failed out.new) (Begins (IsReplayText order.origin order.form order.is_blank)
         (C.left start.old) (T.left trace.old) (K.taken out.old) (K.taken out.new)) (out.new ≡ out.old) result }
 {
-    let outcome = replay_texts(rt, alloc, start, trace, order)?;
-    let outcome = left_as(outcome, order.is_blank);
-    let same = match is_left(rt, alloc, &outcome.core, to, order.lanes) {
-        Ok(same) => same,
+    let made = replay_texts(rt, alloc, start, trace, order)?;
+    let answered = made.answered;
+    let made = left_as(made, order.is_blank);
+    let difference = match difference_in(rt, alloc, &made.core, to, order.lanes) {
+        Ok(difference) => difference,
         Err(fault) => {
-            let mut core = outcome.core;
+            let mut core = made.core;
             core.wipe(rt);
             return Err(fault);
         },
     };
-    give_outcome(rt, alloc, outcome, order, out)?;
-    Ok(same)
+    give_replayed(rt, alloc, made, order, out)?;
+    Ok(Compared {
+        answered,
+        difference,
+    })
 }

@@ -9,7 +9,7 @@ ghost use Rattle.kc_parts.specs.States.{state_of, IsLinked, IsLoose, is_away};
 ghost use Rattle.kc_core.specs.Applying.{IsAble, IsAnswer, KeepsPlaces, reply_of};
 ghost use Rattle.kc_core.specs.Guests.{IsMapping};
 
-use crate::naming::{Mapping, mapped_frame};
+use crate::naming::{Mapping, grants_of, mapped_frame};
 use kc_parts::Parts;
 use kc_types::{Config, FrameNo, Owner, Phase, Refusal, Reply, VmId};
 
@@ -25,7 +25,7 @@ fn unshared_frame(
     ensures mapped { IfOk result (IsMapping (state_of config.now parts.now) vm gfn) }
 {
     let found = mapped_frame(parts, config, vm, vcpu, gfn)?;
-    if parts.record_of(config, found.frame.number()).share > 0 {
+    if grants_of(parts, config, found.frame.number()) > 0 {
         return Err(Refusal::Shared);
     }
     Ok(found)

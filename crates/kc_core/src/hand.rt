@@ -23,13 +23,13 @@ fn expect_room(
     config: &Config,
     vm: VmId,
     gfn: Gfn,
-    frame: u32,
+    frame: FrameNo,
 ) -> Result<(), Refusal>
     requires low { vm < slot_count config.now }
     requires linked { IsLinked config.now parts.now }
     ensures { Answers result (first_of_these (not_host (state_of config.now parts.now) frame ∷ tables_full (state_of config.now parts.now) vm gfn ∷ [])) }
 {
-    if parts.record_of(config, frame).owner != Owner::Host {
+    if parts.record_of(frame).owner != Owner::Host {
         return Err(Refusal::NotHost);
     }
     if !parts.fits_in(config, vm, gfn) {
@@ -87,7 +87,7 @@ fn next_page(
         return Err(Refusal::BadFrame);
     };
     let gfn = parts.next_page_of(config, vm, image)?;
-    expect_room(parts, config, vm, gfn, frame)?;
+    expect_room(parts, config, vm, gfn, found)?;
     Ok(NextPage {
         vm,
         gfn,
@@ -144,7 +144,7 @@ fn awaited_frame(
     if slot.table().get(gfn).is_some() {
         return Err(Refusal::Mapped);
     }
-    expect_room(parts, config, vm, gfn, frame)?;
+    expect_room(parts, config, vm, gfn, found)?;
     Ok(Awaited {
         vm,
         vcpu,

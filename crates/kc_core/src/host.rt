@@ -37,7 +37,7 @@ fn host_frame(parts: &Parts, config: &Config, frame: u32) -> Result<FrameNo, Ref
     let Some(found) = config.frame(frame) else {
         return Err(Refusal::BadFrame);
     };
-    if parts.record_of(config, frame).owner != Owner::Host {
+    if parts.record_of(found).owner != Owner::Host {
         return Err(Refusal::NotHost);
     }
     Ok(found)
@@ -65,7 +65,7 @@ fn reachable_frame(parts: &Parts, config: &Config, frame: u32) -> Result<FrameNo
     let Some(found) = config.frame(frame) else {
         return Err(Refusal::BadFrame);
     };
-    let record = parts.record_of(config, frame);
+    let record = parts.record_of(found);
     if record.owner != Owner::Host && record.share == 0 {
         return Err(Refusal::Protected);
     }
@@ -100,7 +100,7 @@ fn present_frame(
     if len == 0 || len > PAGE_SIZE || offset > PAGE_SIZE - len {
         return Err(Refusal::BadRange);
     }
-    if !parts.record_of(config, frame).present {
+    if !parts.record_of(found).present {
         return Err(Refusal::NotPresent);
     }
     Ok(found)

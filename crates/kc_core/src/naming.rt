@@ -4,7 +4,7 @@ ghost use Rattle.kc_types.specs.Configuration.{slot_count};
 ghost use Rattle.kc_types.specs.Limits.{gfn_limit};
 ghost use Rattle.kc_types.specs.Refusals.{Answers};
 ghost use Rattle.kc_types.specs.declared.refusal.Refusal.TheVariants.{BadVm};
-ghost use Rattle.kc_model.specs.State.{slot_at, mapped_at};
+ghost use Rattle.kc_model.specs.State.{frame_at, slot_at, mapped_at};
 ghost use Rattle.kc_model.specs.Refusals.{first_of_these, when, bad_vcpu, bad_gfn, no_vm, not_active, no_vcpu};
 ghost use Rattle.kc_parts.specs.Parts.{links_of};
 ghost use Rattle.kc_parts.specs.States.{state_of, slot_in};
@@ -91,6 +91,16 @@ pub fn mapped_at(parts: &Parts, config: &Config, vm: VmId, gfn: u32) -> Option<F
     ensures { result ≡ mapped_at (state_of config.now parts.now) vm gfn }
 {
     parts.mapping_of(config, vm, Gfn::try_new(gfn).unwrap())
+}
+
+/// The number of grants of the frame of this number; 0 if there is none.
+pub fn grants_of(parts: &Parts, config: &Config, frame: u32) -> u32
+    ensures { result ≡ (frame_at (state_of config.now parts.now) frame).share }
+{
+    match config.frame(frame) {
+        Some(frame) => parts.record_of(frame).share,
+        None => 0,
+    }
 }
 
 /// The frame at the guest frame of these numbers.

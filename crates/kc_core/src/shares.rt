@@ -13,7 +13,7 @@ ghost use Rattle.kc_types.specs.Configuration.{slot_count};
 ghost use Rattle.kc_types.specs.Limits.{gfn_limit, share_limit};
 ghost use Rattle.kc_types.specs.Refusals.{Answers};
 
-use crate::naming::{expect_vcpu, mapped_at, mapped_frame, named_vcpu};
+use crate::naming::{expect_vcpu, grants_of, mapped_at, mapped_frame, named_vcpu};
 use kc_page::PageRecord;
 use kc_parts::Parts;
 use kc_types::{Config, FrameNo, GFN_LIMIT, RANGE_LIMIT, Refusal, Reply, SHARE_LIMIT, VmId};
@@ -30,7 +30,7 @@ fn grantable_frame(
     ensures mapped { IfOk result (λ frame. mapped_at (state_of config.now parts.now) vm gfn ≡ Some frame) }
 {
     let found = mapped_frame(parts, config, vm, vcpu, gfn)?;
-    if parts.record_of(config, found.frame.number()).share >= SHARE_LIMIT {
+    if grants_of(parts, config, found.frame.number()) >= SHARE_LIMIT {
         return Err(Refusal::ShareFull);
     }
     Ok(found.frame)
@@ -48,7 +48,7 @@ fn shared_frame(
     ensures mapped { IfOk result (λ frame. mapped_at (state_of config.now parts.now) vm gfn ≡ Some frame) }
 {
     let found = mapped_frame(parts, config, vm, vcpu, gfn)?;
-    if parts.record_of(config, found.frame.number()).share == 0 {
+    if grants_of(parts, config, found.frame.number()) == 0 {
         return Err(Refusal::NotShared);
     }
     Ok(found.frame)
@@ -141,7 +141,7 @@ fn share_of(parts: &Parts, config: &Config, vm: VmId, gfn: u32) -> u32
         Some(frame) => frame.number(),
         None => 0,
     };
-    parts.record_of(config, frame).share
+    grants_of(parts, config, frame)
 }
 
 /// Whether one of the frames is granted 100 times.

@@ -1,16 +1,16 @@
 -- Bytes have one spelling in lower case digits.
-use Rattle.std.proofs.Common.{◌≡◌, ◌≤◌, ◌<◌, ◌+◌, ◌*◌, ◌%◌, ◌/◌, ℕ, zero, suc, Bool, true, false, cond, List, [], ◌∷◌, ◌++◌, ◌≢◌, length, get_or, set, take, drop, All, Option, Some, None, Result, Ok, Err, refl, sym, ap, ◌∙◌, arith, inl, inr, append_assoc}
+use Rattle.std.proofs.Common.{◌≡◌, ◌≤◌, ◌<◌, ◌+◌, ◌*◌, ◌%◌, ◌/◌, ℕ, zero, suc, Bool, true, false, cond, List, [], ◌∷◌, ◌++◌, ◌≢◌, length, replicate, get_or, set, take, drop, All, Option, Some, None, Result, Ok, Err, refl, sym, ap, ◌∙◌, arith, inl, inr, append_assoc}
 use Rattle.std.specs.Prelude.{◌&&◌, ◌==◌, not, nat_le, nat_lt, IsSome, IfSome, ◌↔◌, unwrap_or}
 use Rattle.std.specs.List.{list_all}
 use Rattle.std.specs.Result.{result_ok}
-use Rattle.std.proofs.lemmas.List.{get_or_past, get_or_default, get_or-set_same, get_or-set_other, take_more, take_more_set, take_all, drop_all, append-nil}
+use Rattle.std.proofs.lemmas.List.{length-replicate, get_or_past, get_or_default, get_or-set_same, get_or-set_other, take_more, take_more_set, take_all, drop_all, append-nil}
 use Rattle.std.proofs.lemmas.List.Folds.{list_all_more}
 use Rattle.std.proofs.lemmas.Bool.{and_parts, and_from, leb-true, le-leb, eqb-true, eqb-false, not-true, cases_eq, cases_lt, cases_Bool, or_cases, ltb-true, ne_eqb, eq-eqb}
 use Rattle.hex.specs.declared.error.FromHexError.{FromHexError}
 use Rattle.hex.specs.Hex.{encode_lower, encode_with, decode_of, decode_pairs, lower_digits, hex_digit_value, digit_or_error, value_at, pair_value, IsBytes, ◌>>=◌}
 use Rattle.hex.proofs.HexLemmas.{decode_of-ok, decode_of-encode_lower, decode_of-even, length-encode_with}
 use Rattle.kc_types.specs.Bytes.{IsData}
-use Rattle.kc_lines.specs.Words.{is_lower_digit, digit_value, is_data_word, data_of}
+use Rattle.kc_lines.specs.Words.{is_lower_digit, digit_value, is_data_word, data_of, blanked_data}
 
 pub record IsDataWord (word : List ℕ) : Type 0 where
   pub digits : list_all is_lower_digit word ≡ true
@@ -263,3 +263,48 @@ data_is_made word bytes found e spelled each valid value =
     let sizes = has_length word e in
     let size : length word ≡ 2 * length bytes = ap length spelled ∙ length-encode_with lower_digits bytes in
     made_is bytes found (omega (arith, sizes.0, size), omega (arith, sizes.1, size)) valid value ∙ sym (read_as_spelled word bytes sizes.0 sizes.1 spelled each)
+
+-- ---- digits that are only checked
+
+byte-before : (v : ℕ) (bytes : List ℕ) → v < 256 → IsBytes bytes → IsBytes (v ∷ bytes)
+byte-before v bytes small each zero = small
+byte-before v bytes small each (suc k) = each k
+
+no_bytes : IsBytes []
+no_bytes k = let e : get_or [] k 0 ≡ 0 = get_or_past {X = ℕ} [] k 0 (omega arith) in omega (arith, e)
+
+-- the bytes that a word of this many pairs of digits spells
+spelled_by : (n : ℕ) (word : List ℕ) → length word ≡ 2 * n → list_all is_lower_digit word ≡ true → (bytes : List ℕ) × (word ≡ encode_lower bytes) × IsBytes bytes
+unfolding encode_with
+spelled_by zero [] size digits = ([], refl, no_bytes)
+spelled_by zero (a ∷ word) size digits = absurd (omega arith)
+spelled_by (suc n) [] size digits = absurd (omega arith)
+spelled_by (suc n) (a ∷ []) size digits = absurd (omega arith)
+spelled_by (suc n) (a ∷ b ∷ word) size digits =
+    let one = and_parts (is_lower_digit a) (list_all is_lower_digit (b ∷ word)) digits in
+    let two = and_parts (is_lower_digit b) (list_all is_lower_digit word) one.1 in
+    let rest = spelled_by n word (omega arith) two.1 in
+    let v = digit_value a * 16 + digit_value b in
+    let small : v < 256 = omega (arith, value_is_small a, value_is_small b) in
+    let spelled : encode_lower (v ∷ rest.0) ≡ a ∷ b ∷ word =
+    encode_lower-append (v ∷ []) rest.0 ∙ ap (λ (l : List ℕ). l ++ encode_lower rest.0) (encode_one a b v one.0 two.0 refl) ∙ ap (λ (l : List ℕ). a ∷ b ∷ l) (sym rest.1) in
+    (v ∷ rest.0, sym spelled, byte-before v rest.0 small rest.2)
+
+-- zeros, as many as such a word spells bytes
+pub blanked_word : (word : List ℕ) (n : ℕ) → (not (length word == 0) && nat_le (length word) 8192 && (length word % 2 == 0)) ≡ true → list_all is_lower_digit word ≡ true → n ≡ length word / 2
+    → blanked_data (data_of word) ≡ Some (replicate n 0)
+blanked_word word n e digits is =
+    let sizes = has_length word e in
+    let spelled = spelled_by n word (omega (arith, sizes.2, is)) digits in
+    let size : length word ≡ 2 * length spelled.0 = ap length spelled.1 ∙ length-encode_with lower_digits spelled.0 in
+    let same : length spelled.0 ≡ n = omega (arith, size, sizes.2, is) in
+    let each : All (λ b. b < 256) spelled.0 = λ k d lt. rw (get_or_default spelled.0 k d 0 lt) (spelled.2 k) in
+    ap blanked_data (read_as_spelled word spelled.0 sizes.0 sizes.1 spelled.1 each) ∙ ap (λ (k : ℕ). Some (replicate k 0)) same
+
+-- zeros that were made are those
+pub blanked_is_made : (word : List ℕ) (n : ℕ) (found : Option (List ℕ)) → (not (length word == 0) && nat_le (length word) 8192 && (length word % 2 == 0)) ≡ true → list_all is_lower_digit word ≡ true → n ≡ length word / 2
+    → IsSome found ↔ ((0 < length (replicate {A = ℕ} n 0)) × (length (replicate {A = ℕ} n 0) ≤ 4096)) → IfSome found (λ made. made ≡ replicate n 0) → found ≡ blanked_data (data_of word)
+blanked_is_made word n found e digits is valid value =
+    let sizes = has_length word e in
+    let size = length-replicate {A = ℕ} n 0 in
+    made_is (replicate n 0) found (omega (arith, sizes.0, sizes.2, is, size), omega (arith, sizes.1, is, size)) valid value ∙ sym (blanked_word word n e digits is)

@@ -1,5 +1,5 @@
 -- What a word of a line is read as: a number, or bytes.
-use Rattle.std.specs.Prelude.{◌≡◌, ◌+◌, ◌*◌, ◌%◌, ◌^◌, ◌==◌, ◌&&◌, ◌||◌, not, nat_lt, nat_le, ℕ, Bool, List, [], ◌∷◌, length, slice_index, Option, Some, None, if◌then◌else◌}
+use Rattle.std.specs.Prelude.{◌≡◌, ◌+◌, ◌*◌, ◌%◌, ◌^◌, ◌==◌, ◌&&◌, ◌||◌, not, nat_lt, nat_le, ℕ, Bool, List, [], ◌∷◌, length, replicate, slice_index, Option, Some, None, option_map, if◌then◌else◌}
 use Rattle.std.specs.List.{list_all, slice_split}
 use Rattle.std.specs.Result.{result_ok}
 use Rattle.std.specs.Char.{is_ascii_digit}
@@ -42,6 +42,10 @@ is_data_word word = list_all is_lower_digit word && not (length word == 0) && na
 -- the 1 to 4,096 bytes that the lower case digits spell
 unfoldable pub data_of : List ℕ → Option (List ℕ)
 data_of word = if is_data_word word then result_ok (decode_of word) else None
+
+-- zeros, as many as there are bytes, if there are any
+abbrev pub blanked_data : Option (List ℕ) → Option (List ℕ)
+blanked_data found = option_map (λ bytes. replicate (length bytes) 0) found
 
 -- the words of a text, if there is one
 abbrev pub words_left : Option (List ℕ) → List (List ℕ)

@@ -1,5 +1,5 @@
 //! Cutting lines off a text and words off a line, and reading a word as a number or as bytes.
-ghost use Rattle.std.specs.Prelude.{◌≡◌, ◌==◌, ◌*◌, ◌%◌, ◌<◌, ◌≤◌, ◌^◌, ◌&&◌, not, nat_le, true, [], ◌∷◌, ◌++◌, length, position, take, All, IfOk, IsTrue, MatchOption};
+ghost use Rattle.std.specs.Prelude.{◌≡◌, ◌==◌, ◌*◌, ◌%◌, ◌<◌, ◌≤◌, ◌^◌, ◌&&◌, not, nat_le, true, [], ◌∷◌, ◌++◌, length, replicate, position, take, All, IfOk, IsTrue, MatchOption};
 ghost use Rattle.std.specs.Char.{is_ascii_digit};
 ghost use Rattle.std.specs.List.{list_all, slice_split};
 ghost use Rattle.std.specs.Str.Parse.{digits_value};
@@ -7,7 +7,7 @@ ghost use Rattle.hex.specs.Hex.{encode_lower};
 ghost use Rattle.kc_types.specs.Bytes.{short_size};
 ghost use Rattle.kc_types.specs.Limits.{page_size};
 ghost use Rattle.kc_lines.specs.Lines.{IsOneLine};
-ghost use Rattle.kc_lines.specs.Words.{has_no_leading_zero, number_in, IsLastNumber, IsFirstNumber, is_lower_digit, digit_value, data_of};
+ghost use Rattle.kc_lines.specs.Words.{has_no_leading_zero, number_in, IsLastNumber, IsFirstNumber, is_lower_digit, digit_value, data_of, blanked_data};
 
 use kc_types::{Data, PAGE_SIZE, SHORT_SIZE};
 use memchr::memchr;
@@ -212,4 +212,39 @@ pub fn read_data(alloc: Global, word: &[u8]) -> Result<Option<Data>, AllocError>
     } else {
         Ok(None)
     }
+}
+
+/// Whether a word has only lower case digits. It never ends early, so that many bytes are looked at in one step.
+fn are_lower_digits(word: &[u8]) -> bool
+    ensures { result ≡ list_all is_lower_digit word.now }
+{
+    let mut valid = true;
+    for i in 0..word.len() {
+        valid = valid & is_lower_digit(word[i]);
+    }
+    valid
+}
+
+/// Makes so few zeros that they need no memory of their own.
+fn make_short_zeros(len: usize) -> Data
+    requires some { 0 < len }
+    requires few { len ≤ short_size }
+    ensures { result ≡ replicate len 0 }
+{
+    let zeros = [0u8; SHORT_SIZE];
+    Data::short(&zeros[..len])
+}
+
+/// Reads a word as `read_data` does, but gives zeros, as many as the word spells bytes: its digits are only checked.
+pub fn read_blanked(alloc: Global, word: &[u8]) -> Result<Option<Data>, AllocError>
+    ensures { IfOk result (λ found. found ≡ blanked_data (data_of word.now)) }
+{
+    if !has_data_length(word) || !are_lower_digits(word) {
+        return Ok(None);
+    }
+    let len = word.len() / 2;
+    if len <= SHORT_SIZE {
+        return Ok(Some(make_short_zeros(len)));
+    }
+    Ok(Data::try_new(vec![in alloc; 0u8; len]?))
 }

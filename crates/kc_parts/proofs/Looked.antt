@@ -1,5 +1,5 @@
 -- Looking up finds the frame or the slot of the state.
-use Rattle.std.proofs.Common.{ℕ, ◌≡◌, ◌<◌, ◌≤◌, ◌/◌, inl, inr, Bool, true, false, not, ◌&&◌, ◌||◌, ◌==◌, nat_le, nat_lt, List, length, Some, None, get_or, refl, sym, ap, ◌∙◌, arith}
+use Rattle.std.proofs.Common.{ℕ, ◌≡◌, ◌<◌, ◌≤◌, ◌/◌, inl, inr, Bool, true, false, not, ◌&&◌, ◌||◌, ◌==◌, nat_le, nat_lt, List, length, Option, Some, None, is_some, get_or, refl, sym, ap, subst, ◌∙◌, arith}
 use Rattle.std.proofs.lemmas.List.{get_or_past}
 use Rattle.std.proofs.lemmas.List.FromFn.{length-map-range_with_len}
 use Rattle.std.specs.Ordering.{nat_cmp}
@@ -13,35 +13,34 @@ use Rattle.kc_types.specs.declared.refusal.Refusal.TheVariants.{TablesFull}
 use Rattle.kc_model.specs.Refusals.{when, tables_full}
 use Rattle.kc_vms.specs.Stage2.{fits}
 use Rattle.kc_vms.specs.Vm.{VmSlot, slot_table}
-use Rattle.kc_model.specs.State.{State, Frame, Slot, frame_at, slot_at, untouched, absent_vcpu, empty_slot}
+use Rattle.kc_model.specs.State.{State, Slot, frame_at, slot_at, untouched, absent_vcpu, empty_slot}
 use Rattle.kc_model.proofs.States.Slots.{at-no_vcpus}
 use Rattle.kc_page.specs.declared.page.Page.{Page}
 use Rattle.kc_page.specs.declared.page.PageRecord.{PageRecord}
-use Rattle.kc_page.specs.Page.{frame_of}
 use Rattle.kc_parts.specs.Parts.{Held, page_at, vm_at, links_of}
-use Rattle.kc_parts.specs.States.{frame_in, slot_in, unlinked_slot, state_of}
+use Rattle.kc_parts.specs.States.{frame_in, slot_in, unlinked_slot, state_of, IsLinked}
 use Rattle.kc_links.specs.Ending.{listed}
 use Rattle.kc_parts.proofs.Seen.{frame-seen, slot-seen}
 use Rattle.kc_parts.specs.LookUps.{IsMetaOf}
 
--- the record of an untouched frame of the core's
-abbrev pub no_record : PageRecord
-no_record = record { owner = Core; share = 0; gfn = None; present = false; prev = None; next = None }
+-- what is seen of a page is the frame of its number, if the frame exists
+pub record-seen : (config : Configuration) (h : Held) (f found : ℕ) (meta : PageRecord) → found ≡ f → f < config.frames → IsMetaOf (frame_in (page_at h found)) meta → IsMetaOf (frame_at (state_of config h) f) meta
+record-seen config h f found meta same low is = subst (λ frame. IsMetaOf frame meta) (ap (λ g. frame_in (page_at h g)) same ∙ sym (frame-seen config h f low)) is
 
-meta-of : (frame : Frame) (page : Page) → frame ≡ frame_of page → IsMetaOf frame page.meta
-meta-of frame page is = rw is (record { owner = refl; share = refl; gfn = refl; present = refl })
+-- past the last frame there are none
+pub frame-past : (config : Configuration) (h : Held) (f : ℕ) → config.frames ≤ f → frame_at (state_of config h) f ≡ untouched Core
+frame-past config h f past = get_or_past (state_of config h).frames f (untouched Core) (rw (length-map-range_with_len (λ g. frame_in (page_at h g)) 0 config.frames) past)
 
-meta-none : (frame : Frame) → frame ≡ untouched Core → IsMetaOf frame no_record
-meta-none frame is = rw is (record { owner = refl; share = refl; gfn = refl; present = refl })
-
-pub meta-here : (config : Configuration) (h : Held) (f : ℕ) (page : Page) → f < config.frames → page_at h f ≡ Some page → IsMetaOf (frame_at (state_of config h) f) page.meta
-meta-here config h f page low at = meta-of (frame_at (state_of config h) f) page (frame-seen config h f low ∙ ap frame_in at)
-
-pub meta-absent : (config : Configuration) (h : Held) (f : ℕ) → f < config.frames → page_at h f ≡ None → IsMetaOf (frame_at (state_of config h) f) no_record
-meta-absent config h f low at = meta-none (frame_at (state_of config h) f) (frame-seen config h f low ∙ ap frame_in at)
-
-pub meta-past : (config : Configuration) (h : Held) (f : ℕ) → config.frames ≤ f → IsMetaOf (frame_at (state_of config h) f) no_record
-meta-past config h f past = meta-none (frame_at (state_of config h) f) (get_or_past (state_of config h).frames f (untouched Core) (rw (length-map-range_with_len (λ g. frame_in (page_at h g)) 0 config.frames) past))
+-- and so it is of every number, if the parts are linked
+pub record-linked : (config : Configuration) (h : Held) (f : ℕ) (meta : PageRecord) → IsLinked config h → IsMetaOf (frame_in (page_at h f)) meta → IsMetaOf (frame_at (state_of config h) f) meta
+record-linked config h f meta linked is = elim (cases_lt f config.frames) [
+  | inl low ↦ record-seen config h f f meta refl low is
+  | inr past ↦ rw (frame-past config h f past) (by_page past (page_at h f) refl is)
+]
+  where
+    by_page : config.frames ≤ f → (there : Option Page) → page_at h f ≡ there → IsMetaOf (frame_in there) meta → IsMetaOf (untouched Core) meta
+    by_page past None at is = is
+    by_page past (Some page) at is = let low = linked.frames f (ap is_some at) in absurd (omega (arith, low, past))
 
 -- an empty slot has no virtual processor and no mapped guest frame
 pub vcpu-none : (slot : Slot) (c : ℕ) → slot ≡ empty_slot → absent_vcpu ≡ get_or slot.vcpus c absent_vcpu

@@ -1,6 +1,7 @@
 -- Lists of several owners over one store of links, one of which changes.
-use Rattle.std.proofs.Common.{ℕ, zero, suc, ◌≡◌, ◌≢◌, ◌<◌, ◌⊎◌, inl, inr, List, Option, Some, refl, sym, ap, ◌∙◌, arith}
+use Rattle.std.proofs.Common.{ℕ, zero, suc, ◌≡◌, ◌≢◌, ◌<◌, ◌⊎◌, inl, inr, List, [], ◌∷◌, Option, Some, refl, sym, ap, ◌∙◌, arith}
 use Rattle.std.proofs.lemmas.Bool.{cases_eq}
+use Rattle.std.proofs.lemmas.Bool.Decides.{nat_tests}
 use Rattle.std.proofs.lemmas.Option.{same_Some}
 use Rattle.kc_types.specs.declared.link.Ends.{Ends}
 use Rattle.kc_types.specs.declared.owner.Owner.{Owner}
@@ -37,6 +38,16 @@ pub none-or-some : (n : ℕ) → (n ≡ 0) ⊎ (0 < n)
 none-or-some zero = inl refl
 none-or-some (suc n) = inr (omega arith)
 
+-- the list of one frame
+pub first-inside : (f : ℕ) → 0 < times_in (f ∷ []) f
+first-inside f = grind (arith, nat_tests)
+
+pub only-first : (f g : ℕ) → 0 < times_in (f ∷ []) g → g ≡ f
+only-first f g some = grind (arith, nat_tests)
+
+pub not-first : (f g : ℕ) → times_in (f ∷ []) g ≡ 0 → g ≢ f
+not-first f g none same = grind (arith, nat_tests)
+
 -- one owner's list and links change, among frames of that owner
 module _ (links links' : Links) (ends ends' : Owner → Option Ends) (owner_at : ℕ → Owner) (mine : Owner) (frames : List ℕ)
     (are : AreLists links ends owner_at) (keeps : KeepsOthers links links' frames) (owned : (f : ℕ) → 0 < times_in frames f → owner_at f ≡ mine) where
@@ -67,27 +78,24 @@ module _ (links links' : Links) (ends ends' : Owner → Option Ends) (owner_at :
     ]) ∙ are.alone f host;
   }
 
--- a frame in no list changes its owner
-pub lists-owner : (links : Links) (ends : Owner → Option Ends) (owner_at owner_at' : ℕ → Owner) (f : ℕ) → AreLists links ends owner_at
-    → ((g : ℕ) → g ≢ f → owner_at' g ≡ owner_at g) → ((p : Owner) (e : Ends) → ends p ≡ Some e → times_in (listed links e) f ≡ 0) → (owner_at' f ≡ Host → links f ≡ Some unlinked)
-    → AreLists links ends owner_at'
-lists-owner links ends owner_at owner_at' f are same none alone = record {
-  spelled = are.spelled;
-  owned = λ p e g is some. elim (cases_eq g f) [
-    | inl here ↦ let gone = none p e is in let some' : 0 < times_in (listed links e) f = rw here at some in absurd (omega (arith, gone, some'))
-    | inr other ↦ same g other ∙ are.owned p e g is some
+-- frames in no list change their owners
+pub lists-owners : (links links' : Links) (ends ends' : Owner → Option Ends) (owner_at owner_at' : ℕ → Owner) (fs : List ℕ) → links' ≡ links → ((p : Owner) → ends' p ≡ ends p)
+    → ((g : ℕ) → times_in fs g ≡ 0 → owner_at' g ≡ owner_at g) → ((g : ℕ) → 0 < times_in fs g → (p : Owner) (e : Ends) → ends p ≡ Some e → times_in (listed links e) g ≡ 0)
+    → ((g : ℕ) → 0 < times_in fs g → owner_at' g ≡ Host → links g ≡ Some unlinked) → AreLists links ends owner_at → AreLists links' ends' owner_at'
+lists-owners links links' ends ends' owner_at owner_at' fs links_are ends_are same none alone are = record {
+  spelled = λ p e is. rw links_are (are.spelled p e (sym (ends_are p) ∙ is));
+  owned = λ p e g is some. let there : 0 < times_in (listed links e) g = rw links_are at some in elim (none-or-some (times_in fs g)) [
+    | inl out ↦ same g out ∙ are.owned p e g (sym (ends_are p) ∙ is) there
+    | inr moved ↦ let gone = none g moved p e (sym (ends_are p) ∙ is) in absurd (omega (arith, gone, there))
   ];
-  alone = λ g host. elim (cases_eq g f) [
-    | inl here ↦ rw here (alone (rw here at host))
-    | inr other ↦ are.alone g (sym (same g other) ∙ host)
+  alone = λ g host. ap (λ (l : Links). l g) links_are ∙ elim (none-or-some (times_in fs g)) [
+    | inl out ↦ are.alone g (sym (same g out) ∙ host)
+    | inr moved ↦ alone g moved host
   ];
 }
 
 -- equal owners make the same lists
 pub lists-same : (links links' : Links) (ends ends' : Owner → Option Ends) (owner_at owner_at' : ℕ → Owner) → links' ≡ links → ((p : Owner) → ends' p ≡ ends p) → ((g : ℕ) → owner_at' g ≡ owner_at g)
     → AreLists links ends owner_at → AreLists links' ends' owner_at'
-lists-same links links' ends ends' owner_at owner_at' links_are ends_are owners_are are = record {
-  spelled = λ p e is. rw links_are (are.spelled p e (sym (ends_are p) ∙ is));
-  owned = λ p e f is some. owners_are f ∙ are.owned p e f (sym (ends_are p) ∙ is) (rw links_are at some);
-  alone = λ f host. ap (λ (l : Links). l f) links_are ∙ are.alone f (sym (owners_are f) ∙ host);
-}
+lists-same links links' ends ends' owner_at owner_at' links_are ends_are owners_are are =
+    lists-owners links links' ends ends' owner_at owner_at' [] links_are ends_are (λ g none. owners_are g) (λ g some. absurd (omega (arith, some))) (λ g some. absurd (omega (arith, some))) are

@@ -12,12 +12,12 @@ use Rattle.kc_model.specs.Lawful.{times_in}
 use Rattle.kc_model.specs.State.{frame_at, slot_at, with_frame, untouched, empty_slot}
 use Rattle.kc_page.specs.declared.page.Page.{Page}
 use Rattle.kc_page.specs.Page.{frame_of}
-use Rattle.kc_links.specs.Chain.{Links, unlinked}
+use Rattle.kc_links.specs.Chain.{unlinked}
 use Rattle.kc_links.specs.Ending.{listed}
 use Rattle.kc_parts.specs.Parts.{Held, page_at, vm_at, links_of, link_of, ends_at, with_page}
 use Rattle.kc_parts.specs.States.{frame_in, slot_in, list_in, state_of, owner_at, IsLinked}
 use Rattle.kc_parts.proofs.Pages.{page-set, page-other, kept-at, links-kept}
-use Rattle.kc_parts.proofs.Moving.{lists-owner, lists-same}
+use Rattle.kc_parts.proofs.Moving.{only-first, not-first, lists-owners, lists-same}
 
 -- a list made of a function that changes at one number is the list with that element set
 set-from : {X : Type 0} (old new : ℕ → X) (a n k : ℕ) (x : X) → new (a + k) ≡ x → ((g : ℕ) → g ≢ a + k → new g ≡ old g) → map new (range_with_len a n) ≡ set (map old (range_with_len a n)) k x
@@ -57,11 +57,14 @@ state-page config h f old new is same = λ i. record {
   slots = map (λ v. slot_in (links-kept h f old new is same i) (vm_at h v)) (range_with_len 0 (slot_count config));
 }
 
+pub ends-pages : (h : Held) (pages : List Page) (owner : Owner) → ends_at (record h { pages = pages }) owner ≡ ends_at h owner
+ends-pages h pages Core = refl
+ends-pages h pages Host = refl
+ends-pages h pages Free = refl
+ends-pages h pages (Vm v) = refl
+
 pub ends-page : (h : Held) (f : ℕ) (page : Page) (owner : Owner) → ends_at (with_page h f page) owner ≡ ends_at h owner
-ends-page h f page Core = refl
-ends-page h f page Host = refl
-ends-page h f page Free = refl
-ends-page h f page (Vm v) = refl
+ends-page h f page owner = ends-pages h (with_page h f page).pages owner
 
 pub here-page : (h : Held) (f : ℕ) (old new : Page) → page_at h f ≡ Some old → (g : ℕ) → is_some (page_at (with_page h f new) g) ≡ is_some (page_at h g)
 here-page h f old new is g = elim (cases_eq g f) [
@@ -94,9 +97,9 @@ pub linked-moved : (config : Configuration) (h : Held) (f : ℕ) (old new : Page
 linked-moved config h f old new linked is same none alone = record {
   frames = λ g here. linked.frames g (sym (here-page h f old new is g) ∙ here);
   vms = linked.vms;
-  lists = lists-owner (links_of (with_page h f new)) (ends_at (with_page h f new)) (owner_at h) (owner_at (with_page h f new)) f
-      (lists-same (links_of h) (links_of (with_page h f new)) (ends_at h) (ends_at (with_page h f new)) (owner_at h) (owner_at h) (links-kept h f old new is same) (ends-page h f new) (λ g. refl) linked.lists)
-      (λ g other. ap (λ there. (frame_in there).owner) (page-other h f g old new is other))
-      (λ p e here. rw (links-kept h f old new is same) (none p e (sym (ends-page h f new p) ∙ here)))
-      (λ host. ap (λ (l : Links). l f) (links-kept h f old new is same) ∙ alone (sym (ap (λ there. (frame_in there).owner) (page-set h f old new is)) ∙ host));
+  lists = lists-owners (links_of h) (links_of (with_page h f new)) (ends_at h) (ends_at (with_page h f new)) (owner_at h) (owner_at (with_page h f new)) (f ∷ []) (links-kept h f old new is same) (ends-page h f new)
+      (λ g out. ap (λ there. (frame_in there).owner) (page-other h f g old new is (not-first f g out)))
+      (λ g moved p e here. rw (only-first f g moved) (none p e here))
+      (λ g moved host. rw (only-first f g moved) (alone (sym (ap (λ there. (frame_in there).owner) (page-set h f old new is)) ∙ (rw (only-first f g moved) at host))))
+      linked.lists;
 }

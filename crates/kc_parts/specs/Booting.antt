@@ -1,9 +1,13 @@
 -- The parts of the boot state.
-use Rattle.std.specs.Prelude.{ℕ, ◌≡◌, ◌<◌, ◌+◌, ◌-◌, nat_lt, false, true, cond, List, length, replicate, Option, Some, None, is_some}
+use Rattle.std.specs.Prelude.{ℕ, ◌≡◌, ◌<◌, ◌+◌, false, true, List, length, replicate, Option, Some, None, is_some}
 use Rattle.std.specs.List.{range_with_len}
 use Rattle.kc_types.specs.Configuration.{Configuration, slot_count, boot_owner}
 use Rattle.kc_types.specs.declared.link.Ends.{Ends}
+use Rattle.kc_types.specs.declared.link.Link.{Link}
 use Rattle.kc_model.specs.State.{zero_page}
+use Rattle.kc_model.specs.Boot.{boot}
+use Rattle.kc_model.specs.Links.{link_in, list_of}
+use Rattle.kc_model.specs.Linked.{ends_of}
 use Rattle.kc_page.specs.declared.page.Page.{Page}
 use Rattle.kc_vms.specs.Vm.{VmSlot}
 use Rattle.kc_parts.specs.Parts.{Held, HeldSlots, page_at, vm_at}
@@ -12,25 +16,19 @@ use Rattle.kc_parts.specs.Parts.{Held, HeldSlots, page_at, vm_at}
 abbrev pub first_free : Configuration → ℕ
 first_free config = config.core + config.host
 
--- the free frames are linked in ascending order, the others are in no list
-abbrev pub boot_prev : Configuration → ℕ → Option ℕ
-boot_prev config f = cond (nat_lt (first_free config) f) (Some (f - 1)) None
-
-abbrev pub boot_next : Configuration → ℕ → Option ℕ
-boot_next config f = cond (nat_lt f (first_free config)) None (cond (nat_lt (f + 1) config.frames) (Some (f + 1)) None)
+-- the neighbours of a frame: the free frames are linked in ascending order, the others are in no list
+abbrev pub boot_link : Configuration → ℕ → Link
+boot_link config f = link_in (list_of (boot config) (boot_owner config f)) f
 
 abbrev pub boot_page : Configuration → ℕ → Page
 boot_page config f = record {
-  meta = record { owner = boot_owner config f; share = 0; gfn = None; present = false; prev = boot_prev config f; next = boot_next config f };
+  meta = record { owner = boot_owner config f; share = 0; gfn = None; present = false; prev = (boot_link config f).prev; next = (boot_link config f).next };
   bytes = zero_page;
 }
 
+-- the ends of the free list
 abbrev pub boot_ends : Configuration → Ends
-boot_ends config = record {
-  head = cond (nat_lt (first_free config) config.frames) (Some (first_free config)) None;
-  tail = cond (nat_lt (first_free config) config.frames) (Some (config.frames - 1)) None;
-  count = config.frames - first_free config;
-}
+boot_ends config = ends_of (boot config).free
 
 -- the slots in the places of their numbers
 abbrev pub slots_of : List (Option VmSlot) → HeldSlots

@@ -1,36 +1,32 @@
 //! The parts that a core starts with.
-ghost use Rattle.std.specs.Prelude.{◌≡◌, ◌<◌, ◌+◌, map, replicate, Some, true, IfOk};
+ghost use Rattle.std.specs.Prelude.{◌≡◌, ◌<◌, ◌≤◌, length, map, replicate, Some, true, IfOk};
 ghost use Rattle.std.specs.List.{range_with_len};
 ghost use Rattle.kc_types.specs.Configuration.{IsConfiguration, slot_count};
+ghost use Rattle.kc_types.specs.Limits.{slot_limit};
 ghost use Rattle.kc_vms.specs.Vm.{empty_vm};
-ghost use Rattle.kc_parts.specs.Booting.{boot_prev, boot_next, boot_page, boot_ends};
+ghost use Rattle.kc_parts.specs.Booting.{boot_link, boot_page, boot_ends};
 
 use kc_page::{Page, PageBytes, PageRecord};
-use kc_types::{Config, Ends, FrameNo, Memory};
+use kc_types::{Config, Ends, FrameNo, Link, Memory};
 use kc_vms::Vm;
 use std::alloc::Global;
 
-/// The free frame before a frame, at boot.
-fn boot_prev(config: &Config, frame: u32) -> Option<FrameNo>
+/// The neighbours of a frame at boot.
+fn boot_link(config: &Config, frame: u32) -> Link
     requires { frame < config.now.frames }
-    ensures { result ≡ boot_prev config.now frame }
+    ensures { result ≡ boot_link config.now frame }
 {
-    if frame > config.core() + config.host() {
-        FrameNo::try_new(frame - 1)
-    } else {
-        None
+    let first = config.core() + config.host();
+    if frame < first {
+        return Link::UNLINKED;
     }
-}
-
-/// The free frame after a free frame, at boot.
-fn boot_next(config: &Config, frame: u32) -> Option<FrameNo>
-    requires { frame < config.now.frames }
-    ensures { result ≡ boot_next config.now frame }
-{
-    if frame >= config.core() + config.host() && frame + 1 < config.frames() {
-        FrameNo::try_new(frame + 1)
-    } else {
-        None
+    Link {
+        prev: if frame > first {
+            FrameNo::try_new(frame - 1)
+        } else {
+            None
+        },
+        next: config.frame(frame + 1),
     }
 }
 
@@ -39,13 +35,14 @@ fn boot_page(alloc: Global, config: &Config, frame: u32) -> Result<Page, Memory>
     requires { frame < config.now.frames }
     ensures { IfOk result (λ page. page ≡ boot_page config.now frame) }
 {
+    let link = boot_link(config, frame);
     let meta = PageRecord {
         owner: config.owner_at_boot(frame),
         share: 0,
         gfn: None,
         present: false,
-        prev: boot_prev(config, frame),
-        next: boot_next(config, frame),
+        prev: link.prev,
+        next: link.next,
     };
     let bytes = PageBytes::zeroed(alloc)?;
     Ok(Page { meta, bytes })
@@ -82,7 +79,8 @@ pub fn all_filled(alloc: Global, count: u32) -> Result<Vec<bool>, Memory>
 
 /// Makes all slots, empty.
 pub fn boot_vms(alloc: Global, config: &Config) -> Result<Vec<Option<Vm>>, Memory>
-    ensures { IfOk result (λ vms. vms.items ≡ replicate (slot_count config.now) (Some (empty_vm config.now.leaves))) }
+    ensures vms { IfOk result (λ vms. vms.items ≡ replicate (slot_count config.now) (Some (empty_vm config.now.leaves))) }
+    ensures few { IfOk result (λ vms. length vms.items ≤ slot_limit) }
 {
     let mut vms = Vec::with_capacity(alloc, config.slots() as usize)?;
     for _ in 0..config.slots() {

@@ -3,14 +3,14 @@ ghost use Rattle.std.specs.Prelude.{◌≡◌, ◌<◌, not, IfOk, Some};
 ghost use Rattle.std.specs.Option.{option_copied};
 ghost use Rattle.kc_types.specs.Configuration.{slot_count};
 ghost use Rattle.kc_types.specs.Refusals.{Answers};
-ghost use Rattle.kc_model.specs.State.{frame_at, slot_at, vcpu_at, mapped_at};
+ghost use Rattle.kc_model.specs.State.{slot_at, vcpu_at, mapped_at};
 ghost use Rattle.kc_types.specs.declared.refusal.Refusal.TheVariants.{TablesFull};
 ghost use Rattle.kc_model.specs.Refusals.{when, tables_full, next_gfn};
 ghost use Rattle.kc_model.specs.Linked.{linked_slot};
 ghost use Rattle.kc_vms.specs.Vm.{VmSlot};
 ghost use Rattle.kc_vms.specs.Refusals.{next_page_refusal};
-ghost use Rattle.kc_parts.specs.Parts.{vm_at, links_of};
-ghost use Rattle.kc_parts.specs.States.{state_of, slot_in, IsLinked};
+ghost use Rattle.kc_parts.specs.Parts.{page_at, vm_at, links_of};
+ghost use Rattle.kc_parts.specs.States.{frame_in, state_of, slot_in, IsLinked};
 ghost use Rattle.kc_parts.specs.LookUps.{IsMetaOf};
 
 use crate::Parts;
@@ -30,14 +30,11 @@ const UNTOUCHED: PageRecord = PageRecord {
 
 impl Parts {
     /// The record of a frame.
-    pub fn record_of(&self, config: &Config, frame: u32) -> PageRecord
-        ensures { IsMetaOf (frame_at (state_of config.now self.now) frame) result }
+    pub fn record_of(&self, frame: FrameNo) -> PageRecord
+        ensures { IsMetaOf (frame_in (page_at self.now frame)) result }
     {
-        match config.frame(frame) {
-            Some(frame) => match self.try_page(frame) {
-                Some(page) => page.meta,
-                None => UNTOUCHED,
-            },
+        match self.try_page(frame) {
+            Some(page) => page.meta,
             None => UNTOUCHED,
         }
     }

@@ -1,3 +1,4 @@
 pub mod Made
+pub mod Whole
 pub mod Taken
 pub mod Given

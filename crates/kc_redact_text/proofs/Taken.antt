@@ -1,5 +1,5 @@
 -- A trace is read from a source, piece after piece, and redacted.
-use Rattle.std.proofs.Common.{◌≡◌, ◌≤◌, ◌<◌, ◌+◌, ◌-◌, ℕ, Bool, List, [], ◌++◌, length, take, drop, Option, Some, None, Ok, refl, sym, ap, subst, ◌∙◌, append_assoc, append-nil, length-append, arith, inl, inr}
+use Rattle.std.proofs.Common.{◌≡◌, ◌≤◌, ◌<◌, ◌+◌, ◌-◌, ℕ, Bool, List, [], ◌++◌, length, take, drop, Option, Some, None, refl, sym, ap, subst, ◌∙◌, append_assoc, append-nil, length-append, arith, inl, inr}
 use Rattle.std.specs.Prelude.{IfSome}
 use Rattle.std.specs.Io.KnownBytes.{Consumes, IsAtEnd}
 use Rattle.std.proofs.lemmas.Bool.{cases_lt}
@@ -25,15 +25,20 @@ use Rattle.kc_texts.proofs.Fed.{stays, goes_on_ok, goes_on_err, goes_on_nothing,
 use Rattle.kc_model.specs.State.{State}
 use Rattle.kc_redact_text.specs.Made.{redacted_by, core_after}
 use Rattle.kc_redact_text.proofs.Made.{by-none, after-none, by-append, after-append}
-use Rattle.kc_redact_text.specs.Reading.{stream_of, HasGoneOn, HasTaken, IsHeadAndCalls}
+use Rattle.kc_redact_text.specs.Reading.{AreRead, stream_of, HasGoneOn, HasTaken, IsHeadAndCalls}
 use Rattle.kc_redact_text.specs.declared.reading.Redacting.{Redacting}
 
 -- ---- one piece
 
-pub taken_ok : (core made : Option State) (before after : Redacting) (piece : List ℕ) (more : List Call) → fed before.reader piece ≡ Ok (after.reader.progress, more) → after.reader.fault ≡ None
-    → after.total ≡ before.total + length piece → after.calls.items ≡ before.calls.items ++ redacted_by core more → made ≡ core_after core more → HasTaken core made before after piece
-taken_ok core made before after piece more told none total grown done left now consumed =
-    (more, grown, goes_on_ok (stream_of before) (stream_of before) (stream_of after) piece [] more more (length piece) left left now (stays (stream_of before) left) consumed told none refl total refl (λ bytes held. tt), done)
+pub taken_ok : (core made : Option State) (before after : Redacting) (piece : List ℕ) (calls : List Call) → AreRead core (fed before.reader piece) after.reader.progress calls → after.reader.fault ≡ None
+    → after.total ≡ before.total + length piece → after.calls.items ≡ before.calls.items ++ redacted_by core calls → made ≡ core_after core calls → HasTaken core made before after piece
+taken_ok core made before after piece calls read none total grown done left now consumed =
+    let more = read.0 in (
+      more,
+      grown ∙ ap (λ kept. before.calls.items ++ kept) read.2.redacted,
+      goes_on_ok (stream_of before) (stream_of before) (stream_of after) piece [] more more (length piece) left left now (stays (stream_of before) left) consumed read.1 none refl total refl (λ bytes held. tt),
+      done ∙ read.2.made,
+    )
 
 -- no more calls are kept
 none-kept : (core : Option State) (before after : Redacting) → after.calls ≡ before.calls → after.calls.items ≡ before.calls.items ++ redacted_by core []

@@ -1,15 +1,26 @@
 -- How far a trace that is redacted has been read.
-use Rattle.std.specs.Prelude.{◌≡◌, ◌≢◌, ℕ, List, ◌++◌, take, Option, None}
+use Rattle.std.specs.Prelude.{◌≡◌, ◌≢◌, ℕ, List, ◌++◌, take, Option, None, Result, Ok}
 use Rattle.std.specs.Io.KnownBytes.{Consumes}
 use Rattle.kc_types.specs.declared.call.Call.{Call}
 use Rattle.kc_model.specs.State.{State}
 use Rattle.kc_trace.specs.Trace.{IsTrace}
+use Rattle.kc_trace.specs.Machine.{Progress}
+use Rattle.kc_trace.specs.declared.fault.TraceFault.{TraceFault}
 use Rattle.kc_trace.specs.declared.fault.TraceFault.TheVariants as traces
 use Rattle.kc_texts.specs.Streamed.{Streamed, GoesOn}
 use Rattle.kc_faults.specs.declared.fault.TextFault.{TextFault}
 use Rattle.kc_faults.specs.declared.fault.TextFault.TheVariants as texts
 use Rattle.kc_redact_text.specs.Made.{redacted_by, core_after}
 use Rattle.kc_redact_text.specs.declared.reading.Redacting.{Redacting}
+
+-- calls that are redacted as others are, and after which the core, if there is one, is as it is after those
+pub record AreAsGood (core : Option State) (calls others : List Call) : Type 0 where
+  pub redacted : redacted_by core calls ≡ redacted_by core others
+  pub made : core_after core calls ≡ core_after core others
+
+-- the calls are as good as those that the reader is to return, and it has come so far
+abbrev pub AreRead : Option State → Result (Progress × List Call) TraceFault → Progress → List Call → Type 0
+AreRead core read progress calls = (whole : List Call) × (read ≡ Ok (progress, whole)) × AreAsGood core calls whole
 
 -- the reader of the trace, and the number of bytes that it was fed, of which none are hashed
 abbrev pub stream_of : Redacting → Streamed

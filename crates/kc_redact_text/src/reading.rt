@@ -1,14 +1,15 @@
 //! Redacting a trace as it is read.
-ghost use Rattle.std.specs.Prelude.{◌≡◌, ◌<◌, ◌≤◌, ◌+◌, ◌++◌, [], ℕ, List, Option, false, true, length, take, is_err, IfOk, IfErr, IfSome, OnOk, Err};
+ghost use Rattle.std.specs.Prelude.{◌≡◌, ◌≢◌, ◌<◌, ◌≤◌, ◌+◌, ◌++◌, [], ℕ, List, Option, Some, None, false, true, length, take, is_err, IfOk, IfErr, IfSome, OnOk, Err, MatchResult};
 ghost use Rattle.std.specs.Io.KnownBytes.{Consumes, IsAtEnd};
 ghost use Rattle.kc_types.specs.Limits.{byte_limit};
 ghost use Rattle.kc_types.specs.declared.call.Call.{Call};
+ghost use Rattle.kc_trace.specs.Machine.{Fails, fed};
 ghost use Rattle.kc_trace.specs.Trace.{IsRefused};
 ghost use Rattle.kc_trace.specs.declared.fault.TraceFault.{TraceFault};
 ghost use Rattle.kc_texts.specs.Ends.{ReadFailed};
 ghost use Rattle.kc_texts.specs.Streamed.{HasRead};
 ghost use Rattle.kc_redact_text.specs.Made.{redacted_by, core_after};
-ghost use Rattle.kc_redact_text.specs.Reading.{stream_of, HasTaken, HasGoneOn, IsHeadAndCalls, IsReadingFault};
+ghost use Rattle.kc_redact_text.specs.Reading.{AreRead, stream_of, HasTaken, HasGoneOn, IsHeadAndCalls, IsReadingFault};
 
 use crate::calls::RedactedCall;
 use crate::next::redact_next;
@@ -59,6 +60,26 @@ fn push_each(
     Ok(())
 }
 
+/// Reads the calls whose lines a piece ends. If there is a core, which is to make them, they come whole; otherwise the
+/// bytes that virtual processors write are only checked, since zeros take their place.
+fn read_calls(
+    reader: &mut TraceReader,
+    alloc: Global,
+    core: &Option<KCore>,
+    piece: &[u8],
+) -> Result<Vec<Call>, TraceFault>
+    ensures answer { MatchResult result
+        (λ calls. AreRead core.now (fed reader.old piece.now) reader.new.progress calls.items)
+        (λ fault. Fails fault (fed reader.old piece.now)) }
+    ensures ok { OnOk result (reader.new.fault ≡ None) }
+    ensures fault { IfErr result (λ fault. fault ≢ TraceFault.Memory → reader.new.fault ≡ Some fault) }
+{
+    match core {
+        Some(_) => reader.feed(alloc, piece),
+        None => reader.feed_redacted(alloc, piece),
+    }
+}
+
 /// What was read of a trace: how far, and the calls so far, redacted.
 #[derive(Drop)]
 struct Redacting {
@@ -98,7 +119,7 @@ impl Redacting {
             return Err(ReadFault::Read);
         }
         self.total += piece.len();
-        match self.reader.feed(alloc, piece) {
+        match read_calls(&mut self.reader, alloc, core, piece) {
             Ok(more) => match push_each(&mut self.calls, core, more) {
                 Ok(()) => Ok(()),
                 Err(_) => Err(ReadFault::Memory),

@@ -2,7 +2,7 @@
 ghost use Rattle.std.specs.Prelude.{◌≡◌, ◌<◌, ◌+◌, ◌^◌, ◌++◌, ◌∷◌, [], List, cond, filter, length, slice_index_or, slice_set};
 ghost use Rattle.kc_types.specs.Refusals.{number_of};
 ghost use Rattle.kc_types.specs.declared.reply.Reply.{Reply};
-ghost use Rattle.kc_remarks.specs.Denials.{is_denial, denies_for, is_outside, count_for, outside_in, Counts, is_mostly_outside};
+ghost use Rattle.kc_remarks.specs.Denials.{is_denial, denies_for, is_outside, count_for, outside_in, Counts, IsAnsweredBy, is_mostly_outside};
 
 use kc_types::{Refusal, Reply};
 
@@ -98,6 +98,21 @@ pub struct Answered {
 }
 
 impl Answered {
+    /// Counts these replies.
+    pub fn of(replies: &[Reply]) -> Answered
+        requires { length replies.now < 2 ^ 32 }
+        ensures { IsAnsweredBy replies.now result }
+    {
+        let mut denials = Denials::none();
+        for reply in replies {
+            denials.note(reply);
+        }
+        Answered {
+            calls: replies.len(),
+            denials,
+        }
+    }
+
     /// Whether more than half of the calls name a frame or a slot that the machine does not have.
     pub fn is_mostly_outside(&self) -> bool
         ensures { result ≡ is_mostly_outside self.now }

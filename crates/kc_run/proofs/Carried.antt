@@ -22,13 +22,14 @@ use Rattle.kc_redact_text.specs.Redacts.{Redacts, BeginsRedaction, IsRedactFault
 use Rattle.kc_cli.specs.declared.order.ReplayForm.{ReplayForm}
 use Rattle.kc_cli.specs.declared.account.CustodyForm.{CustodyForm}
 use Rattle.kc_cli.specs.declared.account.Scope.{Scope}
-use Rattle.kc_cli.specs.Engine.{IsReplayText, IsLeftText}
+use Rattle.kc_cli.specs.declared.replaying.Compared.{Compared}
+use Rattle.kc_cli.specs.Engine.{IsReplayText, DiffersFromLeft}
 use Rattle.kc_cli.specs.Custody.{IsCustodyText, TellsCustody, origin_of}
 use Rattle.kc_cli.specs.Answers.{AreAnswered}
 use Rattle.kc_cli.specs.Live.{IsLiveText, CouldRun, HasBadActor}
 use Rattle.kc_run.specs.declared.ending.Ending.TheVariants as endings
-use Rattle.kc_run.specs.Endings.{done_as, answered_as, judged_as}
-use Rattle.kc_run.specs.Run.{Ends, Replays, ReportsCustody, RunsLive, AuditsDump, RedactsTrace, RedactsHost}
+use Rattle.kc_run.specs.Endings.{done_as, answered_as, compared_by, compared_as, judged_as}
+use Rattle.kc_run.specs.Run.{Ends, IsAnswered, IsCompared, Replays, ReportsCustody, RunsLive, AuditsDump, RedactsTrace, RedactsHost}
 
 sink_err : {A B : Type 0} (failed : Bool) (begun untouched : Type 0) (f : TextFault) → TellsSink {A = A} failed begun untouched (Err f) → TellsSink {A = B} failed begun untouched (Err f)
 sink_err {A} {B} failed begun untouched f h = record {
@@ -54,21 +55,24 @@ custody_err slot origin start unread f h = record {
   actor = λ p e. h.actor p (let same : f ≡ texts.BadActor p = cc in cc);
 }
 
-pub replays : {A : Type 0} (origin : Origin) (form : ReplayForm) (blank : Bool) (workers : ℕ) (start : Seen) (ends : Ends) (r : Result A TextFault) → ends.refused ≡ None
+pub replays : (origin : Origin) (form : ReplayForm) (blank : Bool) (workers : ℕ) (start : Seen) (ends : Ends) (r : Result Answered TextFault) → ends.refused ≡ None
+    → IfOk r (AreAnswered origin start.had ends.input.had)
     → OnOk r (Writes (IsReplayText origin form blank) start.had ends.input.had ends.out.had ends.out.has) → TellsSources (start ∷ ends.input ∷ []) r → TellsTexts origin start ends.input ends.unread r → TellsReplay workers origin start.had r
-    → TellsSink ends.out.failed (Begins (IsReplayText origin form blank) start.had ends.input.had ends.out.had ends.out.has) ends.untouched r → Replays origin form blank workers start None ends (done_as r)
-replays origin form blank workers start ends (Ok x) opened written sources told replay sink = record {
+    → TellsSink ends.out.failed (Begins (IsReplayText origin form blank) start.had ends.input.had ends.out.had ends.out.has) ends.untouched r → Replays origin form blank workers start None ends (answered_as r)
+replays origin form blank workers start ends (Ok x) opened answered written sources told replay sink = record {
   opened = opened;
   written = written;
-  compared = refl;
-  sources = sources_after _ x (Ok endings.Done) sources tt;
-  told = texts_after _ _ _ _ x (Ok endings.Done) told tt;
-  replay = replay_after _ _ _ x (Ok endings.Done) replay tt;
-  sink = sink_ok _ _ _ x endings.Done sink;
+  answered = answered;
+  compared = tt;
+  sources = sources_after _ x (Ok (endings.Answered x)) sources tt;
+  told = texts_after _ _ _ _ x (Ok (endings.Answered x)) told tt;
+  replay = replay_after _ _ _ x (Ok (endings.Answered x)) replay tt;
+  sink = sink_ok _ _ _ x (endings.Answered x) sink;
 }
-replays origin form blank workers start ends (Err f) opened written sources told replay sink = record {
+replays origin form blank workers start ends (Err f) opened answered written sources told replay sink = record {
   opened = opened;
   written = tt;
+  answered = tt;
   compared = tt;
   sources = sources_err _ f sources;
   told = texts_err _ _ _ _ f told;
@@ -76,31 +80,36 @@ replays origin form blank workers start ends (Err f) opened written sources told
   sink = sink_err _ _ _ f sink;
 }
 
-pub compares : (origin : Origin) (form : ReplayForm) (blank : Bool) (workers : ℕ) (start to : Seen) (ends : Ends) (r : Result Bool TextFault) → ends.refused ≡ None
-    → OnOk r (Writes (IsReplayText origin form blank) start.had ends.input.had ends.out.had ends.out.has) → IfOk r (IsLeftText origin blank start.had ends.input.had to.had)
+-- what is said of the calls, and of the difference, is said of the ending
+counted_so : (origin : Origin) (start trace : Option (List ℕ)) (answered : Answered) (line : Option ℕ) → AreAnswered origin start trace answered → IsAnswered origin start trace (compared_by answered line)
+counted_so origin start trace answered None is = is
+counted_so origin start trace answered (Some line) is = is
+
+compared_so : (origin : Origin) (blank : Bool) (start trace : Option (List ℕ)) (to : Seen) (answered : Answered) (line : Option ℕ) → DiffersFromLeft origin blank start trace to.had line → IsCompared origin blank start trace (Some to) (compared_by answered line)
+compared_so origin blank start trace to answered None is = is
+compared_so origin blank start trace to answered (Some line) is = is
+
+pub compares : (origin : Origin) (form : ReplayForm) (blank : Bool) (workers : ℕ) (start to : Seen) (ends : Ends) (r : Result Compared TextFault) → ends.refused ≡ None
+    → IfOk r (λ made. AreAnswered origin start.had ends.input.had made.answered)
+    → OnOk r (Writes (IsReplayText origin form blank) start.had ends.input.had ends.out.had ends.out.has) → IfOk r (λ made. DiffersFromLeft origin blank start.had ends.input.had to.had made.difference)
     → TellsSources (start ∷ ends.input ∷ to ∷ []) r → TellsTexts origin start ends.input ends.unread r → TellsReplay workers origin start.had r
-    → TellsSink ends.out.failed (Begins (IsReplayText origin form blank) start.had ends.input.had ends.out.had ends.out.has) ends.untouched r → Replays origin form blank workers start (Some to) ends (judged_as r endings.Another)
-compares origin form blank workers start to ends (Ok true) opened written same sources told replay sink = record {
-  opened = opened;
-  written = written;
-  compared = same;
-  sources = sources_after _ true (Ok endings.Done) sources tt;
-  told = texts_after _ _ _ _ true (Ok endings.Done) told tt;
-  replay = replay_after _ _ _ true (Ok endings.Done) replay tt;
-  sink = sink_ok _ _ _ true endings.Done sink;
-}
-compares origin form blank workers start to ends (Ok false) opened written same sources told replay sink = record {
-  opened = opened;
-  written = written;
-  compared = same;
-  sources = sources_after _ false (Ok endings.Another) sources tt;
-  told = texts_after _ _ _ _ false (Ok endings.Another) told tt;
-  replay = replay_after _ _ _ false (Ok endings.Another) replay tt;
-  sink = sink_ok _ _ _ false endings.Another sink;
-}
-compares origin form blank workers start to ends (Err f) opened written same sources told replay sink = record {
+    → TellsSink ends.out.failed (Begins (IsReplayText origin form blank) start.had ends.input.had ends.out.had ends.out.has) ends.untouched r → Replays origin form blank workers start (Some to) ends (compared_as r)
+compares origin form blank workers start to ends (Ok x) opened answered written differs sources told replay sink =
+    let ending = compared_by x.answered x.difference in
+    record {
+      opened = opened;
+      written = written;
+      answered = counted_so origin start.had ends.input.had x.answered x.difference answered;
+      compared = compared_so origin blank start.had ends.input.had to x.answered x.difference differs;
+      sources = sources_after _ x (Ok ending) sources tt;
+      told = texts_after _ _ _ _ x (Ok ending) told tt;
+      replay = replay_after _ _ _ x (Ok ending) replay tt;
+      sink = sink_ok _ _ _ x ending sink;
+    }
+compares origin form blank workers start to ends (Err f) opened answered written differs sources told replay sink = record {
   opened = opened;
   written = tt;
+  answered = tt;
   compared = tt;
   sources = sources_err _ f sources;
   told = texts_err _ _ _ _ f told;

@@ -1,11 +1,12 @@
 -- How the program ends: its exit status, and what it reports on the error sink.
-use Rattle.std.specs.Prelude.{◌≡◌, ℕ, Bool, true, false, List, codes, Option, Some, None, Result, Ok, Err}
+use Rattle.std.specs.Prelude.{◌≡◌, ◌++◌, ℕ, Bool, true, false, List, codes, Option, Some, None, Result, Ok, Err}
 use Rattle.std.specs.Io.KnownBytes.{Appends}
 use Rattle.kc_remarks.specs.declared.denials.Answered.{Answered}
 use Rattle.kc_remarks.specs.Denials.{is_mostly_outside}
 use Rattle.kc_texts.specs.Written.{AppendsBeginning}
 use Rattle.kc_faults.specs.declared.fault.TextFault.{TextFault}
 use Rattle.kc_faults.specs.Faults.{status_of, fault_line}
+use Rattle.kc_cli.specs.declared.replaying.Compared.{Compared}
 use Rattle.kc_run.specs.declared.ending.Ending.{Ending}
 use Rattle.kc_run.specs.declared.ending.Ending.TheVariants as endings
 
@@ -16,6 +17,15 @@ Ended = Result Ending TextFault
 abbrev pub ending_of : Bool → Ending → Ending
 ending_of true other = endings.Done
 ending_of false other = other
+
+-- that of a replay whose last state is compared
+abbrev pub compared_by : Answered → Option ℕ → Ending
+compared_by answered None = endings.Answered answered
+compared_by answered (Some line) = endings.Another answered line
+
+abbrev pub compared_as : Result Compared TextFault → Ended
+compared_as (Ok made) = Ok (compared_by made.answered made.difference)
+compared_as (Err fault) = Err fault
 
 -- that of an engine that has no answer, and of one that answers yes or no
 abbrev pub done_as : {A : Type 0} → Result A TextFault → Ended
@@ -35,7 +45,7 @@ answered_as (Err fault) = Err fault
 abbrev pub status_after : Ended → ℕ
 status_after (Ok endings.Done) = 0
 status_after (Ok (endings.Answered answered)) = 0
-status_after (Ok endings.Another) = 1
+status_after (Ok (endings.Another answered line)) = 1
 status_after (Ok endings.Unsound) = 1
 status_after (Err fault) = status_of fault
 
@@ -46,7 +56,13 @@ fault_in (Err fault) = Some fault
 -- how the calls were answered, if the engine counts that
 abbrev pub answered_in : Ended → Option Answered
 answered_in (Ok (endings.Answered answered)) = Some answered
+answered_in (Ok (endings.Another answered line)) = Some answered
 answered_in _ = None
+
+-- the first line that differs, if a state was compared and is another one
+abbrev pub difference_in : Ended → Option ℕ
+difference_in (Ok (endings.Another answered line)) = Some line
+difference_in _ = None
 
 -- a sink as a run found and left it: whether a write to it failed, and the bytes that it had taken before and after, if it reports them
 pub record Took : Type 0 where
@@ -67,6 +83,11 @@ pub record Takes (sink : Took) (text : List ℕ) : Type 0 where
 abbrev pub outside_line : List ℕ
 outside_line = codes "kcore: warning: more than half of the calls name frames or slots that the machine does not have\n"
 
+-- what is reported of another state, after that line if they do
+abbrev pub another_text : Bool → List ℕ
+another_text true = outside_line ++ codes "kcore: another state\n"
+another_text false = codes "kcore: another state\n"
+
 -- the error sink takes that line if they do, and nothing otherwise
 abbrev pub IsWarned : Bool → Took → Type 0 → Type 0
 IsWarned true err untouched = Takes err outside_line
@@ -76,6 +97,6 @@ IsWarned false err untouched = untouched
 abbrev pub IsReported : Ended → Took → Type 0 → Type 0
 IsReported (Ok endings.Done) err untouched = untouched
 IsReported (Ok (endings.Answered answered)) err untouched = IsWarned (is_mostly_outside answered) err untouched
-IsReported (Ok endings.Another) err untouched = Takes err (codes "kcore: another state\n")
+IsReported (Ok (endings.Another answered line)) err untouched = Takes err (another_text (is_mostly_outside answered))
 IsReported (Ok endings.Unsound) err untouched = untouched
 IsReported (Err fault) err untouched = Takes err (fault_line fault)

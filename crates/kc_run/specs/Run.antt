@@ -20,7 +20,7 @@ use Rattle.kc_redact_text.specs.Redacts.{Redacts, BeginsRedaction, IsRedactFault
 use Rattle.kc_cli.specs.declared.order.ReplayForm.{ReplayForm}
 use Rattle.kc_cli.specs.declared.account.CustodyForm.{CustodyForm}
 use Rattle.kc_cli.specs.declared.account.Scope.{Scope}
-use Rattle.kc_cli.specs.Engine.{IsReplayText, IsLeftText}
+use Rattle.kc_cli.specs.Engine.{IsReplayText, DiffersFromLeft}
 use Rattle.kc_cli.specs.Custody.{IsCustodyText, TellsCustody, origin_of}
 use Rattle.kc_cli.specs.Answers.{AreAnswered}
 use Rattle.kc_cli.specs.Live.{IsLiveText, CouldRun, HasBadActor}
@@ -32,7 +32,7 @@ use Rattle.kc_args.specs.Jobs.{Path, path_of, origin_at, form_of, start_in}
 use Rattle.kc_run.specs.declared.ending.Ending.{Ending}
 use Rattle.kc_run.specs.declared.ending.Ending.TheVariants as endings
 use Rattle.kc_run.specs.Opening.{Held, text_at, IsOpenFault}
-use Rattle.kc_run.specs.Endings.{Ended, Took, status_after, fault_in, answered_in, IsReported}
+use Rattle.kc_run.specs.Endings.{Ended, Took, status_after, fault_in, answered_in, difference_in, IsReported}
 
 -- what a run finds and leaves: what the files hold, the path that could not be opened, if one could not; standard input, and that nothing was read of it; the sink, and that it is as it was
 pub record Ends : Type 1 where
@@ -54,12 +54,18 @@ pub record IsUnopened (path : Option Path) (ends : Ends) (ended : Ended) : Type 
   pub unread : ends.unread
   pub untouched : ends.untouched
 
--- whether the state left is that of a third text, if there is one
+-- the ending counts the trace's calls, and those that were refused or rejected
+abbrev pub IsAnswered : Origin → Option (List ℕ) → Option (List ℕ) → Ending → Type 0
+IsAnswered origin start trace (endings.Answered answered) = AreAnswered origin start trace answered
+IsAnswered origin start trace (endings.Another answered line) = AreAnswered origin start trace answered
+IsAnswered origin start trace ending = ⊥
+
+-- whether the state left is that of a third text, if there is one, and else on which line of that it first differs
 abbrev pub IsCompared : Origin → Bool → Option (List ℕ) → Option (List ℕ) → Option Seen → Ending → Type 0
-IsCompared origin blank start trace None ending = ending ≡ endings.Done
-IsCompared origin blank start trace (Some to) endings.Done = IsLeftText origin blank start trace to.had true
-IsCompared origin blank start trace (Some to) endings.Another = IsLeftText origin blank start trace to.had false
-IsCompared origin blank start trace (Some to) ending = ⊥
+IsCompared origin blank start trace (Some to) (endings.Answered answered) = DiffersFromLeft origin blank start trace to.had None
+IsCompared origin blank start trace (Some to) (endings.Another answered line) = DiffersFromLeft origin blank start trace to.had (Some line)
+IsCompared origin blank start trace None (endings.Answered answered) = Unit {0}
+IsCompared origin blank start trace to ending = ⊥
 
 abbrev pub those_of : Option Seen → List Seen
 those_of None = []
@@ -69,6 +75,7 @@ those_of (Some source) = source ∷ []
 pub record Replays (origin : Origin) (form : ReplayForm) (blank : Bool) (workers : ℕ) (start : Seen) (to : Option Seen) (ends : Ends) (ended : Ended) : Type 0 where
   pub opened : ends.refused ≡ None
   pub written : OnOk ended (Writes (IsReplayText origin form blank) start.had ends.input.had ends.out.had ends.out.has)
+  pub answered : IfOk ended (IsAnswered origin start.had ends.input.had)
   pub compared : IfOk ended (IsCompared origin blank start.had ends.input.had to)
   pub sources : TellsSources (start ∷ ends.input ∷ those_of to) ended
   pub told : TellsTexts origin start ends.input ends.unread ended
@@ -80,11 +87,6 @@ abbrev pub ReplaysTo : Origin → ReplayForm → Bool → ℕ → Option Path �
 ReplaysTo origin form blank workers None start ends ended = Replays origin form blank workers start None ends ended
 ReplaysTo origin form blank workers (Some path) start ends ended =
     IsUnopened (Some path) ends ended ⊎ ((to : Seen) × (to.had ≡ ends.held path.now) × Replays origin form blank workers start (Some to) ends ended)
-
--- the ending counts the trace's calls, and those that were refused or rejected
-abbrev pub IsAnswered : Origin → Option (List ℕ) → Option (List ℕ) → Ending → Type 0
-IsAnswered origin start trace (endings.Answered answered) = AreAnswered origin start trace answered
-IsAnswered origin start trace ending = ⊥
 
 -- a report of custody over open sources ended so
 pub record ReportsCustody (form : CustodyForm) (scope : Scope) (start : Seen) (ends : Ends) (ended : Ended) : Type 0 where
@@ -171,11 +173,12 @@ abbrev pub IsEndingOf : {S : Type 0} → (S → Option (List ℕ)) → (S → Bo
 IsEndingOf left failed None action ends ended = IsEnding action ends ended
 IsEndingOf left failed (Some path) action ends ended = IsUnopened (Some path) ends ended ⊎ ReadsFile left failed path action ends ended
 
--- what a run of a job leaves, and the exit status, the fault and the counts that it answers: the exit status and the error sink say how the job ended
-pub record IsRun {S : Type 0} (left : S → Option (List ℕ)) (failed : S → Bool) (job : Job) (ends : Ends) (err : Took) (silent : Type 0) (status : ℕ) (fault : Option TextFault) (answered : Option Answered) : Type 0 where
+-- what a run of a job leaves, and the exit status, the fault, the counts and the differing line that it answers: the exit status and the error sink say how the job ended
+pub record IsRun {S : Type 0} (left : S → Option (List ℕ)) (failed : S → Bool) (job : Job) (ends : Ends) (err : Took) (silent : Type 0) (status : ℕ) (fault : Option TextFault) (answered : Option Answered) (difference : Option ℕ) : Type 0 where
   pub ended : Ended
   pub ending : IsEndingOf left failed job.input job.action ends ended
   pub status_is : status ≡ status_after ended
   pub fault_is : fault ≡ fault_in ended
   pub answered_is : answered ≡ answered_in ended
+  pub difference_is : difference ≡ difference_in ended
   pub reported : IsReported ended err silent

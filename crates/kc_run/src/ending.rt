@@ -4,7 +4,7 @@ ghost use Rattle.std.specs.Io.KnownBytes.{Appends};
 ghost use Rattle.kc_texts.specs.Written.{AppendsBeginning};
 ghost use Rattle.kc_remarks.specs.Denials.{is_mostly_outside};
 ghost use Rattle.kc_args.specs.Clashes.{clash_text};
-ghost use Rattle.kc_run.specs.Endings.{Takes, took, status_after, fault_in, answered_in, IsWarned, IsReported};
+ghost use Rattle.kc_run.specs.Endings.{Takes, took, status_after, fault_in, answered_in, difference_in, another_text, IsWarned, IsReported};
 
 use kc_args::Clash;
 use kc_cli::{Answered, Sink, TextFault, tell, write_whole};
@@ -16,8 +16,9 @@ pub enum Ending {
     Done,
     /// The same, and this is how the trace's calls were answered.
     Answered(Answered),
-    /// The same, and the state that the trace leaves is not the one that it was compared with.
-    Another,
+    /// The same, and the state that the trace leaves is not the one that it was compared with: this line of that one's
+    /// text, from 1, is the first that differs.
+    Another { answered: Answered, line: usize },
     /// The same, and something is found in the dump.
     Unsound,
 }
@@ -31,6 +32,8 @@ pub struct Exit {
     pub fault: Option<TextFault>,
     /// How the trace's calls were answered, if that was counted.
     pub answered: Option<Answered>,
+    /// The first line that differs of the text of the state that was compared, if one does.
+    pub difference: Option<usize>,
 }
 
 impl Exit {
@@ -39,11 +42,13 @@ impl Exit {
         ensures status { result.status ≡ status }
         ensures fault { result.fault ≡ None }
         ensures answered { result.answered ≡ None }
+        ensures difference { result.difference ≡ None }
     {
         Exit {
             status,
             fault: None,
             answered: None,
+            difference: None,
         }
     }
 }
@@ -70,12 +75,29 @@ fn warn<L: Sink>(answered: &Answered, err: &mut L)
     }
 }
 
+/// Reports another state, after a warning of a trace that may be of another machine.
+fn say_another<L: Sink>(answered: &Answered, err: &mut L)
+    requires { L.failed err.old ≡ false }
+    ensures { Takes (took L.failed L.taken err.old err.new) (another_text (is_mostly_outside answered.now)) }
+{
+    let is_outside = answered.is_mostly_outside();
+    if is_outside {
+        say(
+            "kcore: warning: more than half of the calls name frames or slots that the machine does not have\nkcore: another state\n",
+            err,
+        );
+    } else {
+        say("kcore: another state\n", err);
+    }
+}
+
 /// Reports how a job ended.
 pub(crate) fn end<L: Sink>(ended: Result<Ending, TextFault>, err: &mut L) -> Exit
     requires { L.failed err.old ≡ false }
     ensures status { result.status ≡ status_after ended }
     ensures fault { result.fault ≡ fault_in ended }
     ensures answered { result.answered ≡ answered_in ended }
+    ensures difference { result.difference ≡ difference_in ended }
     ensures reported { IsReported ended (took L.failed L.taken err.old err.new) (err.new ≡ err.old) }
 {
     match ended {
@@ -86,11 +108,17 @@ pub(crate) fn end<L: Sink>(ended: Result<Ending, TextFault>, err: &mut L) -> Exi
                 status: 0,
                 fault: None,
                 answered: Some(answered),
+                difference: None,
             }
         },
-        Ok(Ending::Another) => {
-            say("kcore: another state\n", err);
-            Exit::with_status(1)
+        Ok(Ending::Another { answered, line }) => {
+            say_another(&answered, err);
+            Exit {
+                status: 1,
+                fault: None,
+                answered: Some(answered),
+                difference: Some(line),
+            }
         },
         Ok(Ending::Unsound) => Exit::with_status(1),
         Err(fault) => {
@@ -99,6 +127,7 @@ pub(crate) fn end<L: Sink>(ended: Result<Ending, TextFault>, err: &mut L) -> Exi
                 status,
                 fault: Some(fault),
                 answered: None,
+                difference: None,
             }
         },
     }

@@ -3,7 +3,7 @@ ghost use Rattle.std.specs.Prelude.{◌≡◌, false, None};
 ghost use Rattle.kc_texts.specs.Ends.{seen};
 ghost use Rattle.kc_args.specs.Jobs.{origin_at, form_of, start_in};
 ghost use Rattle.kc_run.specs.Opening.{Held};
-ghost use Rattle.kc_run.specs.Endings.{took, done_as, answered_as, ending_of, judged_as};
+ghost use Rattle.kc_run.specs.Endings.{took, done_as, answered_as, compared_as, ending_of, judged_as};
 ghost use Rattle.kc_run.specs.Run.{ends_of, BeginsAt, ReplaysTo, ReportsCustody, RunsLive, AuditsDump, RedactsTrace, RedactsHost};
 
 use crate::beginning::{begin, close, open};
@@ -11,8 +11,8 @@ use crate::ending::Ending;
 use crate::files::Files;
 use kc_args::{Account, Start};
 use kc_cli::{
-    Answered, CustodyOrder, Lanes, ReplayOrder, Scope, Sink, Source, TextFault, audit_text,
-    custody_text, live_text, replay_text, replay_to_text,
+    Answered, Compared, CustodyOrder, Lanes, ReplayOrder, Scope, Sink, Source, TextFault,
+    audit_text, custody_text, live_text, replay_text, replay_to_text,
 };
 use kc_redact_text::{redact_host_text, redact_text};
 use kc_replay::OpenGate;
@@ -45,6 +45,22 @@ fn counted(answer: Result<Answered, TextFault>) -> Result<Ending, TextFault>
 {
     match answer {
         Ok(answered) => Ok(Ending::Answered(answered)),
+        Err(fault) => Err(fault),
+    }
+}
+
+/// The ending of a replay whose last state is compared.
+fn compared(answer: Result<Compared, TextFault>) -> Result<Ending, TextFault>
+    ensures { result ≡ compared_as answer }
+{
+    match answer {
+        Ok(made) => match made.difference {
+            Some(line) => Ok(Ending::Another {
+                answered: made.answered,
+                line,
+            }),
+            None => Ok(Ending::Answered(made.answered)),
+        },
         Err(fault) => Err(fault),
     }
 }
@@ -87,7 +103,7 @@ fn replay_to<F: Files, C: Source, T: Source, K: Sink, R: Threads + Wait + Sync>(
         (input.new ≡ input.old) (took K.failed K.taken out.old out.new) (out.new ≡ out.old)) result }
 {
     let Some(path) = to else {
-        return done(replay_text(system.threads, system.alloc, start, input, out, order));
+        return counted(replay_text(system.threads, system.alloc, start, input, out, order));
     };
     let mut file = open(files, path)?;
     let answer = replay_to_text(
@@ -100,7 +116,7 @@ fn replay_to<F: Files, C: Source, T: Source, K: Sink, R: Threads + Wait + Sync>(
         order,
     );
     files.close(file);
-    judged(answer, Ending::Another)
+    compared(answer)
 }
 
 /// Replays the trace from where calls begin.

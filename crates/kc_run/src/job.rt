@@ -96,7 +96,8 @@ pub fn run_job<F: Files, T: Source, K: Sink, L: Sink, R: Threads + Wait + Sync>(
     ensures { IsRun F.File.left F.File.failed job.entry
         (ends_of (F.held files.old) (F.refused files.new) (seen T.failed T.left input.old input.new)
         (input.new ≡ input.old) (took K.failed K.taken out.old out.new) (out.new ≡ out.old))
-        (took L.failed L.taken err.old err.new) (err.new ≡ err.old) result.status result.fault result.answered }
+        (took L.failed L.taken err.old err.new) (err.new ≡ err.old)
+        result.status result.fault result.answered result.difference }
 {
     let ended = run_over(system, files, job.input, job.action, input, out);
     end(ended, err)

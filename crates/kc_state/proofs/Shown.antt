@@ -30,7 +30,6 @@ use Rattle.kc_parts.specs.Parts.{Held, page_at, vm_at, link_of, links_of, ends_a
 use Rattle.kc_parts.specs.States.{frame_in, slot_in, unlinked_slot, state_of, owner_at, IsLinked}
 use Rattle.kc_parts.specs.Booting.{IsWhole}
 use Rattle.kc_parts.proofs.Pages.{filled-number}
-use Rattle.kc_parts.proofs.Emptied.{listed-none}
 use Rattle.kc_parts.proofs.Seen.{frame-seen}
 use Rattle.kc_parts.proofs.Looked.{slot-is}
 use Rattle.kc_vms.proofs.Rising.{empty-entries}
@@ -43,6 +42,11 @@ use Rattle.kc_dump.specs.Sound.{IsSound, IsSoundFrame}
 use Rattle.kc_dump.proofs.Entries.{entry-get}
 use Rattle.kc_model.proofs.States.Owners.{same-is}
 use Rattle.kc_state.proofs.Shows.{ShowsPage, ShowsSlot, Shows}
+
+-- a list without ends has no frames
+listed-none : (links : Links) → listed links no_ends ≡ []
+unfolding listed
+listed-none links = refl
 
 -- there is something
 there-is : {X : Type 0} (o : Option X) → is_some o ≡ true → (x : X) × (o ≡ Some x)

@@ -11,3 +11,4 @@ mod OneText
 mod OneRun
 mod Refusals
 pub mod ToCome
+mod Differing

@@ -1,6 +1,6 @@
 -- The word of a page.
-use Rattle.std.proofs.Common.{ℕ, zero, suc, ◌≡◌, ◌<◌, ◌+◌, true, false, List, [], ◌∷◌, ◌++◌, length, drop, replicate, get_or, All, Some, None, refl, sym, ap, subst, ◌∙◌, arith}
-use Rattle.std.specs.Prelude.{codes}
+use Rattle.std.proofs.Common.{ℕ, zero, suc, ◌≡◌, ◌<◌, ◌+◌, Bool, true, false, List, [], ◌∷◌, ◌++◌, length, drop, replicate, get_or, All, Some, None, refl, sym, ap, subst, ◌∙◌, arith}
+use Rattle.std.specs.Prelude.{codes, IsTrue, ◌↔◌}
 use Rattle.std.specs.List.{list_all}
 use Rattle.std.specs.Str.{bytes_eq}
 use Rattle.std.proofs.lemmas.List.{append-nil, drop_all}
@@ -17,7 +17,7 @@ use Rattle.kc_state_text.specs.StateText.{is_zero, page_word, page_words, page_l
 use Rattle.kc_state_text.specs.Words.{words_in}
 use Rattle.kc_state_text.proofs.Lines.{begins}
 use Rattle.kc_state_text.specs.Reading.{LacksWhole, IsWhole, BeginsAs, behind, AreDigits}
-use Rattle.kc_state_text.proofs.Spelled.{tail-of, page-are-words, data-page, page-undashed, digits-same}
+use Rattle.kc_state_text.proofs.Spelled.{tail-of, zeros-same, page-are-words, data-page, page-undashed, digits-same}
 
 zeros-blank : (n : ℕ) → is_zero (replicate n 0) ≡ true
 zeros-blank zero = refl
@@ -25,6 +25,15 @@ zeros-blank (suc n) = zeros-blank n
 
 pub zero-blank : (bytes : List ℕ) → bytes ≡ zero_page → is_zero bytes ≡ true
 zero-blank bytes e = ap is_zero (e ∙ zero_page-replicate) ∙ zeros-blank 4096
+
+-- a page of zeros is the zero page
+pub zero-tested : (bytes : List ℕ) (zero : Bool) → length bytes ≡ 4096 → IsTrue zero ↔ (bytes ≡ zero_page) → is_zero bytes ≡ zero
+zero-tested bytes true size is = zero-blank bytes (is.0 refl)
+zero-tested bytes false size is = by_test (is_zero bytes) refl
+  where
+    by_test : (b : Bool) → is_zero bytes ≡ b → b ≡ false
+    by_test true blank = sym (is.1 (zeros-same bytes zero_page (size ∙ sym length-zero_page) blank (zero-blank zero_page refl)))
+    by_test false some = refl
 
 blank-word : (bytes : List ℕ) → is_zero bytes ≡ true → page_word bytes ≡ codes "-"
 blank-word bytes e = rw e refl
@@ -63,16 +72,14 @@ bytes-low [] all k = omega arith
 bytes-low (b ∷ bytes) all zero = all 0 0 (omega arith)
 bytes-low (b ∷ bytes) all (suc k) = bytes-low bytes (tail-of (λ b. b < 256) b bytes all) k
 
-written-whole : (digits : List ℕ) → IsPage digits → overwritten zero_page 0 digits ≡ digits
+pub written-whole : (digits : List ℕ) → IsPage digits → overwritten zero_page 0 digits ≡ digits
 written-whole digits page =
     let whole = page.whole in
     let long = length-zero_page in
     ap (λ (l : List ℕ). l ++ drop (0 + length digits) zero_page) (as_bytes-same digits (bytes-low digits page.each_byte)) ∙ ap (λ (l : List ℕ). digits ++ l) (drop_all (0 + length digits) zero_page (omega (arith, whole, long))) ∙ append-nil digits
 
-pub written-page : (word digits page : List ℕ) → AreDigits word digits → page ≡ overwritten zero_page 0 digits → IsWhole IsPage page_word word page
-written-page word digits page are e =
-    let same = e ∙ written-whole digits are.page in
-    record { is = subst IsPage (sym same) are.page; whole = are.whole ∙ sym (digits-word digits are.some) ∙ ap page_word (sym same) }
+pub digits-page : (word page : List ℕ) → AreDigits word page → IsWhole IsPage page_word word page
+digits-page word page are = record { is = are.page; whole = are.whole ∙ sym (digits-word page are.some) }
 
 -- a line with another word is not a page's
 pub other-word : (name line word : List ℕ) → words_in line ≡ name ∷ word ∷ [] → LacksWhole IsPage page_word word → LacksWhole IsPage (behind name page_words) (words_in line)

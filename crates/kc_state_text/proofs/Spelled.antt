@@ -240,7 +240,7 @@ slot-same a b x y e =
 
 -- ---- pages
 
-zeros-same : (xs ys : List ℕ) → length xs ≡ length ys → is_zero xs ≡ true → is_zero ys ≡ true → xs ≡ ys
+pub zeros-same : (xs ys : List ℕ) → length xs ≡ length ys → is_zero xs ≡ true → is_zero ys ≡ true → xs ≡ ys
 zeros-same [] [] long a b = refl
 zeros-same [] (y ∷ ys) long a b = absurd (omega (arith, long))
 zeros-same (x ∷ xs) [] long a b = absurd (omega (arith, long))

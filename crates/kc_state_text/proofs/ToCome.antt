@@ -1,8 +1,7 @@
 -- What was given of a state's text and what is still to come are the whole text.
 use Rattle.std.proofs.Common.{ℕ, ◌≡◌, ◌<◌, ◌≤◌, ◌+◌, List, [], ◌++◌, length, map, refl, sym, ap, ◌∙◌, append_assoc}
 use Rattle.std.specs.List.{flat_map}
-use Rattle.std.specs.Prelude.{◌↔◌}
-use Rattle.std.proofs.lemmas.List.{drop_more, drop_all, length-map, append_cancel_left}
+use Rattle.std.proofs.lemmas.List.{drop_more, drop_all, length-map}
 use Rattle.std.proofs.Math.ListN.{get_or-map}
 use Rattle.kc_types.specs.declared.owner.Owner.TheVariants.{Core}
 use Rattle.kc_model.specs.State.{State, Frame, frame_at, untouched, zero_page}
@@ -41,11 +40,6 @@ page_given m old new start before after low form front front' page dump given pu
     let come : to_come m old ≡ line ++ rest = rw front (ap (λ (lines : List ℕ). lines ++ old.dump) (page_first n old.page low) ∙ append_assoc line (page_lines n (old.page + 1)) old.dump) in
     let left : to_come m new ≡ rest = rw (front', form, page, dump) refl in
     rw (left, pushed) (append_assoc before line rest ∙ ap (λ (l : List ℕ). before ++ l) (sym come) ∙ given)
-
--- a text without its first piece is what is still to come if and only if this was so before
-pub rest_after : (rest more piece left next : List ℕ) (Same : Type 0) → rest ≡ piece ++ more → piece ++ next ≡ left → (rest ≡ left) ↔ Same → (more ≡ next) ↔ Same
-rest_after rest more piece left next Same cut given is =
-    (λ e. is.0 (cut ∙ ap (λ (l : List ℕ). piece ++ l) e ∙ given), λ same. append_cancel_left piece more next (sym cut ∙ is.1 same ∙ sym given))
 
 -- the lines before those of the pages are the same in each form
 front_in : (form : StateForm) (m : State) → front_begin m ≡ front_begin (in_form form m)

@@ -5,3 +5,4 @@ pub mod Reading
 pub mod Faults
 pub mod Runs
 pub mod Pieces
+pub mod Differences

@@ -2,9 +2,11 @@
 //!
 //! - how a state is spelled: `specs/StateText.antt`; why a text is not a state: `specs/Refused.antt`
 //! - how a state's text is read: `src/reader.rt`, `src/front.rt`; how it is written a piece at a time: `src/pieces.rt`
+//! - where a text differs from that of a core's state: `specs/Differences.antt`, `src/comparing.rt`
 //! - that state texts are enough for volumes to be one run: `src/laws.rt`
 #![tactic(auto)]
 
+mod comparing;
 mod fault;
 mod front;
 pub mod laws;
@@ -17,7 +19,8 @@ mod whole;
 mod words;
 mod writing;
 
+pub use comparing::difference_from_state;
 pub use fault::StateFault;
-pub use pieces::{StatePieces, is_state_text};
+pub use pieces::StatePieces;
 pub use reader::{read_state, read_state_alone};
 pub use whole::{state_digest, whole_text};

@@ -4,7 +4,7 @@ ghost use Rattle.std.specs.Str.{bytes_eq};
 ghost use Rattle.kc_types.specs.Limits.{page_size};
 ghost use Rattle.kc_model.specs.State.{zero_page};
 ghost use Rattle.kc_model.specs.Lawful.{IsPage};
-ghost use Rattle.kc_state_text.specs.StateText.{is_zero, page_word, page_line};
+ghost use Rattle.kc_state_text.specs.StateText.{page_word, page_line};
 ghost use Rattle.kc_state_text.specs.Reading.{LacksWhole, IsWhole, BeginsAs, IsOneMore, AreDigits};
 ghost use Rattle.kc_state_text.specs.Refused.{HasNone};
 
@@ -14,12 +14,6 @@ use kc_page::PageBytes;
 use kc_types::{Memory, PAGE_SIZE, SecretBytes};
 use std::alloc::Global;
 use std::marker::Model;
-
-pub fn is_zero(bytes: &[u8]) -> bool
-    ensures { result ≡ is_zero bytes.now }
-{
-    bytes.iter().all(|byte| *byte == 0)
-}
 
 /// A buffer for the bytes of a page, seen as these bytes.
 #[derive(Drop)]
@@ -47,10 +41,12 @@ impl Buffer {
     }
 }
 
-/// Decodes a word of digits, and returns whether it spells the bytes of a page that are not all zero.
-fn decode_page(word: &[u8], bytes: &mut [u8]) -> bool
-    requires { length bytes.old ≡ page_size }
-    ensures spelled { IsTrue result → AreDigits word.now bytes.new }
+/// Decodes a word of digits into a zero page, by way of a buffer; returns whether it spells the bytes of a page that
+/// are not all zero.
+fn decode_page(word: &[u8], bytes: &mut [u8], page: &mut PageBytes) -> bool
+    requires whole { length bytes.old ≡ page_size }
+    requires zero { page.old ≡ zero_page }
+    ensures spelled { IsTrue result → AreDigits word.now page.new }
     ensures refused { result ≡ false → bytes_eq word.now (codes "-") ≡ false → LacksWhole IsPage page_word word.now }
 {
     if word.len() != 2 * PAGE_SIZE as usize {
@@ -59,7 +55,8 @@ fn decode_page(word: &[u8], bytes: &mut [u8]) -> bool
     if !decode_into(word, bytes) {
         return false;
     }
-    !is_zero(bytes)
+    page.write(0, bytes);
+    !page.is_zero()
 }
 
 /// Fills a zero page from its spelling; returns false if the word does not spell a page.
@@ -71,12 +68,7 @@ fn fill_page(word: &[u8], page: &mut PageBytes, buffer: &mut Buffer) -> bool
     if word == b"-".as_slice() {
         return true;
     }
-    let bytes = buffer.bytes.as_mut_slice();
-    if !decode_page(word, bytes) {
-        return false;
-    }
-    page.write(0, bytes);
-    true
+    decode_page(word, buffer.bytes.as_mut_slice(), page)
 }
 
 /// The bytes of pages, by their numbers.

@@ -1,5 +1,5 @@
 //! A state's text, a piece at a time, so that it is never in memory as a whole.
-ghost use Rattle.std.specs.Prelude.{ℕ, List, MatchOption, ◌≡◌, ◌<◌, ◌≤◌, ◌+◌, ◌++◌, ◌↔◌, [], length, vec_len, vec_capacity, IsTrue, IfOk};
+ghost use Rattle.std.specs.Prelude.{◌≡◌, ◌<◌, ◌≤◌, ◌+◌, ◌++◌, ◌↔◌, [], length, vec_len, vec_capacity, IsTrue, IfOk};
 ghost use Rattle.kc_dumping.specs.Dumping.{dump_of};
 ghost use Rattle.kc_dumping.specs.Form.{in_form};
 ghost use Rattle.kc_state_text.specs.StateText.{state_text};
@@ -13,7 +13,7 @@ use kc_dump_text::write_dump;
 use kc_dumping::{StateForm, bytes_in, dump, dump_alone};
 use kc_lines::push_bytes;
 use kc_page::PageBytes;
-use kc_types::{Memory, SecretBytes};
+use kc_types::Memory;
 use std::alloc::Global;
 use std::marker::Model;
 use std::thread::Threads;
@@ -187,56 +187,4 @@ impl StatePieces {
             self.dump.give(piece);
         }
     }
-}
-
-/// How much of a text is compared at once, in bytes.
-const PIECE: usize = 65_536;
-
-/// What follows some bytes, if the text begins with them.
-fn behind<'a>(text: &'a [u8], bytes: &[u8]) -> Option<&'a [u8]>
-    ensures { MatchOption result ((rest : List ℕ) → text.now ≡ bytes.now ++ rest → ⊥) (λ rest. text.now ≡ bytes.now ++ rest.now) }
-{
-    if text.len() < bytes.len() {
-        return None;
-    }
-    let (head, rest) = text.split_at(bytes.len());
-    if head == bytes { Some(rest) } else { None }
-}
-
-/// Whether a text is just these pieces.
-fn is_rest(core: &KCore, pieces: StatePieces, piece: &mut Vec<u8>, text: &[u8]) -> bool
-    requires { longest_page_line ≤ vec_capacity piece.old }
-    ensures { IsTrue result ↔ (text.now ≡ to_come core.now pieces) }
-{
-    let mut pieces = pieces;
-    let mut rest = text;
-    'pieces: loop {
-        pieces.fill(core, piece);
-        if piece.is_empty() {
-            return rest.is_empty();
-        }
-        let Some(more) = behind(rest, piece.as_slice()) else {
-            return false;
-        };
-        rest = more;
-    }
-}
-
-/// Whether a text is that of a core's state. It is written piece by piece and compared with the text, and the memory
-/// that held a piece is wiped. `Memory` if memory cannot be had.
-pub fn is_state_text(
-    rt: &(impl Threads + Sync),
-    alloc: Global,
-    core: &KCore,
-    text: &[u8],
-    lanes: Lanes,
-) -> Result<bool, Memory>
-    // No clause can rule out that memory runs out: a test compares states.
-    ensures { IfOk result (λ same. IsTrue same ↔ (text.now ≡ state_text core.now)) }
-{
-    let pieces = StatePieces::new(rt, alloc, core, lanes)?;
-    let mut piece = Vec::with_capacity(alloc, PIECE)?;
-    let same = is_rest(core, pieces, &mut piece, text);
-    let _zeroed = SecretBytes::new(piece);
-    Ok(same)
 }

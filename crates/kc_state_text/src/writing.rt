@@ -5,9 +5,8 @@ ghost use Rattle.kc_types.specs.Configuration.{slot_count};
 ghost use Rattle.kc_model.specs.State.{slot_at};
 ghost use Rattle.kc_dump_text.specs.DumpText.{spaced};
 ghost use Rattle.kc_state.specs.Told.{slot_rest, rest_of};
-ghost use Rattle.kc_state_text.specs.StateText.{state_header, sizes_of, sizes_line, approved_line, vcpu_words, vcpus_words, image_words, images_words, slot_line, is_zero, page_line, front_begin};
+ghost use Rattle.kc_state_text.specs.StateText.{state_header, sizes_of, sizes_line, approved_line, vcpu_words, vcpus_words, image_words, images_words, slot_line, page_line, front_begin};
 
-use crate::pages::is_zero;
 use crate::sizes::Sizes;
 use kc_core::KCore;
 use kc_lines::{push_bytes, push_digits, push_number};
@@ -18,13 +17,6 @@ use std::alloc::Global;
 /// The bytes of the longest line of a page, with its newline.
 pub const LONGEST_PAGE_LINE: usize = 8_198;
 
-/// Whether all bytes are zero.
-fn is_blank(page: &PageBytes) -> bool
-    ensures { result ≡ is_zero page.now }
-{
-    page.is_known_zero() || is_zero(page.as_slice())
-}
-
 /// Appends the line of a page, for which there is room.
 pub fn push_page(text: &mut Vec<u8>, page: &PageBytes)
     requires { vec_len text.old + 8198 ≤ vec_capacity text.old }
@@ -33,7 +25,7 @@ pub fn push_page(text: &mut Vec<u8>, page: &PageBytes)
     ensures capacity { vec_capacity text.old ≤ vec_capacity text.new }
 {
     push_bytes(text, b"page ");
-    if is_blank(page) {
+    if page.is_zero() {
         push_bytes(text, b"-");
     } else {
         push_digits(text, page.as_slice());

@@ -1,13 +1,14 @@
 -- A text that is given in pieces.
-use Rattle.std.proofs.Common.{◌≡◌, ◌+◌, ℕ, List, [], ◌∷◌, ◌++◌, length, take, drop, Option, refl, sym, ap, ◌∙◌, append_assoc, arith, inl, inr}
+use Rattle.std.proofs.Common.{◌≡◌, ◌≤◌, ◌+◌, ℕ, List, [], ◌∷◌, ◌++◌, length, take, drop, Option, refl, sym, ap, ◌∙◌, append_assoc, arith, inl, inr}
 use Rattle.std.proofs.lemmas.Bool.{cases_lt}
-use Rattle.std.proofs.lemmas.List.{take_all, take-append-drop, append-nil}
+use Rattle.std.proofs.lemmas.List.{take_all, take-append-drop, append-nil, map-id}
+use Rattle.std.proofs.lemmas.List.FromFn.{length-range_with_len, take-map-range_with_len, map-range_with_len_more}
 use Rattle.std.proofs.lemmas.Grind.{flat_map-append}
 use Rattle.std.proofs.lemmas.List.Concat.{flat_map-cons}
 use Rattle.std.proofs.Math.Seq.{take-append-add, take-append-le}
 use Rattle.std.specs.Io.KnownBytes.{Appends}
 use Rattle.std.proofs.KnownBytes.{Appends-trans}
-use Rattle.std.specs.List.{flat_map}
+use Rattle.std.specs.List.{flat_map, range_with_len}
 
 -- of this text the sink took a beginning, and the rest of it is in the buffer
 pub record IsGiven (text piece : List ℕ) (old new : Option (List ℕ)) : Type 0 where
@@ -58,3 +59,11 @@ begun line front xs all piece old mid new first given cut =
     ∙ sym (append_assoc front (flat_map line xs) rest) ∙ ap (λ (t : List ℕ). t ++ rest) given.joined in
     let begins = cut_short given.sent piece rest cut.0 in
     (begins.0, rw (whole, ← begins.1) (Appends-trans old mid new given.sent (take cut.0 piece) given.taken cut.1))
+
+-- the numbers below one that is one more, and the first numbers of a range
+pub range-more : (i : ℕ) → range_with_len 0 (i + 1) ≡ range_with_len 0 i ++ i ∷ []
+range-more i = sym (map-id (range_with_len 0 (i + 1))) ∙ map-range_with_len_more (λ (k : ℕ). k) 0 i i (omega arith) ∙ ap (λ ks. ks ++ i ∷ []) (map-id (range_with_len 0 i))
+
+pub range-taken : (i n : ℕ) → i ≤ n → range_with_len 0 i ≡ take (length (range_with_len 0 i)) (range_with_len 0 n)
+range-taken i n le =
+    sym (ap (λ k. take k (range_with_len 0 n)) (length-range_with_len 0 i) ∙ ap (take i) (sym (map-id (range_with_len 0 n))) ∙ take-map-range_with_len (λ (k : ℕ). k) 0 n i le ∙ map-id (range_with_len 0 i))

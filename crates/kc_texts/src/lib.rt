@@ -15,7 +15,9 @@ mod standard;
 mod stream;
 mod whole;
 
-pub use lines::{Line, empty_piece, give_lines, give_replies, give_trace, write_whole};
+pub use lines::{
+    Line, empty_piece, give_answers, give_lines, give_replies, give_trace, write_whole,
+};
 pub use mem::Mem;
 pub use source::{Failed, PIECE, Sink, Source};
 pub use standard::Std;

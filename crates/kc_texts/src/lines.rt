@@ -2,6 +2,7 @@
 ghost use Rattle.std.specs.Prelude.{◌≡◌, ◌≤◌, ◌+◌, ◌++◌, ◌∷◌, [], false, ℕ, List, vec_len, vec_capacity, is_err, IfOk, OnOk, OnErr};
 ghost use Rattle.std.specs.List.{flat_map};
 ghost use Rattle.std.specs.Io.KnownBytes.{Appends};
+ghost use Rattle.kc_trace.specs.AnswerText.{answer_text_of, longest_answer};
 ghost use Rattle.kc_trace.specs.CustodyText.{event_line};
 ghost use Rattle.kc_trace.specs.RemarkText.{note_line};
 ghost use Rattle.kc_trace.specs.ReplyText.{reply_line_of, reply_text_of};
@@ -11,8 +12,8 @@ ghost use Rattle.kc_texts.specs.Written.{AppendsBeginning};
 use crate::source::{Failed, PIECE, Sink};
 use kc_remarks::Note;
 use kc_trace::{
-    LONGEST_CALL, push_access, push_call, push_change, push_denied, push_header, push_reply,
-    version_of,
+    LONGEST_ANSWER, LONGEST_CALL, push_access, push_answer, push_call, push_change, push_denied,
+    push_header, push_reply, version_of,
 };
 use kc_types::{Call, Event, Memory, Reply};
 use std::alloc::Global;
@@ -36,6 +37,7 @@ pub fn write_whole<S: Sink>(sink: &mut S, bytes: &[u8]) -> Result<(), Failed>
 pub fn empty_piece(alloc: Global) -> Result<Vec<u8>, Memory>
     ensures empty { IfOk result (λ piece. piece.items ≡ []) }
     ensures room { IfOk result (λ piece. longest_call ≤ vec_capacity piece) }
+    ensures answers { IfOk result (λ piece. longest_answer ≤ vec_capacity piece) }
 {
     Ok(Vec::with_capacity(alloc, PIECE)?)
 }
@@ -144,4 +146,33 @@ pub fn give_trace<K: Sink>(out: &mut K, mut piece: Vec<u8>, calls: Vec<Call>) ->
 {
     push_header(&mut piece, version_of(&calls));
     give_lines(out, piece, calls)
+}
+
+/// The line of a trace's first call: its header is line 1.
+const FIRST_LINE: usize = 2;
+
+/// Gives the lines of a trace's calls with their replies to a sink, in pieces as large as the empty buffer has room for:
+/// memory does not grow. After an `Err` the sink has taken a beginning of them.
+pub fn give_answers<K: Sink>(
+    out: &mut K,
+    mut piece: Vec<u8>,
+    calls: &[Call],
+    replies: &[Reply],
+) -> Result<(), Failed>
+    requires out { K.failed out.old ≡ false }
+    requires empty { piece.items ≡ [] }
+    requires room { longest_answer ≤ vec_capacity piece }
+    ensures ok { OnOk result (Appends (K.taken out.old) (K.taken out.new) (answer_text_of calls.now replies.now)) }
+    ensures begun { OnErr result (AppendsBeginning (K.taken out.old) (K.taken out.new) (answer_text_of calls.now replies.now)) }
+    ensures mark { K.failed out.new ≡ is_err result }
+{
+    let count = calls.len().min(replies.len());
+    for i in 0..count {
+        if piece.capacity() - piece.len() < LONGEST_ANSWER {
+            write_whole(out, &piece)?;
+            piece.clear();
+        }
+        push_answer(&mut piece, FIRST_LINE + i, &calls[i], &replies[i]);
+    }
+    write_whole(out, &piece)
 }

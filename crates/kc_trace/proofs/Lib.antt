@@ -2,6 +2,7 @@ pub mod Lines
 pub mod Spelled
 pub mod Cuts
 pub mod Runs
+pub mod Redacting
 pub mod Traces
 pub mod Written
 mod Pushed

@@ -9,7 +9,7 @@ use Rattle.std.proofs.lemmas.Grind.{flat_map-append}
 more : (first second last piece rest : List ℕ) → second ≡ first ++ piece → last ≡ second ++ rest → last ≡ first ++ (piece ++ rest)
 more first second last piece rest e h = h ∙ ap (λ xs. xs ++ rest) e ∙ append_assoc first piece rest
 
--- three, five, seven and eight pieces, one after another
+-- three, five, six, seven and eight pieces, one after another
 pub three : (t t1 t2 t3 a b c : List ℕ) → t1 ≡ t ++ a → t2 ≡ t1 ++ b → t3 ≡ t2 ++ c → t3 ≡ t ++ (a ++ (b ++ c))
 three t t1 t2 t3 a b c h1 h2 h3 = more t t1 t3 a (b ++ c) h1 (more t1 t2 t3 b c h2 h3)
 
@@ -21,6 +21,16 @@ five t t1 t2 t3 t4 t5 a b c d e h1 h2 h3 h4 h5 =
     (more t1 t2 t5 b (c ++ (d ++ e)) h2
     (more t2 t3 t5 c (d ++ e) h3
     (more t3 t4 t5 d (e) h4 h5)))
+
+pub six : (t t1 t2 t3 t4 t5 t6 a b c d e f : List ℕ)
+    → t1 ≡ t ++ a → t2 ≡ t1 ++ b → t3 ≡ t2 ++ c → t4 ≡ t3 ++ d → t5 ≡ t4 ++ e → t6 ≡ t5 ++ f
+    → t6 ≡ t ++ (a ++ (b ++ (c ++ (d ++ (e ++ f)))))
+six t t1 t2 t3 t4 t5 t6 a b c d e f h1 h2 h3 h4 h5 h6 =
+    more t t1 t6 a (b ++ (c ++ (d ++ (e ++ f)))) h1
+    (more t1 t2 t6 b (c ++ (d ++ (e ++ f))) h2
+    (more t2 t3 t6 c (d ++ (e ++ f)) h3
+    (more t3 t4 t6 d (e ++ f) h4
+    (more t4 t5 t6 e (f) h5 h6))))
 
 pub seven : (t t1 t2 t3 t4 t5 t6 t7 a b c d e f g : List ℕ)
     → t1 ≡ t ++ a → t2 ≡ t1 ++ b → t3 ≡ t2 ++ c → t4 ≡ t3 ++ d → t5 ≡ t4 ++ e → t6 ≡ t5 ++ f → t7 ≡ t6 ++ g

@@ -169,10 +169,6 @@ feed_ended p (byte ∷ line) rest one =
     of (inl so) later = rw so (front_nothing (feed (longer p (byte ∷ [])) (line ++ 10 ∷ rest)) ∙ later ∙ ap (λ q. and_then_feed rest (line_ended q)) (longer_twice p (byte ∷ []) line))
     of (inr stuck) later = rw stuck.1 (ap (and_then_feed rest) (sym (stuck.3 line) ∙ ap line_ended (longer_twice p (byte ∷ []) line)))
 
-pub is_done : (front : List Call) (p : Progress) (rest : List ℕ) (total : Result (Progress × List Call) TraceFault) → length rest ≡ 0 → with_front front (feed p rest) ≡ total → total ≡ Ok (p, front)
-is_done front p [] total none so_far = sym so_far ∙ ap (with_front front) (feed_nothing p) ∙ ap (λ (cs : List Call). Ok (p, cs)) (append-nil front)
-is_done front p (byte ∷ left) total none so_far = absurd (omega arith)
-
 -- what fails still fails, whatever follows it
 pub fails_then : {A B : Type 0} (fault : TraceFault) (read : Result A TraceFault) (then : A → Result B TraceFault) → Fails fault read → Fails fault (read >>= then)
 fails_then NoHeader read then h = rw h refl

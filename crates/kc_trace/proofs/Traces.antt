@@ -141,13 +141,9 @@ answers v (byte ∷ bytes) before line few one = elim (cases_Bool (byte == 10)) 
 
 -- ---- the header
 
-header_is_line : (v : Version) → IsOneLine (header_line v)
-header_is_line One = refl
-header_is_line Two = refl
-
-header_told : (v : Version) → version_in (kept (header_line v)) ≡ Some v
-header_told One = refl
-header_told Two = refl
+header_is : (v : Version) → IsOneLine (header_line v) × (version_in (kept (header_line v)) ≡ Some v)
+header_is One = (refl, refl)
+header_is Two = (refl, refl)
 
 header_cut : (v : Version) (rest : List ℕ) → trace_header v ++ rest ≡ header_line v ++ 10 ∷ rest
 header_cut v rest = append_assoc (header_line v) (10 ∷ []) rest
@@ -163,7 +159,7 @@ version_of_kept v line e = by_test (nat_le (length line) line_limit) e
 past_header : (v : Version) (text rest : List ℕ) → text ≡ trace_header v ++ rest → outcome start text ≡ outcome (at_line v 0) rest
 past_header v text rest is =
     ap (outcome start) (is ∙ header_cut v rest)
-    ∙ outcome-ended start (at_line v 0) (header_line v) rest [] (header_is_line v) (ap (after_header (longer start (header_line v))) (header_told v))
+    ∙ outcome-ended start (at_line v 0) (header_line v) rest [] (header_is v).0 (ap (after_header (longer start (header_line v))) (header_is v).1)
     ∙ onto_nothing (outcome (at_line v 0) rest)
 
 -- a line that does not end is not a header

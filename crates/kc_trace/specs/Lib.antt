@@ -1,8 +1,10 @@
 pub mod Spelling
 pub mod Reading
 pub mod Machine
+pub mod Redacting
 pub mod Trace
 pub mod ReplyText
+pub mod AnswerText
 pub mod Faults
 pub mod CustodyText
 pub mod SummaryText

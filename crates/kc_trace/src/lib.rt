@@ -1,12 +1,15 @@
 //! Texts in and out: traces of calls, whole or in pieces, replies, and what is reported of custody.
 //!
 //! - how a trace or a reply is spelled: `specs/Spelling.antt`, `specs/Trace.antt`, `specs/ReplyText.antt`
-//! - how a trace is read: `src/reader.rt`, `src/line.rt`; why it is refused: `src/fault.rt`, `specs/Faults.antt`
-//! - a line of a trace, a reply, a change, a remark, a summary: `src/writer.rt`, `src/reply_writer.rt`,
-//!   `src/custody_writer.rt` (`specs/CustodyText.antt`), `src/remark_writer.rt` (`specs/RemarkText.antt`),
-//!   `src/summary_writer.rt` (`specs/SummaryText.antt`)
+//! - how a trace is read: `src/reader.rt`, `src/line.rt`, without what guests write: `specs/Redacting.antt`; why it is
+//!   refused: `src/fault.rt`, `specs/Faults.antt`
+//! - a line of a trace, a reply, a call with its reply, a change, a remark, a summary: `src/writer.rt`,
+//!   `src/reply_writer.rt`, `src/answer_writer.rt` (`specs/AnswerText.antt`), `src/custody_writer.rt`
+//!   (`specs/CustodyText.antt`), `src/remark_writer.rt` (`specs/RemarkText.antt`), `src/summary_writer.rt`
+//!   (`specs/SummaryText.antt`)
 #![tactic(auto)]
 
+mod answer_writer;
 mod custody_writer;
 mod fault;
 pub mod laws;
@@ -17,6 +20,7 @@ mod reply_writer;
 mod summary_writer;
 mod writer;
 
+pub use answer_writer::{LONGEST_ANSWER, push_answer};
 pub use custody_writer::{
     Digests, Heading, LONGEST_CHANGE, StartDigest, VERSION, push_change, push_custody_end,
     push_custody_header,

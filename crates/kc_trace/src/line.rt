@@ -4,11 +4,20 @@ ghost use Rattle.std.specs.Str.{bytes_eq};
 ghost use Rattle.kc_types.specs.declared.call.Call.TheVariants.{HostWrite};
 ghost use Rattle.kc_lines.specs.Words.{data_of};
 ghost use Rattle.kc_trace.specs.Spelling.{is_range_call, is_allowed_in};
+ghost use Rattle.kc_trace.specs.Redacting.{data_by, call_by};
 ghost use Rattle.kc_trace.specs.Reading.{one_word, with_one_number, with_two_numbers, with_three_numbers, with_four_numbers, read_guest_access, call_of};
 
-use kc_lines::{read_data, read_number, split_number, split_word};
-use kc_types::{Call, Version};
+use kc_lines::{read_blanked, read_data, read_number, split_number, split_word};
+use kc_types::{Call, Data, Version};
 use std::alloc::{AllocError, Global};
+
+/// What becomes of the bytes that a virtual processor writes: they are read, or they are only checked, and zeros take
+/// their place.
+#[derive(Clone, Copy)]
+pub(crate) enum GuestData {
+    Read,
+    Blanked,
+}
 
 /// Whether only texts of the second version may have the call.
 pub fn is_range_call(call: &Call) -> bool
@@ -194,20 +203,35 @@ fn read_host_write(
     }))
 }
 
+/// Reads the bytes that a virtual processor writes, or has zeros in their place.
+fn read_guest_data(
+    alloc: Global,
+    guests: GuestData,
+    word: &[u8],
+) -> Result<Option<Data>, AllocError>
+    ensures { IfOk result (λ found. found ≡ data_by guests (data_of word.now)) }
+{
+    match guests {
+        GuestData::Read => read_data(alloc, word),
+        GuestData::Blanked => read_blanked(alloc, word),
+    }
+}
+
 /// Reads four numbers, and a number or bytes.
 fn read_guest_access(
     alloc: Global,
+    guests: GuestData,
     name: &[u8],
     numbers: (Option<u32>, Option<u32>, Option<u32>, Option<u32>),
     last: &[u8],
 ) -> Result<Option<Call>, AllocError>
-    ensures { IfOk result (λ found. found ≡ option_and_then (λ a. option_and_then (λ b. option_and_then (λ c. option_and_then (λ d. read_guest_access name.now a b c d last.now) numbers.3) numbers.2) numbers.1) numbers.0) }
+    ensures { IfOk result (λ found. found ≡ call_by guests (option_and_then (λ a. option_and_then (λ b. option_and_then (λ c. option_and_then (λ d. read_guest_access name.now a b c d last.now) numbers.3) numbers.2) numbers.1) numbers.0)) }
 {
     let (Some(vm), Some(vcpu), Some(gfn), Some(offset)) = numbers else {
         return Ok(None);
     };
     if name == b"gwrite".as_slice() {
-        Ok(read_data(alloc, last)?.map(|data| Call::GuestWrite {
+        Ok(read_guest_data(alloc, guests, last)?.map(|data| Call::GuestWrite {
             vm,
             vcpu,
             gfn,
@@ -234,8 +258,12 @@ fn is_host_write(name: &[u8]) -> bool
 }
 
 /// Reads a line, without its newline, as a call. Each word is read once, as a number if it may be one.
-pub fn call_of_line(alloc: Global, line: &[u8]) -> Result<Option<Call>, AllocError>
-    ensures { IfOk result (λ found. found ≡ call_of line.now) }
+pub(crate) fn read_call(
+    alloc: Global,
+    guests: GuestData,
+    line: &[u8],
+) -> Result<Option<Call>, AllocError>
+    ensures { IfOk result (λ found. found ≡ call_by guests (call_of line.now)) }
 {
     let Some((name, rest)) = split_word(line) else {
         return Ok(read_one_word(line));
@@ -265,5 +293,12 @@ pub fn call_of_line(alloc: Global, line: &[u8]) -> Result<Option<Call>, AllocErr
     let None = split_word(rest) else {
         return Ok(None);
     };
-    read_guest_access(alloc, name, (first, second, third, fourth), rest)
+    read_guest_access(alloc, guests, name, (first, second, third, fourth), rest)
+}
+
+/// Reads a line, without its newline, as a call.
+pub fn call_of_line(alloc: Global, line: &[u8]) -> Result<Option<Call>, AllocError>
+    ensures { IfOk result (λ found. found ≡ call_of line.now) }
+{
+    read_call(alloc, GuestData::Read, line)
 }

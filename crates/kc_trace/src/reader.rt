@@ -4,10 +4,11 @@ ghost use Rattle.std.specs.Option.{option_to_list};
 ghost use Rattle.kc_types.specs.Limits.{call_limit};
 ghost use Rattle.kc_types.specs.declared.call.Call.{Call};
 ghost use Rattle.kc_trace.specs.Trace.{IsTrace, IsRefused};
+ghost use Rattle.kc_trace.specs.Redacting.{call_by, redacted_read, read_by};
 ghost use Rattle.kc_trace.specs.Machine.{Gives, Fails, start, longer, version_in, begins_header, begun, line_ended_by, line_ended, with_front, feed, fed, ended, reading, standing, call_of_kept, call_in, kept};
 
 use crate::fault::TraceFault;
-use crate::line::{call_of_line, is_allowed_in};
+use crate::line::{GuestData, is_allowed_in, read_call};
 use arrayvec::ArrayVec;
 use kc_lines::split_line;
 use kc_types::{CALL_LIMIT, Call, LINE_LIMIT, Version};
@@ -49,13 +50,13 @@ fn standing(version: Version, call: Option<Call>) -> Option<Call>
 }
 
 /// Reads a line as a call, if it is one.
-fn call_of_whole(alloc: Global, line: &[u8]) -> Result<Option<Call>, AllocError>
-    ensures { IfOk result (λ call. call ≡ call_of_kept (kept line.now)) }
+fn call_of_whole(alloc: Global, guests: GuestData, line: &[u8]) -> Result<Option<Call>, AllocError>
+    ensures { IfOk result (λ call. call ≡ call_by guests (call_of_kept (kept line.now))) }
 {
     if line.len() > LINE_LIMIT {
         return Ok(None);
     }
-    call_of_line(alloc, line)
+    read_call(alloc, guests, line)
 }
 
 /// The room for the calls in this many bytes: most lines have at least eight.
@@ -168,28 +169,35 @@ impl Progress {
 
     /// Reads a line as a call of a trace of this version, given its last bytes. It is read in place, unless it began in
     /// an earlier piece.
+    #[tactic(auto, using(crate::proofs::Redacting::standing_by))]
     fn call(
         &mut self,
         alloc: Global,
+        guests: GuestData,
         version: Version,
         last: &[u8],
     ) -> Result<Option<Call>, AllocError>
-        ensures call { IfOk result (λ call. call ≡ call_in version (longer self.old last.now).line) }
+        ensures call { IfOk result (λ call. call ≡ call_by guests (call_in version (longer self.old last.now).line)) }
         ensures others { self.new ≡ record self.old { line = self.new.line } }
     {
         if self.line.is_empty() && !self.is_too_long {
-            return Ok(standing(version, call_of_whole(alloc, last)?));
+            return Ok(standing(version, call_of_whole(alloc, guests, last)?));
         }
         self.push_each(last);
         if self.is_too_long {
             return Ok(None);
         }
-        Ok(standing(version, call_of_line(alloc, self.line.as_slice())?))
+        Ok(standing(version, read_call(alloc, guests, self.line.as_slice())?))
     }
 
     /// Takes the last bytes of a line, and gives the call that it is; the header is not a call.
-    fn end_line(&mut self, alloc: Global, last: &[u8]) -> Result<Option<Call>, TraceFault>
-        ensures { MatchResult result (λ call. line_ended (longer self.old last.now) ≡ Ok (self.new, option_to_list call)) (λ fault. Fails fault (line_ended (longer self.old last.now))) }
+    fn end_line(
+        &mut self,
+        alloc: Global,
+        guests: GuestData,
+        last: &[u8],
+    ) -> Result<Option<Call>, TraceFault>
+        ensures { MatchResult result (λ call. read_by guests (line_ended (longer self.old last.now)) ≡ Ok (self.new, option_to_list call)) (λ fault. Fails fault (read_by guests (line_ended (longer self.old last.now)))) }
     {
         let Some(version) = self.version else {
             self.end_header(last)?;
@@ -198,7 +206,7 @@ impl Progress {
         if self.calls >= CALL_LIMIT as u32 {
             return Err(TraceFault::TooManyCalls);
         }
-        let Some(call) = self.call(alloc, version, last)? else {
+        let Some(call) = self.call(alloc, guests, version, last)? else {
             return Err(TraceFault::BadLine(self.calls + 2));
         };
         self.calls += 1;
@@ -210,28 +218,34 @@ impl Progress {
     fn take_line<'a>(
         &mut self,
         alloc: Global,
+        guests: GuestData,
         bytes: &'a [u8],
     ) -> Result<(Option<Call>, &'a [u8]), TraceFault>
         requires some { 0 < length bytes.now }
         ensures less { IfOk result (λ taken. length taken.1.now < length bytes.now) }
-        ensures same { MatchResult result (λ taken. feed self.old bytes.now ≡ with_front (option_to_list taken.0) (feed self.new taken.1.now)) (λ fault. Fails fault (feed self.old bytes.now)) }
+        ensures same { MatchResult result (λ taken. read_by guests (feed self.old bytes.now) ≡ with_front (option_to_list taken.0) (read_by guests (feed self.new taken.1.now))) (λ fault. Fails fault (read_by guests (feed self.old bytes.now))) }
     {
         let Some((line, rest)) = split_line(bytes) else {
             self.begin(bytes)?;
             return Ok((None, &bytes[bytes.len()..]));
         };
-        let call = self.end_line(alloc, line)?;
+        let call = self.end_line(alloc, guests, line)?;
         Ok((call, rest))
     }
 
     /// Takes some bytes, and gives the calls that they end.
-    fn feed(mut self, alloc: Global, bytes: &[u8]) -> Result<(Progress, Vec<Call>), TraceFault>
-        ensures { Gives (λ fed. (fed.0, fed.1.items)) result (feed self bytes.now) }
+    fn feed(
+        mut self,
+        alloc: Global,
+        guests: GuestData,
+        bytes: &[u8],
+    ) -> Result<(Progress, Vec<Call>), TraceFault>
+        ensures { Gives (λ fed. (fed.0, fed.1.items)) result (read_by guests (feed self bytes.now)) }
     {
         let mut calls = Vec::with_capacity(alloc, room_for(bytes.len()))?;
         let mut rest = bytes;
         while !rest.is_empty() {
-            let (call, left) = self.take_line(alloc, rest)?;
+            let (call, left) = self.take_line(alloc, guests, rest)?;
             if let Some(call) = call {
                 calls.push(call)?;
             }
@@ -258,7 +272,7 @@ impl Progress {
 fn read_all(alloc: Global, text: &[u8]) -> Result<Vec<Call>, TraceFault>
     ensures { Gives (λ calls. calls.items) result (reading text.now) }
 {
-    let (progress, calls) = Progress::new().feed(alloc, text)?;
+    let (progress, calls) = Progress::new().feed(alloc, GuestData::Read, text)?;
     progress.end()?;
     Ok(calls)
 }
@@ -317,10 +331,36 @@ impl TraceReader {
         ensures fault { IfErr result (λ fault. fault ≢ TraceFault.Memory → self.new.fault ≡ Some fault) }
         ensures memory { result ≡ Err TraceFault.Memory → self.new ≡ self.old }
     {
+        self.read(alloc, GuestData::Read, piece)
+    }
+
+    /// Does what `feed` does, but gives calls with zeros in place of the bytes that virtual processors write: their
+    /// digits are only checked.
+    pub fn feed_redacted(&mut self, alloc: Global, piece: &[u8]) -> Result<Vec<Call>, TraceFault>
+        ensures answer { Gives (λ calls. (self.new.progress, calls.items)) result (redacted_read (fed self.old piece.now)) }
+        ensures ok { OnOk result (self.new.fault ≡ None) }
+        ensures fault { IfErr result (λ fault. fault ≢ TraceFault.Memory → self.new.fault ≡ Some fault) }
+        ensures memory { result ≡ Err TraceFault.Memory → self.new ≡ self.old }
+    {
+        self.read(alloc, GuestData::Blanked, piece)
+    }
+
+    /// Reads the calls whose lines this piece ends.
+    fn read(
+        &mut self,
+        alloc: Global,
+        guests: GuestData,
+        piece: &[u8],
+    ) -> Result<Vec<Call>, TraceFault>
+        ensures answer { Gives (λ calls. (self.new.progress, calls.items)) result (read_by guests (fed self.old piece.now)) }
+        ensures ok { OnOk result (self.new.fault ≡ None) }
+        ensures fault { IfErr result (λ fault. fault ≢ TraceFault.Memory → self.new.fault ≡ Some fault) }
+        ensures memory { result ≡ Err TraceFault.Memory → self.new ≡ self.old }
+    {
         if let Some(fault) = self.fault {
             return Err(fault);
         }
-        match self.progress.copy().feed(alloc, piece) {
+        match self.progress.copy().feed(alloc, guests, piece) {
             Ok((progress, calls)) => {
                 self.progress = progress;
                 Ok(calls)

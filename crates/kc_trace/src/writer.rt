@@ -74,8 +74,8 @@ fn push_four(text: &mut Vec<u8>, name: &str, first: u32, second: u32, third: u32
     push_number(text, fourth);
 }
 
-/// Appends the line of a call.
-fn push_line(text: &mut Vec<u8>, call: &Call)
+/// Appends the line of a call, without its newline.
+pub(crate) fn push_line(text: &mut Vec<u8>, call: &Call)
     requires { vec_len text.old + line_limit ≤ vec_capacity text.old }
     ensures items { text.new.items ≡ text.old.items ++ line_of call.now }
     ensures len { vec_len text.new ≤ vec_len text.old + line_limit }

@@ -226,6 +226,27 @@ impl<'a> Reading<'a> {
         }
     }
 
+    /// Says which line of the state that was compared is the first that differs, and shows it if it can be read again.
+    pub fn explain_difference(&self, rt: &HostRuntime, number: usize) {
+        // It may also be the one in which calls began, and was given back before that.
+        let mut states = self.files.iter();
+        let Some(file) = states.find(|file| matches!(file.kind, Kind::State | Kind::Compared))
+        else {
+            return;
+        };
+        let _ = eprintln!(rt; "  {file}: line {number} is the first that differs");
+        let again = match (&file.path, u32::try_from(number)) {
+            (Some(path), Ok(number)) if file.is_regular => line_again(rt, path.as_str(), number),
+            _ => None,
+        };
+        if let Some(finder) = again
+            && !finder.line().is_empty()
+        {
+            let line = shown(finder.line());
+            let _ = eprintln!(rt; "  {line}");
+        }
+    }
+
     /// Reads the trace again, if it is an ordinary file that was named.
     fn again(&self, rt: &HostRuntime) -> Option<Noted<Std<File>>> {
         match &self.input.path {

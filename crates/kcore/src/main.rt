@@ -79,6 +79,9 @@ fn run_with<'a, R: Threads + Wait + Sync>(
     progress.erase();
     if asked.explain {
         explain_exit(rt, &files, &input, &exit);
+        if let Some(line) = exit.difference {
+            Reading::of(&files, &input).explain_difference(rt, line);
+        }
     }
     if let Some(answered) = &exit.answered
         && (is_told || (asked.explain && answered.is_mostly_outside()))

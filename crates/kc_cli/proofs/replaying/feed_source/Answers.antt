@@ -1,10 +1,10 @@
 use Rattle.std.proofs.Common.{◌≡◌, ◌++◌, ◌∙◌, [], refl, rules}
-use Rattle.kc_cli.proofs.Fed.{fed_none, fed_more, still_whole, calls_known}
+use Rattle.kc_cli.proofs.Fed.{fed_none, fed_more, few_fed, kept_none, still_kept, still_whole, calls_known}
 use Rattle.kc_cli.proofs.replaying.feed_source.Goals as goal
 
 pub loop-replies-init : goal.loop-replies-init
 loop-replies-init g c = record {
-  read = ([], [], c.new-stream.ensures (g.T.Source.left c.args.trace.now), rw c.new-replies.ensures.items (fed_none _ c.requires.whole));
+  read = ([], [], c.new-stream.ensures (g.T.Source.left c.args.trace.now), rw c.new-replies.ensures.items (fed_none _ c.requires.whole), rw c.new-calls.ensures.items (kept_none c.args.form));
   few = search rules;
   mark = c.requires.trace;
   whole = c.requires.whole;
@@ -18,7 +18,13 @@ loop-replies-preserved g c =
     let fed = rw c.deref.ensures.value at c.in-Ok.ensures.fed in
     let grown : c.append.new.self.items ≡ c.loop-replies.replies.items ++ c.in-Ok.more.items = search rules in
     record {
-      read = (before.0 ++ more.0, before.1 ++ c.in_ok-part.part.calls.items, more.1, rw grown (fed_more _ _ _ before.1 c.in_ok-part.part.calls.items _ _ before.3 fed));
+      read = (
+        before.0 ++ more.0,
+        before.1 ++ c.in_ok-part.part.calls.items,
+        more.1,
+        rw grown (fed_more _ _ _ before.1 c.in_ok-part.part.calls.items _ _ before.3 fed),
+        rw c.in-Ok-keep.ensures (still_kept c.args.form c.loop-replies.calls.items before.1 c.in_ok-part.part.calls.items before.4),
+      );
       few = c.in_ok-part.ensures.few;
       mark = c.in_ok-part.ensures.mark;
       whole = still_whole _ _ _ _ fed;
@@ -32,4 +38,13 @@ returns-in-Ok-finish-clause-ok g c =
     let fed = rw c.deref.ensures.value at c.in-Ok.ensures.fed in
     let grown : c.append.new.self.items ≡ c.loop-replies.replies.items ++ c.in-Ok.more.items = search rules in
     let traced = c.in-Ok-finish.ensures.ok _ _ _ _ more.1 (c.in_ok-part.ensures.last c.if-part.true) in
-    calls_known _ _ _ (before.1 ++ c.in_ok-part.part.calls.items) _ traced (rw grown (fed_more _ _ _ before.1 c.in_ok-part.part.calls.items _ _ before.3 fed))
+    calls_known _ _ _ _ (before.1 ++ c.in_ok-part.part.calls.items) _ _ traced (rw grown (fed_more _ _ _ before.1 c.in_ok-part.part.calls.items _ _ before.3 fed))
+    (rw c.in-Ok-keep.ensures (still_kept c.args.form c.loop-replies.calls.items before.1 c.in_ok-part.part.calls.items before.4))
+
+pub returns-in-Ok-finish-clause-few : goal.returns-in-Ok-finish-clause-few
+returns-in-Ok-finish-clause-few g c =
+    let before = c.loop-replies.invariant.read in
+    let more = c.in_ok-part.ensures.calls before.0 before.1 (g.T.Source.left c.args.trace.now) before.2 in
+    let fed = rw c.deref.ensures.value at c.in-Ok.ensures.fed in
+    let grown : c.append.new.self.items ≡ c.loop-replies.replies.items ++ c.in-Ok.more.items = search rules in
+    rw grown (few_fed _ _ _ before.1 c.in_ok-part.part.calls.items _ _ before.3 fed more.1.few)

@@ -3,7 +3,7 @@ use Rattle.std.proofs.lemmas.Result.{err_from_is_err_and}
 use Rattle.kc_replay.specs.Replayer.{Replaying}
 use Rattle.kc_faults.proofs.Told.{texts_start, texts_trace}
 use Rattle.kc_cli.proofs.Fed.{replayed}
-use Rattle.kc_cli.proofs.Replayed.{are_replayed}
+use Rattle.kc_cli.proofs.Replayed.{are_replayed, answered_so}
 use Rattle.kc_cli.proofs.replaying.replay_texts.Goals as goal
 
 pub returns-in_err-core-clause-texts : goal.returns-in_err-core-clause-texts
@@ -13,10 +13,16 @@ returns-in_err-core-clause-texts g c =
 
 pub returns-in-Ok-finish-clause-ok : goal.returns-in-Ok-finish-clause-ok
 returns-in-Ok-finish-clause-ok g c =
-    let made =
-    replayed (g.T.Source.left c.args.trace.now) c.in_ok-core.core c.in-Ok.replayer c.feed_source.new.replayer c.in-Ok-feed_source.replies.items c.in-Ok-finish.core
-    c.in_ok-core.ensures.lawful (ap (λ (r : Replaying). r.state) c.in-Ok.ensures.start) c.in-Ok-finish.ensures.core c.in-Ok-feed_source.ensures.ok in
-    are_replayed c.args.order.origin (g.C.Source.left c.args.start.now) (g.T.Source.left c.args.trace.now) c.in_ok-core.core c.in-Ok-feed_source.replies.items c.in-Ok-finish.core c.in_ok-core.ensures.ok made
+    are_replayed _ _ _ _ c.in_ok-core.core _ _ _ c.in_ok-core.ensures.ok
+    (replayed _ _ c.in_ok-core.core c.in-Ok.replayer c.feed_source.new.replayer _ _ c.in-Ok-finish.core c.in_ok-core.ensures.lawful (ap (λ (r : Replaying). r.state) c.in-Ok.ensures.start) c.in-Ok-finish.ensures.core c.in-Ok-feed_source.ensures.ok)
+
+pub returns-in-Ok-finish-clause-answered : goal.returns-in-Ok-finish-clause-answered
+returns-in-Ok-finish-clause-answered g c =
+    let fed = c.in-Ok-feed_source.field-0 in
+    answered_so c.args.order.origin c.args.order.form _ _ fed.calls.items fed.replies.items c.in-Ok-finish.core _
+    (are_replayed _ _ _ _ c.in_ok-core.core fed.calls.items fed.replies.items _ c.in_ok-core.ensures.ok
+    (replayed _ _ c.in_ok-core.core c.in-Ok.replayer c.feed_source.new.replayer fed.calls.items fed.replies.items c.in-Ok-finish.core c.in_ok-core.ensures.lawful (ap (λ (r : Replaying). r.state) c.in-Ok.ensures.start) c.in-Ok-finish.ensures.core c.in-Ok-feed_source.ensures.ok))
+    (rw c.deref.ensures.value at c.of-answered.ensures)
 
 pub returns-in-Err-clause-texts : goal.returns-in-Err-clause-texts
 returns-in-Err-clause-texts g c =

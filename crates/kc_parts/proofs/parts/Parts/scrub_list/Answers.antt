@@ -1,10 +1,27 @@
-use Rattle.std.proofs.Common.{◌+◌, ◌-◌, sym, ap, ◌∙◌, arith}
-use Rattle.kc_links.specs.Chain.{spelled}
+use Rattle.std.proofs.Common.{ℕ, zero, suc, ◌≡◌, ◌+◌, ◌-◌, [], ◌∷◌, Option, Some, None, refl, sym, ap, ◌∙◌, arith}
+use Rattle.kc_types.specs.declared.link.Ends.{Ends}
+use Rattle.kc_links.specs.Chain.{Links, spelled, next_of}
+use Rattle.kc_links.specs.Ending.{listed}
 use Rattle.kc_parts.specs.Parts.{Held, links_of}
 use Rattle.kc_parts.specs.Emptying.{with_scrubbed, all_scrubbed}
-use Rattle.kc_parts.proofs.Emptied.{walk-step, walk-none, walk-listed}
+use Rattle.kc_parts.proofs.Emptied.{scrubbing}
 use Rattle.kc_parts.proofs.parts.Parts.scrub_list.Goals.{in-Some, in_default}
 use Rattle.kc_parts.proofs.parts.Parts.scrub_list.Goals as goal
+
+-- what a walk of a list scrubs, step by step
+walk-none : (h : Held) (n : ℕ) → all_scrubbed h (spelled (links_of h) n None) ≡ h
+walk-none h zero = refl
+walk-none h (suc n) = refl
+
+walk-step : (h : Held) (n left f : ℕ) → left ≡ suc n
+    → all_scrubbed (with_scrubbed h f) (spelled (links_of (with_scrubbed h f)) n (next_of (links_of h f))) ≡ all_scrubbed h (spelled (links_of h) left (Some f))
+walk-step h n left f is = rw is (ap (λ (links : Links). all_scrubbed (with_scrubbed h f) (spelled links n (next_of (links_of h f)))) (scrubbing h (f ∷ [])).links)
+
+-- at its end all are scrubbed
+walk-listed : (old new : Held) (ends : Ends) (left : ℕ) (at : Option ℕ) → left ≡ 0
+    → all_scrubbed new (spelled (links_of new) left at) ≡ all_scrubbed old (spelled (links_of old) ends.count ends.head) → new ≡ all_scrubbed old (listed (links_of old) ends)
+unfolding listed
+walk-listed old new ends left at none walked = ap (λ n. all_scrubbed new (spelled (links_of new) n at)) (sym none) ∙ walked
 
 pub loop-preserved : goal.loop-preserved
 loop-preserved c =

@@ -1,0 +1,22 @@
+use Rattle.std.proofs.Common.{◌≡◌, ◌∙◌, ℕ, cond, List, [], ◌∷◌, length, Some, None, refl, ap, sym, arith}
+use Rattle.std.proofs.lemmas.Bool.{eqb-true}
+use Rattle.kc_trace.specs.Machine.{Progress, kept, longer_line, call_of_kept, call_in, standing}
+use Rattle.kc_trace.specs.Redacting.{call_by}
+use Rattle.kc_trace.proofs.Redacting.{standing_by}
+use Rattle.kc_trace.proofs.reader.Progress.call.Goals as goal
+
+-- nothing of the line came before
+whole : (line last : List ℕ) → length line ≡ 0 → longer_line (Some line) last ≡ kept last
+whole [] last none = refl
+whole (byte ∷ line) last none = absurd (omega arith)
+
+pub returns-then-not-self-clause-call : goal.returns-then-not-self-clause-call
+returns-then-not-self-clause-call c =
+    let last = c.args.last.now in
+    let guests = c.args.guests in
+    let version = c.args.version in
+    let line = c.self.inside.line.items in
+    let seen : longer_line c.args.self.now.line last ≡ longer_line (Some line) last =
+    ap (λ (p : Progress). longer_line p.line last) (sym c.self.view_is) ∙ ap (λ too_long. longer_line (cond too_long None (Some line)) last) c.if-not-self.true in
+    let same = seen ∙ whole line last (eqb-true _ _ (sym c.is_empty.ensures ∙ c.if-is_empty.true)) in
+    c.standing.ensures ∙ ap (standing version) c.in_ok-call_of_whole.ensures ∙ standing_by guests version (call_of_kept (kept last)) ∙ ap (λ read. call_by guests (call_in version read)) (sym same)
