@@ -7,6 +7,7 @@
 #include <malloc.h>
 #include <pthread.h>
 #include <stdatomic.h>
+#include <stdint.h>
 #include <stdio.h>
 #include <stdlib.h>
 #include <string.h>
@@ -77,17 +78,36 @@ __attribute__((constructor)) static void know_secret(void) {
  * come so in pages and in the texts of states alone. Where one does, the trace's text has them in digits, which are passed
  * over then. */
 static int found(char *from, char *end) {
-    if (!front) return 0;
+    if (!front || from == end) return 0;
     int of_digits = asked("PASS_DIGITS") ? 0 : pairs(from, end, front_digits, back_digits);
     return of_digits + pairs(from, end, front, back);
 }
 
 static int found_in(char *block) { return block ? found(block, block + malloc_usable_size(block)) : 0; }
 
+/* The same in memory with no file behind it, of which pagemap says with two bits of each page whether it is there or swapped
+ * out. A page that is neither was never written to, so that all of it is zero, which no part of the secret is. */
+static int found_in_pages(char *from, char *end, int pagemap) {
+    uint64_t entries[512];
+    int count = 0;
+    char *begun = from;
+    while (from < end) {
+        size_t pages = (end - from) / 4096 < 512 ? (end - from) / 4096 : 512;
+        ssize_t size = pages * sizeof *entries;
+        if (syscall(SYS_pread64, pagemap, entries, size, (uintptr_t)from / 4096 * sizeof *entries) != size) break;
+        for (size_t at = 0; at < pages; at++, from += 4096) {
+            if (entries[at] >> 62) continue;
+            count += found(begun, from);
+            begun = from + 4096;
+        }
+    }
+    return count + found(begun, end);
+}
+
 /* How often it is in memory. */
 static int secrets(void) {
     static char maps[65536];
-    int count = 0, file = front ? open("/proc/self/maps", O_RDONLY) : -1;
+    int count = 0, file = front ? open("/proc/self/maps", O_RDONLY) : -1, pagemap = open("/proc/self/pagemap", O_RDONLY);
     size_t length = 0;
     if (file >= 0) {
         for (ssize_t more; (more = syscall(SYS_read, file, maps + length, sizeof maps - 1 - length)) > 0;) length += more;
@@ -96,10 +116,12 @@ static int secrets(void) {
     maps[length] = 0;
     for (char *line = strtok(maps, "\n"); line; line = strtok(NULL, "\n")) {
         char *from, *end, rights[5];
-        if (sscanf(line, "%p-%p %4s", (void **)&from, (void **)&end, rights) != 3) continue;
+        unsigned long inode;
+        if (sscanf(line, "%p-%p %4s %*s %*s %lu", (void **)&from, (void **)&end, rights, &inode) != 4) continue;
         if (rights[0] != 'r' || rights[1] != 'w') continue;
-        count += found(from, end);
+        count += pagemap < 0 || inode ? found(from, end) : found_in_pages(from, end, pagemap);
     }
+    if (pagemap >= 0) close(pagemap);
     return count;
 }
 

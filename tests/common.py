@@ -12,9 +12,14 @@ PLANNER = os.environ.get("PLAN_LISTER") or str(TOP / "crates" / "plan_lister" / 
 HAS_PLANNER = os.access(PLANNER, os.X_OK)
 
 
+# Large pages, as bin/kcore asks for them, which only cost or save time.
+LARGE_PAGES = {"GLIBC_TUNABLES": "glibc.malloc.hugetlb=1"}
+
+
 def run(words, text, program=PROGRAM):
     """Runs the program on a text: its status, what it wrote, and its standard error."""
-    ran = subprocess.run([program, *words], input=text.encode(), stdout=subprocess.PIPE, stderr=subprocess.PIPE)
+    how = {"stdout": subprocess.PIPE, "stderr": subprocess.PIPE, "env": os.environ | LARGE_PAGES}
+    ran = subprocess.run([program, *words], input=text.encode(), **how)
     return ran.returncode, ran.stdout.decode(), ran.stderr.decode()
 
 

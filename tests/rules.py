@@ -58,11 +58,23 @@ class Refused(Exception):
     pass
 
 
+# A page to which nothing was written, and its digest.
+ZERO_PAGE = bytes(PAGE)
+ZEROS = hashlib.sha256(ZERO_PAGE).hexdigest()
+
+
+def digest_of_page(page):
+    return ZEROS if page == ZERO_PAGE else hashlib.sha256(page).hexdigest()
+
+
 class Frame:
     __slots__ = "owner", "share", "gfn", "present", "page"
 
     def __init__(self, owner):
-        self.owner, self.share, self.gfn, self.present, self.page = owner, 0, None, False, bytearray(PAGE)
+        self.owner, self.share, self.gfn, self.present, self.page = owner, 0, None, False, ZERO_PAGE
+
+    def write(self, offset, data):
+        self.page = self.page[:offset] + data + self.page[offset + len(data):]
 
 
 class Slot:
@@ -71,7 +83,7 @@ class Slot:
 
 
 class Life:
-    """What a summary tells of a VM, from the call that registers it on."""
+    """What a summary reports of a VM, from the call that registers it on, or from the header's line."""
 
     def __init__(self, v, line):
         self.told = {"vm": v, "registered": line, "active": None, "dead": None, "cleared": None, "images": []}
@@ -100,6 +112,54 @@ class Life:
         for f in sorted(set(shared) - self.open.keys()):
             self.open[f] = {"frame": f, "gfn": gfns[f], "from": line, "to": None}
             self.told["shared"].append(self.open[f])
+
+
+class Lives:
+    """The lives of VMs through calls on a core, in the order in which they begin: first those that are under way, which
+    have the header's line. After each call the frames that each VM has, and shares, are looked at."""
+
+    def __init__(self, core):
+        self.core, self.lives = core, []
+        for v, slot in enumerate(core.slots):
+            if slot.phase != "empty":
+                self.lives.append(Life(v, 1))
+                self.lives[-1].told |= {slot.phase: 1} if slot.phase != "booting" else {}
+        self.look(1, self.current())
+
+    def current(self):
+        """Of each slot the life that is not over, if any."""
+        return {life.told["vm"]: life for life in self.lives if life.told["cleared"] is None}
+
+    def look(self, number, current):
+        for v, life in current.items():
+            slot = self.core.slots[v]
+            life.look(number, slot.table)
+            life.look_at_shares(number, slot.table, [f for f in slot.list if self.core.frames[f].share > 0])
+
+    def note(self, number, line, reply):
+        """Notes the call on a line, which the core has answered so."""
+        name, *words = line.split(" ")
+        at = int(words[0]) if words else 0
+        frames = self.core.frames
+        is_served = not reply.startswith(("refused", "fault"))
+        if is_served and name == "regvm":
+            self.lives.append(Life(at, number))
+        current = self.current()
+        if is_served and name == "verify":
+            current[at].told["active" if reply == "done" else "dead"] = number
+            current[at].told["images"] = [image_of(*image) for image in self.core.measured(at)]
+        # A refused call changes nothing.
+        f = self.core.named(line)[1] if reply.startswith("refused") else None
+        if f is not None and frames[f].owner in current:
+            current[frames[f].owner].refuse(reply.split(" ")[1])
+        if is_served and name in ("hread", "hwrite") and frames[at].owner in current:
+            current[frames[at].owner].told["reads" if name == "hread" else "writes"] += 1
+        self.look(number, current)
+        if is_served and name == "clear":
+            current[at].told["cleared"] = number
+
+    def told(self):
+        return [life.told for life in self.lives]
 
 
 def pages_of(length):
@@ -212,7 +272,7 @@ class Core:
     def hwrite(self, f, offset, data):
         data = bytes.fromhex(data)
         ask(self.bad_frame(f), self.bad_range(offset, len(data)), self.not_present(f))
-        self.frames[f].page[offset:offset + len(data)] = data
+        self.frames[f].write(offset, data)
         return "done"
 
     def regvm(self, v):
@@ -255,7 +315,7 @@ class Core:
                 return f"rejected {i}"
         for base, length, pages in slot.images:
             past = pages * PAGE - length
-            self.at(v, base + pages - 1).page[PAGE - past:] = bytes(past)
+            self.at(v, base + pages - 1).write(PAGE - past, bytes(past))
         slot.phase = "active"
         return "done"
 
@@ -277,22 +337,22 @@ class Core:
 
     # A virtual processor's calls.
     def reach(self, v, c, g, offset, length):
-        """The page at a guest frame; none where it is not mapped, and then the virtual processor waits for it."""
+        """The frame at a guest frame; none where it is not mapped, and then the virtual processor waits for it."""
         ask(self.bad_vm(v), self.bad_vcpu(c), self.bad_gfn(g), self.bad_range(offset, length), *self.guest(v, c))
         is_mapped = g in self.slots[v].table
         self.slots[v].vcpus[c] = None if is_mapped else g
-        return self.at(v, g).page if is_mapped else None
+        return self.at(v, g) if is_mapped else None
 
     def gread(self, v, c, g, offset, length):
-        page = self.reach(v, c, g, offset, length)
-        return f"fault {g}" if page is None else f"data {page[offset:offset + length].hex()}"
+        frame = self.reach(v, c, g, offset, length)
+        return f"fault {g}" if frame is None else f"data {frame.page[offset:offset + length].hex()}"
 
     def gwrite(self, v, c, g, offset, data):
         data = bytes.fromhex(data)
-        page = self.reach(v, c, g, offset, len(data))
-        if page is None:
+        frame = self.reach(v, c, g, offset, len(data))
+        if frame is None:
             return f"fault {g}"
-        page[offset:offset + len(data)] = data
+        frame.write(offset, data)
         return "done"
 
     def grant(self, v, c, g):
@@ -362,8 +422,8 @@ class Core:
 
     def turned(self, number, before, after, images):
         """What is told of the slots whose phase a call turns, and which measured these images."""
-        told = []
-        for v, (old, new) in enumerate(zip(before, after)):
+        told, differing = [], enumerate(zip(before, after)) if before != after else ()
+        for v, (old, new) in differing:
             if old != new:
                 measured = [image_of(*image) for image in images] if new in ("active", "dead") else []
                 told.append(((v,), {"line": number, "vm": v, "phase": new, "images": measured}))
@@ -403,34 +463,11 @@ class Core:
         return remarks
 
     def lives(self, lines):
-        """The lives of VMs through these calls of a trace, in the order of registering; after each call the frames that
-        each VM has, and shares, are looked at."""
-        lives = []
+        """The lives of VMs through these calls of a trace, in the order in which they begin."""
+        lives = Lives(self)
         for number, line in enumerate(lines, 2):
-            name, *words = line.split(" ")
-            at = int(words[0]) if words else 0
-            reply = self.answer(line)
-            is_served = not reply.startswith(("refused", "fault"))
-            if is_served and name == "regvm":
-                lives.append(Life(at, number))
-            # Of a slot the last one is not over, if any.
-            current = {life.told["vm"]: life for life in lives if life.told["cleared"] is None}
-            if is_served and name == "verify":
-                current[at].told["active" if reply == "done" else "dead"] = number
-                current[at].told["images"] = [image_of(*image) for image in self.measured(at)]
-            # A refused call changes nothing.
-            f = self.named(line)[1] if reply.startswith("refused") else None
-            if f is not None and self.frames[f].owner in current:
-                current[self.frames[f].owner].refuse(reply.split(" ")[1])
-            if is_served and name in ("hread", "hwrite") and self.frames[at].owner in current:
-                current[self.frames[at].owner].told["reads" if name == "hread" else "writes"] += 1
-            for v, life in current.items():
-                life.look(number, self.slots[v].table)
-                shared = [f for f in self.slots[v].list if self.frames[f].share > 0]
-                life.look_at_shares(number, self.slots[v].table, shared)
-            if is_served and name == "clear":
-                current[at].told["cleared"] = number
-        return [life.told for life in lives]
+            lives.note(number, line, self.answer(line))
+        return lives.told()
 
     def text(self, kind, calls, counted, lines, named=None, is_unseen=False):
         """The text of what is reported of calls, of which the number is given and how many were denied, its first line
@@ -468,9 +505,8 @@ class Core:
             before.update(zip(frames[1:], frames))
             behind.update(zip(frames, frames[1:]))
         for f, frame in enumerate(self.frames):
-            digest = hashlib.sha256(frame.page).hexdigest()
             links = dash(before.get(f)), dash(behind.get(f))
-            words = [f, frame.owner, frame.share, dash(frame.gfn), int(frame.present), *links, digest]
+            words = [f, frame.owner, frame.share, dash(frame.gfn), int(frame.present), *links, digest_of_page(frame.page)]
             lines.append(" ".join(map(str, ["frame", *words])))
         return "\n".join(lines) + "\n"
 

@@ -1,15 +1,12 @@
 """The text of a state, written out once more in another language: how one is written, and why a text is none.
 
 What is written is asked of a core of rules.py. What is wrong with a text is the first that applies, as kcore says it."""
-import hashlib
 import operator
 import re
 
-from rules import FRAMES, GUEST_FRAMES, IMAGE_BYTES, LEAF, PAGE, SHARES, SLOTS
+from rules import FRAMES, GUEST_FRAMES, IMAGE_BYTES, LEAF, PAGE, SHARES, SLOTS, ZERO_PAGE, ZEROS, digest_of_page
 
 VCPUS, IMAGES, LEAVES, DIGESTS = 8, 4, 64, 64
-ZERO_PAGE = bytes(PAGE)
-ZEROS = hashlib.sha256(ZERO_PAGE).hexdigest()
 DIGEST, DIGITS = re.compile("[0-9a-f]{64}"), re.compile("[0-9a-f]{%d}" % (2 * PAGE))
 NUMERAL = re.compile("0|[1-9][0-9]{0,9}")
 PHASES, OWNERS = ("empty", "booting", "active", "dead"), ("core", "host", "free")
@@ -267,10 +264,6 @@ def is_slot(told, v):
         spans.append((base, base + most))
     held = {g for base, _, pages in images for g in range(base, base + pages)}
     return phase != "booting" or held == {g for g, _ in told.entries[v]}
-
-
-def digest_of_page(page):
-    return ZEROS if page == ZERO_PAGE else hashlib.sha256(page).hexdigest()
 
 
 def is_frame(told, f):

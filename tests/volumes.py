@@ -8,7 +8,7 @@ import re
 
 import calls
 from common import run
-from rules import PAGE, REMARKS, Core, denied_in, lines_text, noted, warning_of
+from rules import PAGE, REMARKS, Core, Lives, denied_in, lines_text, noted, warning_of
 from states import blanked, fault_of, state_text
 
 WORKERS = (1, 2, 64)
@@ -23,18 +23,22 @@ WORDS += ["active", "booting", "host", "free"]
 
 class Volume:
     """Some calls in order with their replies and what custody reports of them, alone and with what was refused and
-    served, and the texts of the states before and after them, as the rules have them."""
+    served, their summary, and the texts of the states before and after them, as the rules have them."""
 
     def __init__(self, core, lines, told, remarks, before):
         self.lines, self.before = lines, before
         # Each without the bytes of guests and the host's in active VMs' frames, as they are when it is made.
-        made = [(core.redacted(line), core.answer(line)) for line in lines]
-        answers = [reply for _, reply in made]
-        self.hidden, self.replies = [line for line, _ in made], "".join(f"{reply}\n" for reply in answers)
+        self.hidden, answers, lives = [], [], Lives(core)
+        for number, line in enumerate(lines, 2):
+            self.hidden.append(core.redacted(line))
+            answers.append(core.answer(line))
+            lives.note(number, line, answers[-1])
+        self.replies = "".join(f"{reply}\n" for reply in answers)
         self.answered, self.warning = lines_text(lines, answers), warning_of(answers)
         calls = len(lines), denied_in(remarks)
         self.custody = [([], core.custody_text(calls, told))]
         self.custody.append((list(REMARKS), core.custody_text(calls, noted(told, remarks, REMARKS))))
+        self.custody.append((["--summary"], core.summary_text(calls, lives.told())))
         self.behind = state_text(core)
         self.dump = self.behind[self.behind.index("kcore-dump "):]
 

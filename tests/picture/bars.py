@@ -1,4 +1,5 @@
 """The bars of a picture: all that the rules say and no other, their looks and their names."""
+import collections
 import re
 
 from picture.case import Case
@@ -66,11 +67,14 @@ class Bars(Case):
 
     def try_names(self):
         """Words within a bar name its owner, and are read on what is below them."""
-        boxes = [(self.picture.titles[title_of(it)][0].box, it) for it in self.bars]
-        for it in self.picture.texts:
+        rows = collections.defaultdict(list)
+        for it in self.bars:
+            left, top, right, bottom = self.picture.titles[title_of(it)][0].box
+            rows[top, bottom].append((left, right, it))
+        for it in [it for it in self.picture.texts if it.element.get("text-anchor") == "start"]:
             x, y = number(it.element, "x"), number(it.element, "y")
-            mine = [bar for (left, top, right, bottom), bar in boxes if left < x < right and top < y < bottom]
-            for bar in mine if it.element.get("text-anchor") == "start" else []:
+            boxes = [box for (top, bottom), row in rows.items() if top < y < bottom for box in row]
+            for bar in [bar for left, right, bar in boxes if left < x < right]:
                 names = {bar.owner} if isinstance(bar.owner, str) else set()
                 names |= {f"vm {bar.owner} @{bar.gfn}{' shared' if bar.share else ''}"}
                 names |= {"shared"} if bar.share else set()

@@ -66,7 +66,9 @@ class Case:
         frames, slots = self.config["frames"], {it.vm for it in self.told.lives}
         alone = "" if self.vm is None else f": vm {self.vm} alone"
         title = f"Custody of {count_of(frames, 'frame')} of 4,096 bytes through {count_of(self.calls, 'call')}, "
-        title += f"{count_of(len(slots), 'VM')}{alone}"
+        earlier = {it.vm for it in self.told.lives if it.registered == 1}
+        there = f", {len(earlier)} of them there before the first call" if earlier else ""
+        title += f"{count_of(len(slots), 'VM')}{there}{alone}"
         want(self.picture.root[0].text == title, f"its title is {self.picture.root[0].text}")
         wanted = [title, self.heading_of_frames()]
         if self.lives:

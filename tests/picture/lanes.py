@@ -76,6 +76,8 @@ class Lanes(Case):
         """The marks of dead VMs in a lane: the lines of the first and the last of each, and its shape."""
         found = []
         for title, shapes in self.picture.titles.items():
+            if not title.startswith(f"vm {vm}"):
+                continue
             one = re.fullmatch(rf"vm {vm} measured and dead at line (\d+)", title)
             more = re.fullmatch(rf"vm {vm}: (\d+) measured and dead, lines (\d+) to (\d+)", title)
             if one or more:
@@ -87,7 +89,7 @@ class Lanes(Case):
     def try_deaths(self):
         """Each boot that was rejected has a mark, the loudest: in its own colour, wider, higher, above all else."""
         for vm, lives in self.lives.items():
-            lines = [it.dead for it in lives if it.dead]
+            lines = [it.dead for it in lives if it.dead and it.dead > 1]
             for first, last, count, shape in self.deaths_of(vm):
                 mine, lines = lines[:count], lines[count:]
                 want([first, last] == [*mine[:1], *mine[-1:]], f"{count} dead from line {first} to {last}: {mine}")
@@ -127,7 +129,7 @@ class Lanes(Case):
             words = sorted(self.words_in(vm), key=lambda it: it[2])
             want(all(one[3] <= other[2] for one, other in zip(words, words[1:])), f"words above vm {vm} meet")
             deaths = [self.x(first) for first, *_ in self.deaths_of(vm)]
-            marks = {"dead": deaths, "active": [self.x(it.active) for it in lives if it.active]}
+            marks = {"dead": deaths, "active": [self.x(it.active) for it in lives if it.active and it.active > 1]}
             for it, at, *_ in words:
                 text, looks = it.element.text, (it.element.get("font-weight"), it.element.get("fill"))
                 want(any(is_near(at, x) for x in marks[text]), f"'{text}' is beside no such mark of vm {vm}, at {at}")

@@ -6,6 +6,8 @@ import xml.etree.ElementTree
 ELEMENTS = {"svg", "title", "defs", "pattern", "g", "rect", "path", "text"}
 NUMBERS_OF = {"M": 2, "L": 2, "H": 1, "V": 1, "Z": 0}
 LOOKS = ("fill", "stroke", "stroke-width", "stroke-linecap")
+STEPS, NUMBERS = re.compile("([MLHVZmlhvz])([^MLHVZmlhvz]*)"), re.compile("-?[0-9.]+")
+LINKS = re.compile(r"url\((.*?)\)")
 Shape = collections.namedtuple("Shape", "kind box looks title element")
 
 
@@ -69,7 +71,7 @@ class Picture:
             want(name_of(it) in ELEMENTS, f"it has a {it.tag}")
             for key, value in it.items():
                 want(not key.startswith("on") and "href" not in key, f"it has {key}")
-                linked = re.findall(r"url\((.*?)\)", value)
+                linked = LINKS.findall(value)
                 want(all(name[:1] == "#" and name[1:] in names for name in linked), f"it has {value}")
         for it in self.shapes:
             left, top, right, bottom = it.box
@@ -93,8 +95,8 @@ def box_of_text(it):
 def steps_of(path):
     """Where each step of a path of straight lines begins and ends, and its command."""
     x = y = 0.0
-    for command, words in re.findall(r"([MLHVZmlhvz])([^MLHVZmlhvz]*)", path):
-        numbers = [float(word) for word in re.findall(r"-?[0-9.]+", words)]
+    for command, words in STEPS.findall(path):
+        numbers = [float(word) for word in NUMBERS.findall(words)]
         want(len(numbers) == NUMBERS_OF[command.upper()], f"a path has {command}{words}")
         begin, origin = (x, y), (x, y) if command.islower() else (0, 0)
         if command in "MmLl":

@@ -11,7 +11,8 @@ Step = collections.namedtuple("Step", "line frames shared")
 
 @dataclasses.dataclass
 class Life:
-    """A life of a VM, by the lines of the calls that registered, measured and cleared it."""
+    """A life of a VM, by the lines of the calls that registered, measured and cleared it; line 1, the header's, is that
+    of what came before the first call."""
 
     vm: int
     registered: int
@@ -20,16 +21,16 @@ class Life:
     cleared: int = None
 
     def ticks(self):
-        """The titles of its marks, but that of a dead VM."""
-        yield f"vm {self.vm} registered at line {self.registered}"
-        yield from [f"vm {self.vm} measured and active at line {self.active}"] * bool(self.active)
-        yield from [f"vm {self.vm} cleared at line {self.cleared}"] * bool(self.cleared)
+        """The titles of its marks, but that of a dead VM, and none of what came before the first call."""
+        turns = ("registered", self.registered), ("measured and active", self.active), ("cleared", self.cleared)
+        yield from [f"vm {self.vm} {turn} at line {line}" for turn, line in turns if line and line > 1]
 
     def title(self):
-        measured = f"measured and {'active' if self.active else 'dead'} from line {self.active or self.dead}"
-        said = measured if self.active or self.dead else "never measured"
+        begun = "there before the first call" if self.registered == 1 else f"registered at line {self.registered}"
+        line, phase = self.active or self.dead, "active" if self.active else "dead"
+        said = (phase if line == 1 else f"measured and {phase} from line {line}") if line else "never measured"
         end = f"cleared at line {self.cleared}" if self.cleared else "there at the end"
-        return f"vm {self.vm}: registered at line {self.registered}, {said}, {end}"
+        return f"vm {self.vm}: {begun}, {said}, {end}"
 
 
 def title_of(bar):
@@ -39,15 +40,26 @@ def title_of(bar):
     return f"frame {bar.frame}, lines {bar.first} to {bar.last}: {owner}{grants}{reached}"
 
 
-class Told:
-    """Makes the calls of a trace, and keeps what a picture has to show of them."""
+def core_after(config, lines):
+    core = rules.Core(config)
+    for line in lines:
+        core.answer(line)
+    return core
 
-    def __init__(self, config, lines):
+
+class Told:
+    """Makes the calls of a trace, perhaps after others, and keeps what a picture has to show of them."""
+
+    def __init__(self, config, lines, before=()):
         self.config, self.calls, self.last = config, len(lines), len(lines) + 1
         self.bars, self.lives, self.steps = [], [], collections.defaultdict(list)
-        self.core = rules.Core(config)
+        self.core, self.counts = core_after(config, before), collections.Counter()
         self.begun = [(1, self.custody(frame)) for frame in range(config["frames"])]
-        self.counts = collections.Counter()
+        for vm, slot in enumerate(self.core.slots):
+            if slot.phase != "empty":
+                self.lives.append(Life(vm, 1, **({slot.phase: 1} if slot.phase != "booting" else {})))
+        for _, custody in self.begun:
+            self.count(1, custody, 1)
         for line, call in enumerate(lines, 2):
             self.make(line, call)
         for frame, (first, custody) in enumerate(self.begun):
@@ -70,22 +82,26 @@ class Told:
             seen = {int(reply.split(" ")[1])} if name == "take" and "frame" in reply else {at} - {len(self.begun)}
         else:
             seen |= set(self.frames_of(at))
-        for frame in sorted(it for it in seen if it < len(self.begun)):
-            self.look(line, frame)
+        exist = (it for it in seen if it < len(self.begun))
+        for frame in sorted(it for it in exist if self.custody(it) != self.begun[it][1]):
+            self.turn(line, frame)
         self.live(line, name, at, reply)
 
-    def look(self, line, frame):
+    def turn(self, line, frame):
         """Ends the bar of a frame whose custody has changed, and counts it."""
         (first, before), now = self.begun[frame], self.custody(frame)
-        if now == before:
-            return
         self.bars.append(Bar(frame, first, line - 1, *before))
         self.begun[frame] = line, now
-        for (owner, _, share, _), more in ((before, -1), (now, 1)):
-            if isinstance(owner, int):
-                self.counts[owner, "all"] += more
-                self.counts[owner, "shared"] += more * (share > 0)
-                self.steps[owner].append(Step(line, self.counts[owner, "all"], self.counts[owner, "shared"]))
+        self.count(line, before, -1)
+        self.count(line, now, 1)
+
+    def count(self, line, custody, more):
+        """Counts a frame of this custody as one more or one fewer of its VM's, if it is a VM's."""
+        owner, _, share, _ = custody
+        if isinstance(owner, int):
+            self.counts[owner, "all"] += more
+            self.counts[owner, "shared"] += more * (share > 0)
+            self.steps[owner].append(Step(line, self.counts[owner, "all"], self.counts[owner, "shared"]))
 
     def live(self, line, name, vm, reply):
         """Keeps what a call says of a life."""
@@ -112,17 +128,21 @@ class Reported:
     """What the lines of `custody --refused --accesses --vm V` say: a bar for each stretch in which a frame is the VM's,
     in the order in which they begin, and the lines of what was refused and served."""
 
-    def __init__(self, config, lines, vm):
-        told, remarks, last = rules.Core(config).custody(lines)[1], rules.Core(config).remarks(lines), len(lines) + 1
-        self.remarks = [line for _, vms, line in remarks if vm in vms]
+    def __init__(self, config, lines, vm, before=()):
+        core, last = core_after(config, before), len(lines) + 1
         begun, bars = {}, []
+        for frame, it in enumerate(core.frames):
+            if it.owner == vm:
+                begun[frame] = 1, rules.custody_of(it.owner, it.gfn, it.share, it.present)
+        told, remarks = core.custody(lines)[1], core_after(config, before).remarks(lines)
+        self.remarks = [line for _, vms, line in remarks if vm in vms]
         for line in (it for vms, it in told if vm in vms and "frame" in it):
             if line["frame"] in begun:
                 bars.append(self.bar(vm, line["frame"], *begun.pop(line["frame"]), line["line"] - 1))
             if line["to"]["owner"] == f"vm{vm}":
                 begun[line["frame"]] = line["line"], line["to"]
         bars += [self.bar(vm, frame, *it, last) for frame, it in begun.items()]
-        self.bars = sorted(bars, key=lambda it: it.first)
+        self.bars = sorted(bars, key=lambda it: (it.first, it.frame))
 
     @staticmethod
     def bar(vm, frame, first, custody, last):

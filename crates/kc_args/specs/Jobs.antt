@@ -13,8 +13,6 @@ use Rattle.kc_cli.specs.declared.account.Named.TheVariants as names
 use Rattle.kc_cli.specs.declared.account.Scope.{Scope}
 use Rattle.kc_args.specs.declared.job.Start.{Start}
 use Rattle.kc_args.specs.declared.job.Start.TheVariants as starts
-use Rattle.kc_args.specs.declared.job.Account.{Account}
-use Rattle.kc_args.specs.declared.job.Account.TheVariants as accounts
 use Rattle.kc_args.specs.declared.job.Action.{Action}
 use Rattle.kc_args.specs.declared.job.Action.TheVariants as actions
 use Rattle.kc_args.specs.declared.job.Job.{Job}
@@ -43,28 +41,26 @@ replay_form lines true true = Err clashes.DumpState
 replay_form true true false = Err clashes.LinesDump
 replay_form true false true = Err clashes.LinesState
 
--- a summary and a picture have no remarks, by `--refused` and `--accesses`, and begin at boot
-abbrev pub summary_of : Bool → Bool → Start → Result Account Clash
-summary_of true accesses start = Err clashes.SummaryRefused
-summary_of false true start = Err clashes.SummaryAccesses
-summary_of false false (starts.Boot config) = Ok (accounts.Summary config)
-summary_of false false (starts.State path) = Err clashes.FromSummary
+-- a summary and a picture have no remarks, by `--refused` and `--accesses`
+abbrev pub summary_of : Bool → Bool → Result CustodyForm Clash
+summary_of true accesses = Err clashes.SummaryRefused
+summary_of false true = Err clashes.SummaryAccesses
+summary_of false false = Ok forms.Summary
 
-abbrev pub picture_of : Bool → Bool → Start → Result Account Clash
-picture_of true accesses start = Err clashes.SvgRefused
-picture_of false true start = Err clashes.SvgAccesses
-picture_of false false (starts.Boot config) = Ok (accounts.Picture config)
-picture_of false false (starts.State path) = Err clashes.FromSvg
+abbrev pub picture_of : Bool → Bool → Result CustodyForm Clash
+picture_of true accesses = Err clashes.SvgRefused
+picture_of false true = Err clashes.SvgAccesses
+picture_of false false = Ok forms.Picture
 
 -- what is written of custody, by `--summary`, `--svg` and `--html`, which exclude each other, and what else is asked for, which `--html` implies
-abbrev pub account_of : Bool → Bool → Bool → Remarks → Start → Result Account Clash
-account_of false false false remarks start = Ok (accounts.Changes start remarks)
-account_of false false true remarks start = Ok (accounts.Html start)
-account_of true true html remarks start = Err clashes.SummarySvg
-account_of true false true remarks start = Err clashes.SummaryHtml
-account_of true false false remarks start = summary_of remarks.refused remarks.accesses start
-account_of false true true remarks start = Err clashes.SvgHtml
-account_of false true false remarks start = picture_of remarks.refused remarks.accesses start
+abbrev pub custody_form : Bool → Bool → Bool → Remarks → Result CustodyForm Clash
+custody_form false false false remarks = Ok (forms.Changes remarks)
+custody_form false false true remarks = Ok forms.Html
+custody_form true true html remarks = Err clashes.SummarySvg
+custody_form true false true remarks = Err clashes.SummaryHtml
+custody_form true false false remarks = summary_of remarks.refused remarks.accesses
+custody_form false true true remarks = Err clashes.SvgHtml
+custody_form false true false remarks = picture_of remarks.refused remarks.accesses
 
 -- nothing that is asked for has a core's pages in it, which `--blank` zeroes
 abbrev pub is_alone : Bool → ReplayForm → Option Path → Bool
@@ -87,19 +83,19 @@ named_by false start = names.Nothing
 named_by true (starts.Boot None) = names.Trace
 named_by true start = names.Both
 
--- without the machine's accesses there are none to be reported
-abbrev pub scope_action : Bool → Account → Scope → Result Action Clash
-scope_action true account scope = Err clashes.UnseenAccesses
-scope_action false account scope = Ok (actions.Custody account scope)
+-- if the machine's accesses are not in the trace, none can be reported
+abbrev pub scope_action : Bool → Start → CustodyForm → Scope → Result Action Clash
+scope_action true start form scope = Err clashes.UnseenAccesses
+scope_action false start form scope = Ok (actions.Custody start form scope)
 
-abbrev pub account_action : Result Account Clash → Bool → Scope → Result Action Clash
-account_action (Err clash) accesses scope = Err clash
-account_action (Ok account) accesses scope = scope_action (scope.is_unseen && accesses) account scope
+abbrev pub form_action : Result CustodyForm Clash → Bool → Start → Scope → Result Action Clash
+form_action (Err clash) accesses start scope = Err clash
+form_action (Ok form) accesses start scope = scope_action (scope.is_unseen && accesses) start form scope
 
 abbrev pub custody_action : Bool → Bool → Bool → Remarks → Bool → Bool → Option Start → Option ℕ → Result Action Clash
 custody_action summary svg html remarks unseen digests None vm = Err clashes.CustodyConfigFrom
 custody_action summary svg html remarks unseen digests (Some start) vm =
-    account_action (account_of summary svg html remarks start) remarks.accesses (record { vm = vm; is_unseen = unseen; named = named_by digests start })
+    form_action (custody_form summary svg html remarks) remarks.accesses start (record { vm = vm; is_unseen = unseen; named = named_by digests start })
 
 -- a start is named only if also the host's writes are blanked, by which the trace is replayed
 abbrev pub redact_action : Bool → Start → Result Action Clash
@@ -134,15 +130,3 @@ path_of (starts.State path) = Some path
 abbrev pub origin_at : Start → Origin
 origin_at (starts.Boot config) = origins.Boot
 origin_at (starts.State path) = origins.State
-
-abbrev pub form_of : Account → CustodyForm
-form_of (accounts.Changes start remarks) = forms.Changes (origin_at start) remarks
-form_of (accounts.Summary config) = forms.Summary
-form_of (accounts.Picture config) = forms.Picture
-form_of (accounts.Html start) = forms.Html (origin_at start)
-
-abbrev pub start_in : Account → Start
-start_in (accounts.Changes start remarks) = start
-start_in (accounts.Summary config) = starts.Boot config
-start_in (accounts.Picture config) = starts.Boot config
-start_in (accounts.Html start) = start

@@ -83,10 +83,10 @@ fn plain_job<'a>() -> Job<'a>
 
 /// What the arguments, without the program's name, ask for: `replay` or `live`, with or without `--config PATH` and
 /// `--workers N` with a number from 1 to 64, `replay` also with `--from PATH`, `--to PATH`, `--lines`, `--dump`,
-/// `--state` and `--blank`; `custody`, with or without `--config PATH` and `--vm V` with a number from 0 to 63, `--summary`, `--svg`,
-/// `--html`, `--refused`, `--accesses`, `--unseen` and `--digests`; `audit`, also with `--all`; `redact`, also with
-/// `--config PATH`, `--from PATH` and `--host`; each also with `--explain` and the file to be read; and `replay` if
-/// there are no arguments.
+/// `--state` and `--blank`; `custody`, with or without `--config PATH`, `--from PATH`, `--vm V` with a number from 0 to
+/// 63, `--summary`, `--svg`, `--html`, `--refused`, `--accesses`, `--unseen` and `--digests`; `audit`, also with
+/// `--all`; `redact`, also with `--config PATH`, `--from PATH` and `--host`; each also with `--explain` and the file to
+/// be read; and `replay` if there are no arguments.
 pub fn job_of<'a>(alloc: Global, arguments: &'a [&'a str]) -> Result<Job<'a>, ArgFault>
     // The job is what the arguments say by the command's rules. Only a command line that breaks them is refused, or one
     // with options that contradict each other.

@@ -21,10 +21,6 @@ pub enum Clash {
     CustodyConfigFrom,
     /// `custody --summary --svg`
     SummarySvg,
-    /// `custody --from PATH --summary`
-    FromSummary,
-    /// `custody --from PATH --svg`
-    FromSvg,
     /// `redact --config PATH --from PATH`
     RedactConfigFrom,
     /// `redact --config PATH` without `--host`
@@ -63,7 +59,7 @@ impl Clash {
             | Clash::SummaryRefused
             | Clash::SummaryAccesses
             | Clash::SummaryHtml => "--summary",
-            Clash::FromSummary | Clash::FromSvg | Clash::FromAlone => "--from",
+            Clash::FromAlone => "--from",
             Clash::SvgRefused | Clash::SvgAccesses | Clash::SvgHtml => "--svg",
             Clash::UnseenAccesses => "--unseen",
         }
@@ -88,8 +84,7 @@ impl Clash {
             Clash::BlankAlone => "--dump', '--state' and '--to",
             Clash::ReplayConfigFrom | Clash::CustodyConfigFrom | Clash::RedactConfigFrom =>
                 "--from",
-            Clash::SummarySvg | Clash::FromSvg => "--svg",
-            Clash::FromSummary => "--summary",
+            Clash::SummarySvg => "--svg",
             Clash::ConfigAlone | Clash::FromAlone => "--host",
             Clash::SummaryRefused | Clash::SvgRefused => "--refused",
             Clash::SummaryAccesses | Clash::SvgAccesses | Clash::UnseenAccesses => "--accesses",

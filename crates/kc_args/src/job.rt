@@ -1,8 +1,8 @@
 //! What the program is asked to do.
 ghost use Rattle.std.specs.Prelude.{◌≡◌};
-ghost use Rattle.kc_args.specs.Jobs.{path_of, origin_at, form_of, start_in};
+ghost use Rattle.kc_args.specs.Jobs.{path_of, origin_at};
 
-use kc_cli::{CustodyForm, Origin, Remarks, ReplayForm, Scope};
+use kc_cli::{CustodyForm, Origin, ReplayForm, Scope};
 
 /// Where calls begin.
 #[derive(Clone, Copy, Debug, PartialEq, Eq)]
@@ -11,20 +11,6 @@ pub enum Start<'a> {
     Boot(Option<&'a str>),
     /// In the state whose text is in this file.
     State(&'a str),
-}
-
-/// What is written of custody, and where calls begin. What came before the state of a text is not known, so a summary
-/// and a picture begin in a boot state, with the configuration in a file or the default one.
-#[derive(Clone, Copy, Debug, PartialEq, Eq)]
-pub enum Account<'a> {
-    /// Every change of a frame or slot, and what else is asked for of the calls.
-    Changes(Start<'a>, Remarks),
-    /// An object for each life of a VM.
-    Summary(Option<&'a str>),
-    /// A picture.
-    Picture(Option<&'a str>),
-    /// A page for a browser.
-    Html(Start<'a>),
 }
 
 /// What is to be done with a trace or a dump.
@@ -47,7 +33,8 @@ pub enum Action<'a> {
     },
     /// Report the trace's custody.
     Custody {
-        account: Account<'a>,
+        start: Start<'a>,
+        form: CustodyForm,
         scope: Scope,
     },
     /// Audit the dump, and write each finding, or only the report.
@@ -90,31 +77,6 @@ impl<'a> Start<'a> {
         match self {
             Start::Boot(_) => Origin::Boot,
             Start::State(_) => Origin::State,
-        }
-    }
-}
-
-impl<'a> Account<'a> {
-    /// The form in which custody is written.
-    pub fn form(self) -> CustodyForm
-        ensures { result ≡ form_of self.entry }
-    {
-        match self {
-            Account::Changes(start, remarks) => CustodyForm::Changes(start.origin(), remarks),
-            Account::Summary(_) => CustodyForm::Summary,
-            Account::Picture(_) => CustodyForm::Picture,
-            Account::Html(start) => CustodyForm::Html(start.origin()),
-        }
-    }
-
-    /// Where calls begin.
-    pub fn start(self) -> Start<'a>
-        ensures { result ≡ start_in self.entry }
-    {
-        match self {
-            Account::Changes(start, _) | Account::Html(start) => start,
-            Account::Summary(config) => Start::Boot(config),
-            Account::Picture(config) => Start::Boot(config),
         }
     }
 }

@@ -1,11 +1,11 @@
 //! What options ask for, unless they contradict each other.
 ghost use Rattle.std.specs.Prelude.{◌≡◌};
-ghost use Rattle.kc_args.specs.Jobs.{start_of, replay_form, is_alone, summary_of, picture_of, account_of, named_by, redact_action, action_of};
+ghost use Rattle.kc_args.specs.Jobs.{start_of, replay_form, is_alone, summary_of, picture_of, custody_form, named_by, redact_action, action_of};
 
 use crate::clash::Clash;
-use crate::job::{Account, Action, Start};
+use crate::job::{Action, Start};
 use crate::options::Options;
-use kc_cli::{Named, Remarks, ReplayForm, Scope};
+use kc_cli::{CustodyForm, Named, Remarks, ReplayForm, Scope};
 
 /// Where calls begin, by `--config` and `--from`; nothing for both.
 fn start_of<'a>(config: Option<&'a str>, from: Option<&'a str>) -> Option<Start<'a>>
@@ -43,49 +43,46 @@ fn is_alone(blank: bool, form: ReplayForm, to: Option<&str>) -> bool
     }
 }
 
-/// A summary, which has no remarks and begins at boot.
-fn summary_of<'a>(remarks: Remarks, start: Start<'a>) -> Result<Account<'a>, Clash>
-    ensures { result ≡ summary_of remarks.refused remarks.accesses start.entry }
+/// A summary, which has no remarks.
+fn summary_of(remarks: Remarks) -> Result<CustodyForm, Clash>
+    ensures { result ≡ summary_of remarks.refused remarks.accesses }
 {
-    match (remarks.refused, remarks.accesses, start) {
-        (true, _, _) => Err(Clash::SummaryRefused),
-        (false, true, _) => Err(Clash::SummaryAccesses),
-        (false, false, Start::Boot(config)) => Ok(Account::Summary(config)),
-        (false, false, Start::State(_)) => Err(Clash::FromSummary),
+    match (remarks.refused, remarks.accesses) {
+        (true, _) => Err(Clash::SummaryRefused),
+        (false, true) => Err(Clash::SummaryAccesses),
+        (false, false) => Ok(CustodyForm::Summary),
     }
 }
 
-/// A picture, which has no remarks and begins at boot.
-fn picture_of<'a>(remarks: Remarks, start: Start<'a>) -> Result<Account<'a>, Clash>
-    ensures { result ≡ picture_of remarks.refused remarks.accesses start.entry }
+/// A picture, which has no remarks.
+fn picture_of(remarks: Remarks) -> Result<CustodyForm, Clash>
+    ensures { result ≡ picture_of remarks.refused remarks.accesses }
 {
-    match (remarks.refused, remarks.accesses, start) {
-        (true, _, _) => Err(Clash::SvgRefused),
-        (false, true, _) => Err(Clash::SvgAccesses),
-        (false, false, Start::Boot(config)) => Ok(Account::Picture(config)),
-        (false, false, Start::State(_)) => Err(Clash::FromSvg),
+    match (remarks.refused, remarks.accesses) {
+        (true, _) => Err(Clash::SvgRefused),
+        (false, true) => Err(Clash::SvgAccesses),
+        (false, false) => Ok(CustodyForm::Picture),
     }
 }
 
 /// What is written of custody, by `--summary`, `--svg` and `--html`, and by `--refused` and `--accesses`, both of which
 /// `--html` implies.
-fn account_of<'a>(
+fn custody_form(
     summary: bool,
     svg: bool,
     html: bool,
     remarks: Remarks,
-    start: Start<'a>,
-) -> Result<Account<'a>, Clash>
-    ensures { result ≡ account_of summary svg html remarks start.entry }
+) -> Result<CustodyForm, Clash>
+    ensures { result ≡ custody_form summary svg html remarks }
 {
     match (summary, svg, html) {
-        (false, false, false) => Ok(Account::Changes(start, remarks)),
-        (false, false, true) => Ok(Account::Html(start)),
+        (false, false, false) => Ok(CustodyForm::Changes(remarks)),
+        (false, false, true) => Ok(CustodyForm::Html),
         (true, true, _) => Err(Clash::SummarySvg),
         (true, false, true) => Err(Clash::SummaryHtml),
-        (true, false, false) => summary_of(remarks, start),
+        (true, false, false) => summary_of(remarks),
         (false, true, true) => Err(Clash::SvgHtml),
-        (false, true, false) => picture_of(remarks, start),
+        (false, true, false) => picture_of(remarks),
     }
 }
 
@@ -159,7 +156,7 @@ pub(crate) fn action_of<'a>(options: Options<'a>) -> Result<Action<'a>, Clash>
                 return Err(Clash::CustodyConfigFrom);
             };
             let remarks = Remarks { refused, accesses };
-            let account = account_of(summary, svg, html, remarks, start)?;
+            let form = custody_form(summary, svg, html, remarks)?;
             if unseen && accesses {
                 return Err(Clash::UnseenAccesses);
             }
@@ -168,7 +165,7 @@ pub(crate) fn action_of<'a>(options: Options<'a>) -> Result<Action<'a>, Clash>
                 is_unseen: unseen,
                 named: named_by(digests, start),
             };
-            Ok(Action::Custody { account, scope })
+            Ok(Action::Custody { start, form, scope })
         },
         Options::Audit { all } => Ok(Action::Audit { all }),
         Options::Redact { config, from, host } => {

@@ -16,4 +16,4 @@ mod options;
 
 pub use arguments::{ArgFault, job_of};
 pub use clash::Clash;
-pub use job::{Account, Action, Job, Start};
+pub use job::{Action, Job, Start};

@@ -1,19 +1,27 @@
 -- What is kept of calls that come after others.
-use Rattle.std.proofs.Common.{ℕ, ◌≡◌, ◌++◌, Bool, true, false, List, All, Option, None, Result, Ok, Err, subst, refl, ap, ap₂, sym, ◌∙◌, [], arith}
+use Rattle.std.proofs.Common.{ℕ, ◌≡◌, ◌++◌, Bool, true, false, List, [], ◌∷◌, map, All, Option, None, Result, Ok, Err, subst, refl, ap, ap₂, sym, ◌∙◌, arith, append_assoc}
 use Rattle.std.specs.Prelude.{OnOk}
 use Rattle.std.specs.Global.{Vec}
-use Rattle.std.proofs.lemmas.List.Elements.{filter_map-append, All-filter}
-use Rattle.kc_types.specs.Configuration.{Configuration}
+use Rattle.std.proofs.lemmas.List.{map-append}
+use Rattle.std.proofs.lemmas.List.Elements.{filter_map-append, All-nil, All-cons, All-append, All-head, All-tail, All-filter}
 use Rattle.kc_types.specs.declared.call.Call.{Call}
+use Rattle.kc_types.specs.declared.slot.Phase.{Phase}
+use Rattle.kc_types.specs.declared.slot.Phase.TheVariants.{Booting}
+use Rattle.kc_types.specs.declared.custody.Change.{Change}
+use Rattle.kc_types.specs.declared.custody.Change.TheVariants as change
 use Rattle.kc_types.specs.declared.custody.Event.{Event}
+use Rattle.kc_types.specs.declared.custody.Event.TheVariants as event
 use Rattle.kc_model.proofs.Custody.Events.{changes-of-changes}
 use Rattle.kc_custody.specs.Within.{IsWithin}
 use Rattle.kc_trace.specs.declared.custody_writer.Heading.{Heading}
-use Rattle.kc_model.specs.State.{State}
+use Rattle.kc_model.specs.State.{State, slot_at}
+use Rattle.kc_model.specs.Boot.{boot}
+use Rattle.kc_model.specs.Custody.{frame_changes_by}
+use Rattle.kc_model.specs.Before.{header_line, is_taken, is_measured, turn_before, frame_before, slots_that, events_before}
 use Rattle.kc_model.specs.Lives.{lives, selected_lives}
 use Rattle.kc_custody.specs.Chosen.{chosen}
 use Rattle.kc_cli.proofs.Plain.{plain}
-use Rattle.kc_model.specs.Events.{events_from, changes_in}
+use Rattle.kc_model.specs.Events.{events_from, change_in, changes_in}
 use Rattle.kc_custody.specs.Selected.{is_selected, selected}
 use Rattle.kc_custody.proofs.Picked.{picked}
 use Rattle.kc_trace.specs.CustodyText.{custody_text_of}
@@ -30,6 +38,7 @@ use Rattle.kc_cli.specs.declared.account.CustodyForm.{CustodyForm}
 use Rattle.kc_cli.specs.declared.account.CustodyForm.TheVariants.{Changes, Summary, Picture, Html}
 use Rattle.kc_cli.specs.declared.ledger.Ledger.TheVariants as kept
 use Rattle.kc_cli.specs.declared.ledger.Ledger.{Ledger}
+use Rattle.kc_picture.specs.Frames.{IsIn}
 use Rattle.kc_html.specs.Html.{html_text_of}
 use Rattle.kc_cli.specs.Custody.{IsAccount, page_remarks, reported}
 use Rattle.kc_cli.specs.Ledgers.{attempts_kept, Keeps, events_kept, IsGiven}
@@ -41,125 +50,175 @@ events_more n m calls told old new grown so_far =
     ∙ ap₂ (λ (xs ys : List Event). xs ++ ys) so_far (sym (events-of-notes_from n m calls))
     ∙ sym (filter_map-append event_in told (notes_from n m calls))
 
+-- the same, after others
+more_after : (before : List Event) (n : ℕ) (m : State) (calls : List Call) (told : List Note) (old new : List Event) → new ≡ old ++ events_from n m calls → old ≡ before ++ events_in told → new ≡ before ++ events_in (told ++ notes_from n m calls)
+more_after before n m calls told old new grown so_far =
+    grown
+    ∙ ap (λ (xs : List Event). xs ++ events_from n m calls) so_far
+    ∙ append_assoc before (events_in told) (events_from n m calls)
+    ∙ ap (λ (xs : List Event). before ++ xs) (events_more n m calls told (events_in told) (events_in told ++ events_from n m calls) refl refl)
+
 pub notes_grow : (n : ℕ) (m : State) (calls : List Call) (wanted : Remarks) (old new : Vec Note) → new.items ≡ old.items ++ notes_from n m calls
-    → (form : CustodyForm) (told : List Note) → Keeps form told (kept.Notes wanted old) → Keeps form (told ++ notes_from n m calls) (kept.Notes wanted new)
-notes_grow n m calls wanted old new grown (Changes origin remarks) told h = (h.0, grown ∙ ap (λ (xs : List Note). xs ++ notes_from n m calls) h.1)
-notes_grow n m calls wanted old new grown Summary told h = h
-notes_grow n m calls wanted old new grown Picture told h = h
-notes_grow n m calls wanted old new grown (Html origin) told h = h
+    → (form : CustodyForm) (start : State) (told : List Note) → Keeps form start told (kept.Notes wanted old) → Keeps form start (told ++ notes_from n m calls) (kept.Notes wanted new)
+notes_grow n m calls wanted old new grown (Changes remarks) start told h = (h.0, grown ∙ ap (λ (xs : List Note). xs ++ notes_from n m calls) h.1)
+notes_grow n m calls wanted old new grown Summary start told h = h
+notes_grow n m calls wanted old new grown Picture start told h = h
+notes_grow n m calls wanted old new grown Html start told h = h
 
 pub changes_grow : (n : ℕ) (m : State) (calls : List Call) (old new : Vec Event) → new.items ≡ old.items ++ events_from n m calls
-    → (form : CustodyForm) (told : List Note) → Keeps form told (kept.Changes old) → Keeps form (told ++ notes_from n m calls) (kept.Changes new)
-changes_grow n m calls old new grown (Changes origin remarks) told h = (h.0, events_more n m calls told old.items new.items grown h.1)
-changes_grow n m calls old new grown Summary told h = h
-changes_grow n m calls old new grown Picture told h = h
-changes_grow n m calls old new grown (Html origin) told h = h
+    → (form : CustodyForm) (start : State) (told : List Note) → Keeps form start told (kept.Changes old) → Keeps form start (told ++ notes_from n m calls) (kept.Changes new)
+changes_grow n m calls old new grown (Changes remarks) start told h = (h.0, events_more n m calls told old.items new.items grown h.1)
+changes_grow n m calls old new grown Summary start told h = h
+changes_grow n m calls old new grown Picture start told h = h
+changes_grow n m calls old new grown Html start told h = h
 
 pub on_ok_both : {T E : Type 0} (P Q : Type 0) (r : Result T E) → OnOk r P → OnOk r Q → OnOk r (P × Q)
 on_ok_both P Q (Ok x) p q = (p, q)
 on_ok_both P Q (Err e) p q = tt
 
 pub summary_grows : (n : ℕ) (m : State) (calls : List Call) (old new : Vec Event) (before after : Vec Attempt) → new.items ≡ old.items ++ events_from n m calls → after.items ≡ before.items ++ attempts_in (notes_from n m calls)
-    → (form : CustodyForm) (told : List Note) → Keeps form told (kept.Summary old before) → Keeps form (told ++ notes_from n m calls) (kept.Summary new after)
-summary_grows n m calls old new before after grown tried (Changes origin remarks) told h = h
-summary_grows n m calls old new before after grown tried Summary told h =
-    (events_more n m calls told old.items new.items grown h.0, tried ∙ ap (λ (xs : List Attempt). xs ++ attempts_in (notes_from n m calls)) h.1 ∙ sym (both told (notes_from n m calls)))
-summary_grows n m calls old new before after grown tried Picture told h = h
-summary_grows n m calls old new before after grown tried (Html origin) told h = h
+    → (form : CustodyForm) (start : State) (told : List Note) → Keeps form start told (kept.Summary old before) → Keeps form start (told ++ notes_from n m calls) (kept.Summary new after)
+summary_grows n m calls old new before after grown tried (Changes remarks) start told h = h
+summary_grows n m calls old new before after grown tried Summary start told h =
+    (more_after (events_before start) n m calls told old.items new.items grown h.0, tried ∙ ap (λ (xs : List Attempt). xs ++ attempts_in (notes_from n m calls)) h.1 ∙ sym (both told (notes_from n m calls)))
+summary_grows n m calls old new before after grown tried Picture start told h = h
+summary_grows n m calls old new before after grown tried Html start told h = h
 
 pub picture_grows : (n : ℕ) (m : State) (calls : List Call) (old new : Vec Event) → new.items ≡ old.items ++ events_from n m calls
-    → (form : CustodyForm) (told : List Note) → Keeps form told (kept.Picture old) → Keeps form (told ++ notes_from n m calls) (kept.Picture new)
-picture_grows n m calls old new grown (Changes origin remarks) told h = h
-picture_grows n m calls old new grown Summary told h = h
-picture_grows n m calls old new grown Picture told h = events_more n m calls told old.items new.items grown h
-picture_grows n m calls old new grown (Html origin) told h = h
+    → (form : CustodyForm) (start : State) (told : List Note) → Keeps form start told (kept.Picture old) → Keeps form start (told ++ notes_from n m calls) (kept.Picture new)
+picture_grows n m calls old new grown (Changes remarks) start told h = h
+picture_grows n m calls old new grown Summary start told h = h
+picture_grows n m calls old new grown Picture start told h = more_after (events_before start) n m calls told old.items new.items grown h
+picture_grows n m calls old new grown Html start told h = h
 
-pub vm_picture_grows : (n : ℕ) (m : State) (calls : List Call) (v : ℕ) (old new : Vec Note) → new.items ≡ old.items ++ notes_from n m calls
-    → (form : CustodyForm) (told : List Note) → Keeps form told (kept.VmPicture v old) → Keeps form (told ++ notes_from n m calls) (kept.VmPicture v new)
-vm_picture_grows n m calls v old new grown (Changes origin remarks) told h = h
-vm_picture_grows n m calls v old new grown Summary told h = h
-vm_picture_grows n m calls v old new grown Picture told h = grown ∙ ap (λ (xs : List Note). xs ++ notes_from n m calls) h
-vm_picture_grows n m calls v old new grown (Html origin) told h = h
+pub vm_picture_grows : (n : ℕ) (m : State) (calls : List Call) (v : ℕ) (before : Vec Event) (old new : Vec Note) → new.items ≡ old.items ++ notes_from n m calls
+    → (form : CustodyForm) (start : State) (told : List Note) → Keeps form start told (kept.VmPicture v before old) → Keeps form start (told ++ notes_from n m calls) (kept.VmPicture v before new)
+vm_picture_grows n m calls v before old new grown (Changes remarks) start told h = h
+vm_picture_grows n m calls v before old new grown Summary start told h = h
+vm_picture_grows n m calls v before old new grown Picture start told h = (h.0, grown ∙ ap (λ (xs : List Note). xs ++ notes_from n m calls) h.1)
+vm_picture_grows n m calls v before old new grown Html start told h = h
 
 pub html_grows : (n : ℕ) (m : State) (calls : List Call) (old new : Vec Note) → new.items ≡ old.items ++ notes_from n m calls
-    → (form : CustodyForm) (told : List Note) → Keeps form told (kept.Html old) → Keeps form (told ++ notes_from n m calls) (kept.Html new)
-html_grows n m calls old new grown (Changes origin remarks) told h = h
-html_grows n m calls old new grown Summary told h = h
-html_grows n m calls old new grown Picture told h = h
-html_grows n m calls old new grown (Html origin) told h = grown ∙ ap (λ (xs : List Note). xs ++ notes_from n m calls) h
+    → (form : CustodyForm) (start : State) (told : List Note) → Keeps form start told (kept.Html old) → Keeps form start (told ++ notes_from n m calls) (kept.Html new)
+html_grows n m calls old new grown (Changes remarks) start told h = h
+html_grows n m calls old new grown Summary start told h = h
+html_grows n m calls old new grown Picture start told h = h
+html_grows n m calls old new grown Html start told h = grown ∙ ap (λ (xs : List Note). xs ++ notes_from n m calls) h
 
--- the events that are kept are those of the notes
-pub kept_events : (form : CustodyForm) (told : List Note) (ledger : Ledger) → Keeps form told ledger → events_kept ledger ≡ events_in told
-kept_events (Changes origin remarks) told (kept.Changes events) h = h.1
-kept_events (Changes origin remarks) told (kept.Notes wanted notes) h = ap events_in h.1
-kept_events (Changes origin remarks) told (kept.Summary events attempts) h = absurd h
-kept_events (Changes origin remarks) told (kept.Picture events) h = absurd h
-kept_events (Changes origin remarks) told (kept.VmPicture v notes) h = absurd h
-kept_events (Changes origin remarks) told (kept.Html notes) h = absurd h
-kept_events Summary told (kept.Changes events) h = absurd h
-kept_events Summary told (kept.Notes wanted notes) h = absurd h
-kept_events Summary told (kept.Summary events attempts) h = h.0
-kept_events Summary told (kept.Picture events) h = absurd h
-kept_events Summary told (kept.VmPicture v notes) h = absurd h
-kept_events Summary told (kept.Html notes) h = absurd h
-kept_events Picture told (kept.Changes events) h = absurd h
-kept_events Picture told (kept.Notes wanted notes) h = absurd h
-kept_events Picture told (kept.Summary events attempts) h = absurd h
-kept_events Picture told (kept.Picture events) h = h
-kept_events Picture told (kept.VmPicture v notes) h = ap events_in h
-kept_events Picture told (kept.Html notes) h = absurd h
-kept_events (Html origin) told (kept.Changes events) h = absurd h
-kept_events (Html origin) told (kept.Notes wanted notes) h = absurd h
-kept_events (Html origin) told (kept.Summary events attempts) h = absurd h
-kept_events (Html origin) told (kept.Picture events) h = absurd h
-kept_events (Html origin) told (kept.VmPicture v notes) h = absurd h
-kept_events (Html origin) told (kept.Html notes) h = ap events_in h
+-- events before others are within a machine if both are
+both_within : (frames : ℕ) (before more kept : List Event) → All (IsWithin frames) before → All (IsWithin frames) more → kept ≡ before ++ more → All (IsWithin frames) kept
+both_within frames before more kept before_is is same = subst (All (IsWithin frames)) (sym same) (All-append (IsWithin frames) before more before_is is)
+
+-- the events that are kept are within a machine if those before the first call and those of the notes are
+pub kept_within : (frames : ℕ) (form : CustodyForm) (m : State) (told : List Note) (ledger : Ledger) → Keeps form m told ledger → All (IsWithin frames) (events_before m) → All (IsWithin frames) (events_in told) → All (IsWithin frames) (events_kept ledger)
+kept_within frames (Changes remarks) m told (kept.Changes events) h before_is is = subst (All (IsWithin frames)) (sym h.1) is
+kept_within frames (Changes remarks) m told (kept.Notes wanted notes) h before_is is = subst (λ (xs : List Note). All (IsWithin frames) (events_in xs)) (sym h.1) is
+kept_within frames (Changes remarks) m told (kept.Summary events attempts) h before_is is = absurd h
+kept_within frames (Changes remarks) m told (kept.Picture events) h before_is is = absurd h
+kept_within frames (Changes remarks) m told (kept.VmPicture v before notes) h before_is is = absurd h
+kept_within frames (Changes remarks) m told (kept.Html notes) h before_is is = absurd h
+kept_within frames Summary m told (kept.Changes events) h before_is is = absurd h
+kept_within frames Summary m told (kept.Notes wanted notes) h before_is is = absurd h
+kept_within frames Summary m told (kept.Summary events attempts) h before_is is = both_within frames _ _ _ before_is is h.0
+kept_within frames Summary m told (kept.Picture events) h before_is is = absurd h
+kept_within frames Summary m told (kept.VmPicture v before notes) h before_is is = absurd h
+kept_within frames Summary m told (kept.Html notes) h before_is is = absurd h
+kept_within frames Picture m told (kept.Changes events) h before_is is = absurd h
+kept_within frames Picture m told (kept.Notes wanted notes) h before_is is = absurd h
+kept_within frames Picture m told (kept.Summary events attempts) h before_is is = absurd h
+kept_within frames Picture m told (kept.Picture events) h before_is is = both_within frames _ _ _ before_is is h
+kept_within frames Picture m told (kept.VmPicture v before notes) h before_is is = both_within frames _ _ _ before_is is (ap₂ (λ (xs : List Event) (ys : List Note). xs ++ events_in ys) h.0 h.1)
+kept_within frames Picture m told (kept.Html notes) h before_is is = absurd h
+kept_within frames Html m told (kept.Changes events) h before_is is = absurd h
+kept_within frames Html m told (kept.Notes wanted notes) h before_is is = absurd h
+kept_within frames Html m told (kept.Summary events attempts) h before_is is = absurd h
+kept_within frames Html m told (kept.Picture events) h before_is is = absurd h
+kept_within frames Html m told (kept.VmPicture v before notes) h before_is is = absurd h
+kept_within frames Html m told (kept.Html notes) h before_is is = subst (λ (xs : List Note). All (IsWithin frames) (events_in xs)) (sym h) is
+
+-- so their changes are of frames that there are
+pub changes_within : (frames : ℕ) (told : List Event) → All (IsWithin frames) told → All (IsIn frames) (changes_in told)
+changes_within frames [] is = All-nil (IsIn frames)
+changes_within frames (event.Change (change.Frame told) ∷ more) is = All-cons (IsIn frames) (change.Frame told) (changes_in more) (All-head (IsWithin frames) (event.Change (change.Frame told)) more is) (changes_within frames more (All-tail (IsWithin frames) (event.Change (change.Frame told)) more is))
+changes_within frames (event.Change (change.Phase told) ∷ more) is = All-cons (IsIn frames) (change.Phase told) (changes_in more) tt (changes_within frames more (All-tail (IsWithin frames) (event.Change (change.Phase told)) more is))
+changes_within frames (event.Read v ∷ more) is = changes_within frames more (All-tail (IsWithin frames) (event.Read v) more is)
+changes_within frames (event.Write v ∷ more) is = changes_within frames more (All-tail (IsWithin frames) (event.Write v) more is)
 
 no_attempts : AreInOrder []
 no_attempts i j d le lt = absurd (omega (arith, lt))
 
 -- the attempts that are kept are in order if those of the notes are
-pub kept_in_order : (form : CustodyForm) (told : List Note) (ledger : Ledger) → Keeps form told ledger → AreInOrder (attempts_in told) → AreInOrder (attempts_kept ledger)
-kept_in_order form told (kept.Changes events) h order = no_attempts
-kept_in_order form told (kept.Notes wanted notes) h order = no_attempts
-kept_in_order form told (kept.Picture events) h order = no_attempts
-kept_in_order form told (kept.VmPicture v notes) h order = no_attempts
-kept_in_order form told (kept.Html notes) h order = no_attempts
-kept_in_order Summary told (kept.Summary events attempts) h order = subst AreInOrder (sym h.1) order
-kept_in_order (Changes origin remarks) told (kept.Summary events attempts) h order = absurd h
-kept_in_order Picture told (kept.Summary events attempts) h order = absurd h
-kept_in_order (Html origin) told (kept.Summary events attempts) h order = absurd h
+pub kept_in_order : (form : CustodyForm) (m : State) (told : List Note) (ledger : Ledger) → Keeps form m told ledger → AreInOrder (attempts_in told) → AreInOrder (attempts_kept ledger)
+kept_in_order form m told (kept.Changes events) h order = no_attempts
+kept_in_order form m told (kept.Notes wanted notes) h order = no_attempts
+kept_in_order form m told (kept.Picture events) h order = no_attempts
+kept_in_order form m told (kept.VmPicture v before notes) h order = no_attempts
+kept_in_order form m told (kept.Html notes) h order = no_attempts
+kept_in_order Summary m told (kept.Summary events attempts) h order = subst AreInOrder (sym h.1) order
+kept_in_order (Changes remarks) m told (kept.Summary events attempts) h order = absurd h
+kept_in_order Picture m told (kept.Summary events attempts) h order = absurd h
+kept_in_order Html m told (kept.Summary events attempts) h order = absurd h
+
+-- what is so before the first call is reported whether or not the machine's own accesses are in the trace
+all_changes : (m : State) → map event.Change (changes_in (events_before m)) ≡ events_before m
+all_changes m =
+    let taken = slots_that is_taken m in
+    let moved = frame_changes_by header_line (boot m.config) m in
+    let settled = slots_that is_measured m in
+    let turned : List ℕ → (ℕ → Phase) → List Event = λ slots phase. map (λ v. turn_before (phase v) v) slots in
+    changes-append (turned taken (λ v. Booting)) _ (changes-mapped (λ v. change.Phase (record { line = header_line; vm = v; phase = Booting; images = [] })) taken)
+    (changes-append (map frame_before moved) _ (changes-mapped change.Frame moved) (changes-mapped (λ v. change.Phase (record { line = header_line; vm = v; phase = (slot_at m v).phase; images = [] })) settled))
+  where
+    changes-mapped : {X : Type 0} (made : X → Change) (xs : List X) → map event.Change (changes_in (map (λ x. event.Change (made x)) xs)) ≡ map (λ x. event.Change (made x)) xs
+    changes-mapped made [] = refl
+    changes-mapped made (x ∷ xs) = ap (λ (rest : List Event). event.Change (made x) ∷ rest) (changes-mapped made xs)
+
+    changes-append : (xs ys : List Event) → map event.Change (changes_in xs) ≡ xs → map event.Change (changes_in ys) ≡ ys → map event.Change (changes_in (xs ++ ys)) ≡ xs ++ ys
+    changes-append xs ys first second =
+        ap (map event.Change) (filter_map-append change_in xs ys)
+        ∙ map-append event.Change (changes_in xs) (changes_in ys)
+        ∙ ap₂ (λ (one other : List Event). one ++ other) first second
+
+reported_after : (unseen : Bool) (m : State) (told : List Event) → reported unseen (events_before m ++ told) ≡ events_before m ++ reported unseen told
+reported_after false m told = refl
+reported_after true m told =
+    ap (map event.Change) (filter_map-append change_in (events_before m) told)
+    ∙ map-append event.Change (changes_in (events_before m)) (changes_in told)
+    ∙ ap (λ (xs : List Event). xs ++ map event.Change (changes_in told)) (all_changes m)
 
 -- what is given of what is kept is the account of the notes
-pub account_given : (form : CustodyForm) (vm : Option ℕ) (heading : Heading) (config : Configuration) (count refused : ℕ) (told : List Note) (ledger : Ledger) (text : List ℕ) → Keeps form told ledger → IsGiven vm heading config count refused ledger text → IsAccount form vm heading config count refused told text
-account_given (Changes origin remarks) vm heading config count refused told (kept.Changes events) text h given =
+pub account_given : (form : CustodyForm) (vm : Option ℕ) (heading : Heading) (m : State) (count refused : ℕ) (told : List Note) (ledger : Ledger) (text : List ℕ) → Keeps form m told ledger → IsGiven vm heading m.config count refused ledger text → IsAccount form vm heading m count refused told text
+account_given (Changes remarks) vm heading m count refused told (kept.Changes events) text h given =
     given
-    ∙ ap (λ (xs : List Event). custody_text_of heading config count refused (selected vm (changes_in xs))) h.1
-    ∙ sym (plain heading config count refused vm told)
-    ∙ ap (λ (r : Remarks). notes_text_of heading config count refused (chosen vm r told)) (sym h.0)
-account_given (Changes origin remarks) vm heading config count refused told (kept.Notes wanted notes) text h given = given ∙ ap₂ (λ (r : Remarks) (xs : List Note). notes_text_of heading config count refused (chosen vm r xs)) h.0 h.1
-account_given (Changes origin remarks) vm heading config count refused told (kept.Summary events attempts) text h given = absurd h
-account_given (Changes origin remarks) vm heading config count refused told (kept.Picture events) text h given = absurd h
-account_given (Changes origin remarks) vm heading config count refused told (kept.VmPicture v notes) text h given = absurd h
-account_given (Changes origin remarks) vm heading config count refused told (kept.Html notes) text h given = absurd h
-account_given Summary vm heading config count refused told (kept.Changes events) text h given = absurd h
-account_given Summary vm heading config count refused told (kept.Notes wanted notes) text h given = absurd h
-account_given Summary vm heading config count refused told (kept.Summary events attempts) text h given = given ∙ ap₂ (λ (xs : List Event) (ys : List Attempt). summary_text_of heading config count refused ys (selected_lives vm (lives (reported heading.is_unseen xs)))) h.0 h.1
-account_given Summary vm heading config count refused told (kept.Picture events) text h given = absurd h
-account_given Summary vm heading config count refused told (kept.VmPicture v notes) text h given = absurd h
-account_given Summary vm heading config count refused told (kept.Html notes) text h given = absurd h
-account_given Picture vm heading config count refused told (kept.Changes events) text h given = absurd h
-account_given Picture vm heading config count refused told (kept.Notes wanted notes) text h given = absurd h
-account_given Picture vm heading config count refused told (kept.Summary events attempts) text h given = absurd h
-account_given Picture vm heading config count refused told (kept.Picture events) text h given = given
-account_given Picture vm heading config count refused told (kept.VmPicture v notes) text h given = given
-account_given Picture vm heading config count refused told (kept.Html notes) text h given = absurd h
-account_given (Html origin) vm heading config count refused told (kept.Changes events) text h given = absurd h
-account_given (Html origin) vm heading config count refused told (kept.Notes wanted notes) text h given = absurd h
-account_given (Html origin) vm heading config count refused told (kept.Summary events attempts) text h given = absurd h
-account_given (Html origin) vm heading config count refused told (kept.Picture events) text h given = absurd h
-account_given (Html origin) vm heading config count refused told (kept.VmPicture v notes) text h given = absurd h
-account_given (Html origin) vm heading config count refused told (kept.Html notes) text h given = given ∙ ap (λ (xs : List Note). html_text_of (notes_text_of heading config count refused (chosen vm (page_remarks heading.is_unseen) xs))) h
+    ∙ ap (λ (xs : List Event). custody_text_of heading m.config count refused (selected vm (changes_in xs))) h.1
+    ∙ sym (plain heading m.config count refused vm told)
+    ∙ ap (λ (r : Remarks). notes_text_of heading m.config count refused (chosen vm r told)) (sym h.0)
+account_given (Changes remarks) vm heading m count refused told (kept.Notes wanted notes) text h given = given ∙ ap₂ (λ (r : Remarks) (xs : List Note). notes_text_of heading m.config count refused (chosen vm r xs)) h.0 h.1
+account_given (Changes remarks) vm heading m count refused told (kept.Summary events attempts) text h given = absurd h
+account_given (Changes remarks) vm heading m count refused told (kept.Picture events) text h given = absurd h
+account_given (Changes remarks) vm heading m count refused told (kept.VmPicture v before notes) text h given = absurd h
+account_given (Changes remarks) vm heading m count refused told (kept.Html notes) text h given = absurd h
+account_given Summary vm heading m count refused told (kept.Changes events) text h given = absurd h
+account_given Summary vm heading m count refused told (kept.Notes wanted notes) text h given = absurd h
+account_given Summary vm heading m count refused told (kept.Summary events attempts) text h given =
+    given
+    ∙ ap₂ (λ (xs : List Event) (ys : List Attempt). summary_text_of heading m.config count refused ys (selected_lives vm (lives (reported heading.is_unseen xs)))) h.0 h.1
+    ∙ ap (λ (xs : List Event). summary_text_of heading m.config count refused (attempts_in told) (selected_lives vm (lives xs))) (reported_after heading.is_unseen m (events_in told))
+account_given Summary vm heading m count refused told (kept.Picture events) text h given = absurd h
+account_given Summary vm heading m count refused told (kept.VmPicture v before notes) text h given = absurd h
+account_given Summary vm heading m count refused told (kept.Html notes) text h given = absurd h
+account_given Picture vm heading m count refused told (kept.Changes events) text h given = absurd h
+account_given Picture vm heading m count refused told (kept.Notes wanted notes) text h given = absurd h
+account_given Picture vm heading m count refused told (kept.Summary events attempts) text h given = absurd h
+account_given Picture vm heading m count refused told (kept.Picture events) text h given = given
+account_given Picture vm heading m count refused told (kept.VmPicture v before notes) text h given = given
+account_given Picture vm heading m count refused told (kept.Html notes) text h given = absurd h
+account_given Html vm heading m count refused told (kept.Changes events) text h given = absurd h
+account_given Html vm heading m count refused told (kept.Notes wanted notes) text h given = absurd h
+account_given Html vm heading m count refused told (kept.Summary events attempts) text h given = absurd h
+account_given Html vm heading m count refused told (kept.Picture events) text h given = absurd h
+account_given Html vm heading m count refused told (kept.VmPicture v before notes) text h given = absurd h
+account_given Html vm heading m count refused told (kept.Html notes) text h given = given ∙ ap (λ (xs : List Note). html_text_of (notes_text_of heading m.config count refused (chosen vm (page_remarks heading.is_unseen) xs))) h
 
 -- what is reported of events within a machine is within it
 pub reported_within : (unseen : Bool) (frames : ℕ) (told : List Event) → All (IsWithin frames) told → All (IsWithin frames) (reported unseen told)

@@ -1,10 +1,12 @@
 -- What is reported of calls that come after others, and what the sink takes of it.
-use Rattle.std.proofs.Common.{ℕ, ◌≡◌, ◌+◌, ◌++◌, List, [], length, filter, take, refl, ap, sym, ◌∙◌, Option, Some, None, Err, subst, arith, inl, inr, append_assoc}
+use Rattle.std.proofs.Common.{ℕ, ◌≡◌, ◌<◌, ◌+◌, ◌++◌, List, [], Bor, get_or, drop, length, filter, take, refl, ap, sym, ◌∙◌, Option, Some, None, Err, subst, arith, inl, inr, append_assoc}
 use Rattle.std.proofs.lemmas.Bool.{cases_lt}
-use Rattle.std.proofs.lemmas.List.{take_all, append-nil}
+use Rattle.std.proofs.lemmas.Grind.{flat_map-append}
+use Rattle.std.proofs.lemmas.List.{take_all, append-nil, take-append-drop, drop_more}
 use Rattle.std.proofs.Math.Seq.{take-append-add, take-append-le}
 use Rattle.std.proofs.KnownBytes.{Appends-trans}
 use Rattle.std.specs.Prelude.{IfSome}
+use Rattle.std.specs.List.{flat_map}
 use Rattle.std.specs.Io.KnownBytes.{Appends}
 use Rattle.kc_types.specs.Configuration.{Configuration}
 use Rattle.kc_types.specs.declared.call.Call.{Call}
@@ -37,7 +39,7 @@ use Rattle.kc_cli.specs.declared.account.CustodyForm.{CustodyForm}
 use Rattle.kc_cli.specs.declared.ledger.Ledger.{Ledger}
 use Rattle.kc_trace.specs.declared.custody_writer.Heading.{Heading}
 use Rattle.kc_cli.specs.declared.account.Scope.{Scope}
-use Rattle.kc_cli.specs.Custody.{AreNotesOf, IsCustodyTold, IsCustodyOfAll, IsAccount, IsCustodyText, TellsCustody, origin_of}
+use Rattle.kc_cli.specs.Custody.{AreNotesOf, IsCustodyTold, IsCustodyOfAll, IsAccount, IsCustodyText, TellsCustody}
 use Rattle.kc_cli.specs.Headings.{IsHeaded}
 use Rattle.kc_cli.specs.Ledgers.{Keeps, IsGiven}
 use Rattle.kc_cli.proofs.Ledgers.{account_given}
@@ -90,30 +92,30 @@ is_told source m told count refused is h = record {
 }
 
 -- what was kept of a start and a trace
-abbrev pub WasTold : CustodyForm → Option (List ℕ) → Option (List ℕ) → Configuration → ℕ → ℕ → Ledger → Type 0
-WasTold form start trace config count refused ledger = (m : State) × IfSome start (λ text. BeginsIn (origin_of form) text m) × (config ≡ m.config) × (told : List Note) × IsCustodyTold m trace count refused told × Keeps form told ledger
+abbrev pub WasTold : Origin → CustodyForm → Option (List ℕ) → Option (List ℕ) → Configuration → ℕ → ℕ → Ledger → Type 0
+WasTold origin form start trace config count refused ledger = (m : State) × IfSome start (λ text. BeginsIn origin text m) × (config ≡ m.config) × (told : List Note) × IsCustodyTold m trace count refused told × Keeps form m told ledger
 
 -- the account of both texts
-account_of_both : (form : CustodyForm) (scope : Scope) (start trace : List ℕ) (config : Configuration) (heading : Heading) (count refused : ℕ) (ledger : Ledger) (text : List ℕ) → WasTold form (Some start) (Some trace) config count refused ledger → IsHeaded scope (origin_of form) (Some start) (Some trace) heading
-    → IsGiven scope.vm heading config count refused ledger text → IsCustodyText form scope start trace text
-account_of_both form scope start trace config heading count refused ledger text h headed given =
-    let account : IsAccount form scope.vm heading h.0.config count refused h.3 text = subst (λ c. IsAccount form scope.vm heading c count refused h.3 text) h.2 (account_given form scope.vm heading config count refused h.3 ledger text h.5 given) in
-    (h.0, count, refused, h.3, h.1, h.4, subst (λ (said : Heading). IsAccount form scope.vm said h.0.config count refused h.3 text) headed account)
+account_of_both : (origin : Origin) (form : CustodyForm) (scope : Scope) (start trace : List ℕ) (config : Configuration) (heading : Heading) (count refused : ℕ) (ledger : Ledger) (text : List ℕ) → WasTold origin form (Some start) (Some trace) config count refused ledger → IsHeaded scope origin (Some start) (Some trace) heading
+    → IsGiven scope.vm heading config count refused ledger text → IsCustodyText origin form scope start trace text
+account_of_both origin form scope start trace config heading count refused ledger text h headed given =
+    let account = account_given form scope.vm heading h.0 count refused h.3 ledger text h.5 (subst (λ c. IsGiven scope.vm heading c count refused ledger text) h.2 given) in
+    (h.0, count, refused, h.3, h.1, h.4, subst (λ (said : Heading). IsAccount form scope.vm said h.0 count refused h.3 text) headed account)
 
 -- what was written is made of what was kept of both texts
-pub gives_custody : (form : CustodyForm) (scope : Scope) (start trace old new : Option (List ℕ)) (config : Configuration) (heading : Heading) (count refused : ℕ) (ledger : Ledger) → WasTold form start trace config count refused ledger → IsHeaded scope (origin_of form) start trace heading
-    → ((text : List ℕ) × IsGiven scope.vm heading config count refused ledger text × Appends old new text) → Writes (IsCustodyText form scope) start trace old new
-gives_custody form scope None trace old new config heading count refused ledger h headed given = tt
-gives_custody form scope (Some start) None old new config heading count refused ledger h headed given = tt
-gives_custody form scope (Some start) (Some trace) old new config heading count refused ledger h headed given =
-    (given.0, account_of_both form scope start trace config heading count refused ledger given.0 h headed given.1, given.2)
+pub gives_custody : (origin : Origin) (form : CustodyForm) (scope : Scope) (start trace old new : Option (List ℕ)) (config : Configuration) (heading : Heading) (count refused : ℕ) (ledger : Ledger) → WasTold origin form start trace config count refused ledger → IsHeaded scope origin start trace heading
+    → ((text : List ℕ) × IsGiven scope.vm heading config count refused ledger text × Appends old new text) → Writes (IsCustodyText origin form scope) start trace old new
+gives_custody origin form scope None trace old new config heading count refused ledger h headed given = tt
+gives_custody origin form scope (Some start) None old new config heading count refused ledger h headed given = tt
+gives_custody origin form scope (Some start) (Some trace) old new config heading count refused ledger h headed given =
+    (given.0, account_of_both origin form scope start trace config heading count refused ledger given.0 h headed given.1, given.2)
 
-pub begins_custody : (form : CustodyForm) (scope : Scope) (start trace old new : Option (List ℕ)) (config : Configuration) (heading : Heading) (count refused : ℕ) (ledger : Ledger) → WasTold form start trace config count refused ledger → IsHeaded scope (origin_of form) start trace heading
-    → ((text : List ℕ) × (n : ℕ) × IsGiven scope.vm heading config count refused ledger text × Appends old new (take n text)) → Begins (IsCustodyText form scope) start trace old new
-begins_custody form scope None trace old new config heading count refused ledger h headed given = tt
-begins_custody form scope (Some start) None old new config heading count refused ledger h headed given = tt
-begins_custody form scope (Some start) (Some trace) old new config heading count refused ledger h headed given =
-    (given.0, given.1, account_of_both form scope start trace config heading count refused ledger given.0 h headed given.2, given.3)
+pub begins_custody : (origin : Origin) (form : CustodyForm) (scope : Scope) (start trace old new : Option (List ℕ)) (config : Configuration) (heading : Heading) (count refused : ℕ) (ledger : Ledger) → WasTold origin form start trace config count refused ledger → IsHeaded scope origin start trace heading
+    → ((text : List ℕ) × (n : ℕ) × IsGiven scope.vm heading config count refused ledger text × Appends old new (take n text)) → Begins (IsCustodyText origin form scope) start trace old new
+begins_custody origin form scope None trace old new config heading count refused ledger h headed given = tt
+begins_custody origin form scope (Some start) None old new config heading count refused ledger h headed given = tt
+begins_custody origin form scope (Some start) (Some trace) old new config heading count refused ledger h headed given =
+    (given.0, given.1, account_of_both origin form scope start trace config heading count refused ledger given.0 h headed given.2, given.3)
 
 -- a fault from which nothing was written
 pub custody_err : {A B : Type 0} (slot : Option ℕ) (origin : Origin) (start : Option (List ℕ)) (unread : Type 0) (f : TextFault) → TellsCustody {A = A} slot origin start unread (Err f) → TellsCustody {A = B} slot origin start unread (Err f)
@@ -146,6 +148,14 @@ first_cut old new front lines rest cut =
 pub second_cut : (old mid new : Option (List ℕ)) (front lines rest : List ℕ) → Appends old mid (front ++ lines) → ((n : ℕ) × Appends mid new (take n rest)) → (m : ℕ) × Appends old new (take m (front ++ (lines ++ rest)))
 second_cut old mid new front lines rest one cut =
     (length (front ++ lines) + cut.0, rw (sym (take-append-add (front ++ lines) rest cut.0), append_assoc front lines rest) at (Appends-trans old mid new (front ++ lines) (take cut.0 rest) one cut.1))
+
+-- some texts are given, and the next is cut short
+pub part_cut : (old mid new : Option (List ℕ)) (parts : List (Bor (List ℕ))) (i : ℕ) (d : Bor (List ℕ)) → i < length parts → Appends old mid (flat_map (λ part. part.now) (take i parts)) → ((n : ℕ) × Appends mid new (take n (get_or parts i d).now)) → (m : ℕ) × Appends old new (take m (flat_map (λ part. part.now) parts))
+part_cut old mid new parts i d lt one cut =
+    let text = λ (some : List (Bor (List ℕ))). flat_map (λ part. part.now) some in
+    let split : text parts ≡ text (take i parts) ++ ((get_or parts i d).now ++ text (drop (i + 1) parts)) =
+    ap text (sym (take-append-drop i parts)) ∙ flat_map-append (λ part. part.now) (take i parts) (drop i parts) ∙ ap (λ some. text (take i parts) ++ text some) (drop_more parts i d lt) in
+    rw split (first_cut old new (text (take i parts)) (get_or parts i d).now (text (drop (i + 1) parts)) (second_cut old mid new [] (text (take i parts)) (get_or parts i d).now one cut))
 
 pub nothing_given : (old : Option (List ℕ)) → Appends old old []
 nothing_given None = tt

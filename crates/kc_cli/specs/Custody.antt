@@ -3,7 +3,7 @@ use Rattle.std.specs.Prelude.{◌≡◌, ◌≢◌, ◌<◌, ◌≤◌, ℕ, Boo
 use Rattle.std.specs.List.{range_with_len}
 use Rattle.sha2.specs.Sha256.{sha256}
 use Rattle.kc_types.specs.Limits.{call_limit}
-use Rattle.kc_types.specs.Configuration.{Configuration, slot_count}
+use Rattle.kc_types.specs.Configuration.{slot_count}
 use Rattle.kc_types.specs.declared.call.Call.{Call}
 use Rattle.kc_model.specs.State.{State}
 use Rattle.kc_types.specs.declared.custody.Event.{Event}
@@ -17,7 +17,8 @@ use Rattle.kc_model.specs.Custody.{custody, first_line}
 use Rattle.kc_model.specs.CustodyLaws.{IsCustody}
 use Rattle.kc_model.specs.CustodyBlind.{CustodyIsBlind}
 use Rattle.kc_model.specs.Events.{events, changes_in}
-use Rattle.kc_model.specs.Lives.{lives, selected_lives}
+use Rattle.kc_model.specs.Lives.{selected_lives}
+use Rattle.kc_model.specs.Before.{lives_from}
 use Rattle.kc_model.specs.Summaries.{AreSummaries}
 use Rattle.kc_model.specs.Bars.{AreBars}
 use Rattle.kc_remarks.specs.declared.remark.Note.{Note}
@@ -87,19 +88,12 @@ reported true told = map event.Change (changes_in told)
 abbrev pub page_remarks : Bool → Remarks
 page_remarks unseen = record { refused = true; accesses = not unseen }
 
--- the text is that of the changes of all frames and slots, or of one slot's VM, and of what else is asked for; that of the lives of all VMs, or of one slot's, with what was refused at their pages; a picture, which says at its foot of what it is; or a page for a browser, with the first of these texts in it, and what was refused and served
-abbrev pub IsAccount : CustodyForm → Option ℕ → Heading → Configuration → ℕ → ℕ → List Note → List ℕ → Type 0
-IsAccount (Changes origin remarks) vm heading config count refused told text = text ≡ notes_text_of heading config count refused (chosen vm remarks told)
-IsAccount Summary vm heading config count refused told text = text ≡ summary_text_of heading config count refused (attempts_in told) (selected_lives vm (lives (reported heading.is_unseen (events_in told))))
-IsAccount Picture vm heading config count refused told text = HasFoot heading text
-IsAccount (Html origin) vm heading config count refused told text = text ≡ html_text_of (notes_text_of heading config count refused (chosen vm (page_remarks heading.is_unseen) told))
-
--- what the calls begin with: lives and pictures begin at boot
-abbrev pub origin_of : CustodyForm → Origin
-origin_of (Changes origin remarks) = origin
-origin_of Summary = origins.Boot
-origin_of Picture = origins.Boot
-origin_of (Html origin) = origin
+-- the text is that of the changes of all frames and slots, or of one slot's VM, and of what else is asked for; that of the lives of all VMs, or of one slot's, from those that are under way in this state on, with what was refused at their pages; a picture, which says at its foot of what it is; or a page for a browser, with the first of these texts in it, and what was refused and served
+abbrev pub IsAccount : CustodyForm → Option ℕ → Heading → State → ℕ → ℕ → List Note → List ℕ → Type 0
+IsAccount (Changes remarks) vm heading m count refused told text = text ≡ notes_text_of heading m.config count refused (chosen vm remarks told)
+IsAccount Summary vm heading m count refused told text = text ≡ summary_text_of heading m.config count refused (attempts_in told) (selected_lives vm (lives_from m (reported heading.is_unseen (events_in told))))
+IsAccount Picture vm heading m count refused told text = HasFoot heading text
+IsAccount Html vm heading m count refused told text = text ≡ html_text_of (notes_text_of heading m.config count refused (chosen vm (page_remarks heading.is_unseen) told))
 
 -- whether the trace is named by its digest, and what the calls begin with by its own
 abbrev pub names_trace : Named → Bool
@@ -122,10 +116,10 @@ abbrev pub heading_of : Scope → Origin → List ℕ → List ℕ → Heading
 heading_of scope origin start trace = record { digests = digests_of scope.named origin start trace; is_unseen = scope.is_unseen }
 
 -- the text is made of the notes on the trace from the state on that the first text is of
-abbrev pub IsCustodyText : CustodyForm → Scope → List ℕ → List ℕ → List ℕ → Type 0
-IsCustodyText form scope start_text trace_text text =
-    (m : State) × (count : ℕ) × (refused : ℕ) × (told : List Note) × BeginsIn (origin_of form) start_text m × IsCustodyTold m (Some trace_text) count refused told
-    × IsAccount form scope.vm (heading_of scope (origin_of form) start_text trace_text) m.config count refused told text
+abbrev pub IsCustodyText : Origin → CustodyForm → Scope → List ℕ → List ℕ → List ℕ → Type 0
+IsCustodyText origin form scope start_text trace_text text =
+    (m : State) × (count : ℕ) × (refused : ℕ) × (told : List Note) × BeginsIn origin start_text m × IsCustodyTold m (Some trace_text) count refused told
+    × IsAccount form scope.vm (heading_of scope origin start_text trace_text) m count refused told text
 
 -- the machine that calls begin on has the slot of this number, or has not
 abbrev pub HasSlot : Origin → List ℕ → ℕ → Type 0

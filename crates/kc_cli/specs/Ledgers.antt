@@ -10,7 +10,9 @@ use Rattle.kc_remarks.specs.Remarks.{events_in}
 use Rattle.kc_remarks.specs.declared.denials.Answered.{Answered}
 use Rattle.kc_remarks.specs.declared.attempt.Attempt.{Attempt}
 use Rattle.kc_remarks.specs.Attempts.{attempts_in}
+use Rattle.kc_model.specs.State.{State}
 use Rattle.kc_model.specs.Lives.{lives, selected_lives}
+use Rattle.kc_model.specs.Before.{events_before}
 use Rattle.kc_model.specs.Events.{changes_in}
 use Rattle.kc_custody.specs.Selected.{selected}
 use Rattle.kc_custody.specs.Chosen.{no_remarks, chosen}
@@ -26,15 +28,15 @@ use Rattle.kc_cli.specs.Custody.{page_remarks, reported}
 use Rattle.kc_cli.specs.declared.ledger.Ledger.{Ledger}
 use Rattle.kc_cli.specs.declared.ledger.Ledger.TheVariants as kept
 
--- it keeps of these notes what this form is written of
-abbrev pub Keeps : CustodyForm → List Note → Ledger → Type 0
-Keeps (Changes origin remarks) told (kept.Changes events) = (remarks ≡ no_remarks) × (events.items ≡ events_in told)
-Keeps (Changes origin remarks) told (kept.Notes wanted notes) = (wanted ≡ remarks) × (notes.items ≡ told)
-Keeps Summary told (kept.Summary events attempts) = (events.items ≡ events_in told) × (attempts.items ≡ attempts_in told)
-Keeps Picture told (kept.Picture events) = events.items ≡ events_in told
-Keeps Picture told (kept.VmPicture v notes) = notes.items ≡ told
-Keeps (Html origin) told (kept.Html notes) = notes.items ≡ told
-Keeps form told ledger = ⊥
+-- it keeps what this form is written of, for calls that begin in this state, of these notes on them
+abbrev pub Keeps : CustodyForm → State → List Note → Ledger → Type 0
+Keeps (Changes remarks) m told (kept.Changes events) = (remarks ≡ no_remarks) × (events.items ≡ events_in told)
+Keeps (Changes remarks) m told (kept.Notes wanted notes) = (wanted ≡ remarks) × (notes.items ≡ told)
+Keeps Summary m told (kept.Summary events attempts) = (events.items ≡ events_before m ++ events_in told) × (attempts.items ≡ attempts_in told)
+Keeps Picture m told (kept.Picture events) = events.items ≡ events_before m ++ events_in told
+Keeps Picture m told (kept.VmPicture v before notes) = (before.items ≡ events_before m) × (notes.items ≡ told)
+Keeps Html m told (kept.Html notes) = notes.items ≡ told
+Keeps form m told ledger = ⊥
 
 -- the events among what it keeps
 abbrev pub events_kept : Ledger → List Event
@@ -42,7 +44,7 @@ events_kept (kept.Changes events) = events.items
 events_kept (kept.Notes wanted notes) = events_in notes.items
 events_kept (kept.Summary events attempts) = events.items
 events_kept (kept.Picture events) = events.items
-events_kept (kept.VmPicture v notes) = events_in notes.items
+events_kept (kept.VmPicture v before notes) = before.items ++ events_in notes.items
 events_kept (kept.Html notes) = events_in notes.items
 
 -- the attempts at pages of VMs that it keeps beside events
@@ -56,7 +58,7 @@ IsGiven vm heading config count refused (kept.Changes events) text = text ≡ cu
 IsGiven vm heading config count refused (kept.Notes wanted notes) text = text ≡ notes_text_of heading config count refused (chosen vm wanted notes.items)
 IsGiven vm heading config count refused (kept.Summary events attempts) text = text ≡ summary_text_of heading config count refused attempts.items (selected_lives vm (lives (reported heading.is_unseen events.items)))
 IsGiven vm heading config count refused (kept.Picture events) text = HasFoot heading text
-IsGiven vm heading config count refused (kept.VmPicture v notes) text = HasFoot heading text
+IsGiven vm heading config count refused (kept.VmPicture v before notes) text = HasFoot heading text
 IsGiven vm heading config count refused (kept.Html notes) text = text ≡ html_text_of (notes_text_of heading config count refused (chosen vm (page_remarks heading.is_unseen) notes.items))
 
 -- the sink took the text that is given of what was kept

@@ -17,13 +17,13 @@ ghost use Rattle.kc_trace.specs.SummaryText.{summary_text_of};
 ghost use Rattle.kc_trace.specs.Spelling.{longest_call};
 ghost use Rattle.kc_texts.specs.Written.{AppendsBeginning};
 ghost use Rattle.kc_faults.specs.Outcomes.{TellsSink};
-ghost use Rattle.kc_cli.specs.Custody.{origin_of, names_trace, names_start, page_remarks, reported};
+ghost use Rattle.kc_cli.specs.Custody.{names_trace, names_start, page_remarks, reported};
 ghost use Rattle.kc_remarks.specs.Attempts.{AreInOrder};
 ghost use Rattle.kc_cli.specs.Ledgers.{attempts_kept, events_kept, is_remark, GivesAccount, BeginsAccount, lined_text};
 
 use crate::ledger::Ledger;
 use kc_custody::{choose, lives, select, select_lives};
-use kc_faults::{Origin, TextFault};
+use kc_faults::TextFault;
 use kc_html::{HEAD, TAIL};
 use kc_picture::{bars, picture};
 use kc_remarks::{Answered, Attempt, Note, Remarks};
@@ -39,29 +39,15 @@ pub(crate) const FIRST_LINE: u32 = 2;
 /// What is written of what happened.
 #[derive(Clone, Copy, Debug, PartialEq, Eq)]
 pub enum CustodyForm {
-    /// Every change of a frame or slot, a line each, with where the calls begin, and what else is asked for of the
-    /// calls.
-    Changes(Origin, Remarks),
-    /// Each life of a VM, a line each. Calls begin in a configuration's boot state: lives that are under way in the
-    /// state of a text began before it.
+    /// Every change of a frame or slot, a line each, and what else is asked for of the calls.
+    Changes(Remarks),
+    /// Each life of a VM, a line each: first those that are under way before the first call, as if they had begun on
+    /// the header's line.
     Summary,
-    /// A picture, SVG 1.1. Calls begin in a configuration's boot state, since frames are drawn from their owners there
-    /// on.
+    /// A picture, SVG 1.1.
     Picture,
     /// A page for a browser, which has in it what `Changes` gives, with what was refused and served.
-    Html(Origin),
-}
-
-impl CustodyForm {
-    /// What the calls begin with.
-    pub fn origin(self) -> Origin
-        ensures { result ≡ origin_of self }
-    {
-        match self {
-            CustodyForm::Changes(origin, _) | CustodyForm::Html(origin) => origin,
-            CustodyForm::Summary | CustodyForm::Picture => Origin::Boot,
-        }
-    }
+    Html,
 }
 
 /// Which texts the first line names by their SHA-256 digests.
@@ -170,6 +156,21 @@ fn give_changes<K: Sink, L: Line + Drop>(
     }
 }
 
+/// Gives a sink the parts of a text. After an `Err` the sink has taken a beginning of it.
+fn give_parts<K: Sink>(out: &mut K, parts: &[&str]) -> Result<(), Failed>
+    requires { K.failed out.old ≡ false }
+    ensures ok { OnOk result
+        (Appends (K.taken out.old) (K.taken out.new) (flat_map (λ part. part.now) parts.now)) }
+    ensures begun { OnErr result
+        (AppendsBeginning (K.taken out.old) (K.taken out.new) (flat_map (λ part. part.now) parts.now)) }
+    ensures mark { K.failed out.new ≡ is_err result }
+{
+    for part in parts {
+        write_whole(out, part.as_bytes())?;
+    }
+    Ok(())
+}
+
 /// Gives a sink the text that `give_text` gives, in a page for a browser. After an `Err` the sink has taken a beginning
 /// of it.
 fn give_page<K: Sink, L: Line + Drop>(
@@ -188,7 +189,7 @@ fn give_page<K: Sink, L: Line + Drop>(
 {
     write_whole(out, HEAD.as_bytes())?;
     give_text(out, piece, lines, end)?;
-    write_whole(out, TAIL.as_bytes())
+    give_parts(out, &TAIL)
 }
 
 /// Gives what `give_changes` gives, in a page for a browser.
@@ -328,20 +329,23 @@ fn marked(
     Ok((events, marks))
 }
 
-/// The picture of one VM, of some notes.
+/// The picture of one VM, of what is so before the first call and some notes.
 fn vm_picture_of(
     alloc: Global,
     heading: &Heading,
     config: &Config,
     calls: usize,
+    before: Vec<Event>,
     notes: Vec<Note>,
     vm: u32,
 ) -> Result<Vec<u8>, Memory>
     requires few { calls ≤ call_limit }
-    requires within { All (IsIn config.now.frames) (changes_in (events_in notes.items)) }
+    requires within { All (IsIn config.now.frames) (changes_in (before.items ++ events_in notes.items)) }
     ensures { IfOk result (λ text. HasFoot heading.now text.items) }
 {
-    let (events, marks) = marked(alloc, notes, vm, heading.is_unseen)?;
+    let (mut told, marks) = marked(alloc, notes, vm, heading.is_unseen)?;
+    let mut events = before;
+    events.append(&mut told)?;
     let bars = bars(alloc, config, FIRST_LINE + calls as u32, &events)?;
     picture_of_vm(alloc, heading, config, calls, &events, bars, &marks, vm)
 }
@@ -398,8 +402,9 @@ pub(crate) fn give_told<K: Sink>(
             };
             give_whole(&text, out)
         },
-        Ledger::VmPicture(vm, notes) => {
-            let Ok(text) = vm_picture_of(alloc, &heading, &config, calls, notes, vm) else {
+        Ledger::VmPicture(vm, before, notes) => {
+            let made = vm_picture_of(alloc, &heading, &config, calls, before, notes, vm);
+            let Ok(text) = made else {
                 return Err(TextFault::Memory);
             };
             give_whole(&text, out)

@@ -18,7 +18,7 @@ ghost use Rattle.kc_cli.specs.Engine.{IsReplayFault};
 ghost use Rattle.kc_custody.specs.Within.{IsWithin};
 ghost use Rattle.kc_picture.specs.Frames.{IsIn};
 ghost use Rattle.kc_remarks.specs.declared.remark.Note.{Note};
-ghost use Rattle.kc_cli.specs.Custody.{AreNotesOf, IsCustodyTold, IsCustodyText, TellsCustody, origin_of, names_trace};
+ghost use Rattle.kc_cli.specs.Custody.{AreNotesOf, IsCustodyTold, IsCustodyText, TellsCustody, names_trace};
 ghost use Rattle.kc_cli.specs.Answers.{AreAnsweredFrom, AreAnswered};
 ghost use Rattle.kc_cli.specs.Headings.{HasDigest, heading_by, IsHeaded};
 ghost use Rattle.kc_remarks.specs.Attempts.{AreInOrder};
@@ -78,7 +78,7 @@ fn tell_source<T: Source>(
     requires { T.failed trace.old ≡ false }
     ensures ok { IfOk result (λ kept. (told : List Note)
         × AreNotesOf core.old (T.left trace.old) kept.answered.calls kept.answered.denials.total told
-        × Keeps form told kept.ledger) }
+        × Keeps form core.old told kept.ledger) }
     ensures answered { IfOk result
         (λ kept. IfSome (T.left trace.old) (λ text. AreAnsweredFrom core.old text kept.answered)) }
     ensures digest { IfOk result (λ kept. HasDigest is_hashed (T.left trace.old) kept.digest) }
@@ -93,7 +93,10 @@ fn tell_source<T: Source>(
 {
     let mut buffer = [0u8; PIECE];
     let mut stream = stream_of(is_hashed);
-    let mut ledger = Ledger::new(alloc, form, vm);
+    let Ok(ledger) = Ledger::new(alloc, core, form, vm) else {
+        return Err(TextFault::Memory);
+    };
+    let mut ledger = ledger;
     let mut denials = Denials::none();
     let mut line = FIRST_LINE;
     loop {
@@ -160,12 +163,12 @@ fn told_source<T: Source>(
     ensures config { IfOk result (λ told. told.config ≡ begun.core.config) }
     ensures ok { IfOk result (λ kept. (told : List Note)
         × IsCustodyTold begun.core (T.left trace.old) kept.answered.calls kept.answered.denials.total told
-        × Keeps order.form told kept.ledger) }
+        × Keeps order.form begun.core told kept.ledger) }
     ensures answered { IfOk result
         (λ kept. IfSome (T.left trace.old) (λ text. AreAnsweredFrom begun.core text kept.answered)) }
     ensures heading { IfOk result (λ kept. (digest : Option (List ℕ))
         × HasDigest (names_trace order.scope.named) (T.left trace.old) digest
-        × (kept.heading ≡ heading_by order.scope (origin_of order.form) begun.digest digest)) }
+        × (kept.heading ≡ heading_by order.scope order.origin begun.digest digest)) }
     ensures ended { OnOk result (IsAtEnd (T.left trace.new)) }
     ensures trace { (fault : TraceFault) → result ≡ Err (TextFault.Trace fault)
         → IfSome (T.left trace.old) (λ text. IsRefused text fault) × IsAtEnd (T.left trace.new) }
@@ -190,7 +193,7 @@ fn told_source<T: Source>(
         Ok(traced) => Ok(Told {
             config,
             answered: traced.answered,
-            heading: heading_by(order.scope, order.form.origin(), digest, traced.digest),
+            heading: heading_by(order.scope, order.origin, digest, traced.digest),
             ledger: traced.ledger,
         }),
         Err(fault) => Err(fault),
@@ -222,31 +225,24 @@ fn told_texts<C: Source, T: Source>(
     requires start { C.failed start.old ≡ false }
     requires trace { T.failed trace.old ≡ false }
     ensures ok { IfOk result (λ kept. (m : State)
-        × IfSome (C.left start.old) (λ text. BeginsIn (origin_of order.form) text m)
+        × IfSome (C.left start.old) (λ text. BeginsIn order.origin text m)
         × (kept.config ≡ m.config) × (told : List Note)
         × IsCustodyTold m (T.left trace.old) kept.answered.calls kept.answered.denials.total told
-        × Keeps order.form told kept.ledger) }
+        × Keeps order.form m told kept.ledger) }
     ensures answered { IfOk result
-        (λ kept. AreAnswered (origin_of order.form) (C.left start.old) (T.left trace.old) kept.answered) }
+        (λ kept. AreAnswered order.origin (C.left start.old) (T.left trace.old) kept.answered) }
     ensures heading { IfOk result
-        (λ kept. IsHeaded order.scope (origin_of order.form) (C.left start.old) (T.left trace.old) kept.heading) }
+        (λ kept. IsHeaded order.scope order.origin (C.left start.old) (T.left trace.old) kept.heading) }
     ensures sources { TellsSources
         (seen C.failed C.left start.old start.new ∷ seen T.failed T.left trace.old trace.new ∷ []) result }
-    ensures texts { TellsTexts (origin_of order.form) (seen C.failed C.left start.old start.new)
+    ensures texts { TellsTexts order.origin (seen C.failed C.left start.old start.new)
         (seen T.failed T.left trace.old trace.new) (trace.new ≡ trace.old) result }
     ensures custody { TellsCustody
-        order.scope.vm (origin_of order.form) (C.left start.old) (trace.new ≡ trace.old) result }
+        order.scope.vm order.origin (C.left start.old) (trace.new ≡ trace.old) result }
     ensures write { result ≢ Err TextFault.Write }
 {
     let is_hashed = order.scope.named.names_start();
-    let mut begun = begin(
-        rt,
-        alloc,
-        start,
-        order.form.origin(),
-        order.lanes,
-        is_hashed,
-    )?;
+    let mut begun = begin(rt, alloc, start, order.origin, order.lanes, is_hashed)?;
     if let Some(slot) = missing(&begun.core, order.scope.vm) {
         begun.core.wipe(rt);
         return Err(TextFault::NoSlot(slot));
@@ -284,7 +280,9 @@ fn give_answered<K: Sink>(
 /// How what happened is reported.
 #[derive(Clone, Copy)]
 pub struct CustodyOrder {
-    /// What is written, and what the calls begin with.
+    /// What the calls begin with.
+    pub origin: Origin,
+    /// What is written.
     pub form: CustodyForm,
     /// How many pages are hashed at once.
     pub lanes: Lanes,
@@ -313,16 +311,16 @@ pub fn custody_text<C: Source, T: Source, K: Sink>(
 
     // What is written is made of the notes on the trace, and the result is counted of its replies.
     ensures answered { IfOk result
-        (λ answered. AreAnswered (origin_of order.form) (C.left start.old) (T.left trace.old) answered) }
-    ensures ok { OnOk result (Writes (IsCustodyText order.form order.scope)
+        (λ answered. AreAnswered order.origin (C.left start.old) (T.left trace.old) answered) }
+    ensures ok { OnOk result (Writes (IsCustodyText order.origin order.form order.scope)
         (C.left start.old) (T.left trace.old) (K.taken out.old) (K.taken out.new)) }
     ensures sources { TellsSources
         (seen C.failed C.left start.old start.new ∷ seen T.failed T.left trace.old trace.new ∷ []) result }
-    ensures texts { TellsTexts (origin_of order.form) (seen C.failed C.left start.old start.new)
+    ensures texts { TellsTexts order.origin (seen C.failed C.left start.old start.new)
         (seen T.failed T.left trace.old trace.new) (trace.new ≡ trace.old) result }
     ensures custody { TellsCustody
-        order.scope.vm (origin_of order.form) (C.left start.old) (trace.new ≡ trace.old) result }
-    ensures sink { TellsSink (K.failed out.new) (Begins (IsCustodyText order.form order.scope)
+        order.scope.vm order.origin (C.left start.old) (trace.new ≡ trace.old) result }
+    ensures sink { TellsSink (K.failed out.new) (Begins (IsCustodyText order.origin order.form order.scope)
         (C.left start.old) (T.left trace.old) (K.taken out.old) (K.taken out.new)) (out.new ≡ out.old) result }
 {
     let told = told_texts(rt, alloc, start, trace, order)?;

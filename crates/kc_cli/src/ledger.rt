@@ -1,6 +1,7 @@
 //! What is kept of the calls of a trace until it has ended.
-ghost use Rattle.std.specs.Prelude.{◌≡◌, ◌<◌, ◌≤◌, ◌+◌, ◌^◌, ◌++◌, [], List, length, filter, OnOk};
+ghost use Rattle.std.specs.Prelude.{◌≡◌, ◌<◌, ◌≤◌, ◌+◌, ◌^◌, ◌++◌, [], List, length, filter, IfOk, OnOk};
 ghost use Rattle.kc_types.specs.declared.reply.Reply.{Reply};
+ghost use Rattle.kc_model.specs.State.{State};
 ghost use Rattle.kc_model.specs.Next.{replies_from, state_after};
 ghost use Rattle.kc_remarks.specs.declared.remark.Note.{Note};
 ghost use Rattle.kc_remarks.specs.Remarks.{notes_from};
@@ -9,7 +10,7 @@ ghost use Rattle.kc_cli.specs.Ledgers.{Keeps};
 
 use crate::account::CustodyForm;
 use kc_core::KCore;
-use kc_custody::{note_calls, summarize_calls, tell_calls};
+use kc_custody::{events_before, note_calls, summarize_calls, tell_calls};
 use kc_remarks::{Attempt, Denials, Note, Remarks};
 use kc_types::{Call, Event, Memory};
 use std::alloc::Global;
@@ -20,33 +21,46 @@ use std::alloc::Global;
 pub(crate) enum Ledger {
     Changes(Vec<Event>),
     Notes(Remarks, Vec<Note>),
+    /// With what is so before the first call, as events before those of the calls.
     Summary(Vec<Event>, Vec<Attempt>),
+    /// With the same.
     Picture(Vec<Event>),
-    /// For the picture of the VM in a slot, with marks of what was refused and served.
-    VmPicture(u32, Vec<Note>),
+    /// For the picture of the VM in a slot: what is so before the first call, and notes, also for marks of what was
+    /// refused and served.
+    VmPicture(u32, Vec<Event>, Vec<Note>),
     Html(Vec<Note>),
 }
 
 impl Ledger {
-    /// Makes a ledger without calls, for this form, perhaps of one slot's VM alone.
-    pub(crate) fn new(alloc: Global, form: CustodyForm, vm: Option<u32>) -> Ledger
-        ensures { Keeps form [] result }
+    /// Makes a ledger without calls, for this form, perhaps of one slot's VM alone, of calls that begin in this core.
+    pub(crate) fn new(
+        alloc: Global,
+        core: &KCore,
+        form: CustodyForm,
+        vm: Option<u32>,
+    ) -> Result<Ledger, Memory>
+        ensures { IfOk result (Keeps form core.now []) }
     {
         match form {
             CustodyForm::Changes(
-                _,
                 Remarks {
                     refused: false,
                     accesses: false,
                 },
-            ) => Ledger::Changes(Vec::new(alloc)),
-            CustodyForm::Changes(_, remarks) => Ledger::Notes(remarks, Vec::new(alloc)),
-            CustodyForm::Summary => Ledger::Summary(Vec::new(alloc), Vec::new(alloc)),
-            CustodyForm::Picture => match vm {
-                Some(vm) => Ledger::VmPicture(vm, Vec::new(alloc)),
-                None => Ledger::Picture(Vec::new(alloc)),
+            ) => Ok(Ledger::Changes(Vec::new(alloc))),
+            CustodyForm::Changes(remarks) => Ok(Ledger::Notes(remarks, Vec::new(alloc))),
+            CustodyForm::Summary => {
+                let before = events_before(alloc, core)?;
+                Ok(Ledger::Summary(before, Vec::new(alloc)))
             },
-            CustodyForm::Html(_) => Ledger::Html(Vec::new(alloc)),
+            CustodyForm::Picture => {
+                let before = events_before(alloc, core)?;
+                match vm {
+                    Some(vm) => Ok(Ledger::VmPicture(vm, before, Vec::new(alloc))),
+                    None => Ok(Ledger::Picture(before)),
+                }
+            },
+            CustodyForm::Html => Ok(Ledger::Html(Vec::new(alloc))),
         }
     }
 
@@ -62,8 +76,9 @@ impl Ledger {
     ) -> Result<(), Memory>
         requires lines { first + length calls.now < 2 ^ 32 }
         requires counts { denials.old.total + length calls.now < 2 ^ 32 }
-        ensures kept { OnOk result ((form : CustodyForm) (told : List Note)
-            → Keeps form told self.old → Keeps form (told ++ notes_from first core.old calls.now) self.new) }
+        ensures kept { OnOk result ((form : CustodyForm) (start : State) (told : List Note)
+            → Keeps form start told self.old
+            → Keeps form start (told ++ notes_from first core.old calls.now) self.new) }
         ensures state { OnOk result (core.new ≡ state_after core.old calls.now) }
         ensures denied { OnOk result
             (denials.new.total ≡ denials.old.total + length (filter is_denied (notes_from first core.old calls.now))) }
@@ -78,7 +93,7 @@ impl Ledger {
                 summarize_calls(alloc, core, calls, first, events, attempts, denials)
             },
             Ledger::Picture(events) => tell_calls(alloc, core, calls, first, events, denials),
-            Ledger::VmPicture(_, notes) => note_calls(alloc, core, calls, first, notes, denials),
+            Ledger::VmPicture(_, _, notes) => note_calls(alloc, core, calls, first, notes, denials),
             Ledger::Html(notes) => note_calls(alloc, core, calls, first, notes, denials),
         }
     }

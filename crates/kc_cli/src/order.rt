@@ -7,7 +7,7 @@ use kc_faults::Origin;
 pub enum ReplayForm {
     /// The replies, a line each.
     Replies,
-    /// Each call with its reply and the number of its line, an object a line (JSON, RFC 8259).
+    /// Each call with its reply and the number of its line: one JSON object (RFC 8259) on each line.
     Lines,
     /// The dump of the core that the trace leaves.
     Dump,

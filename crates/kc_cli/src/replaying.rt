@@ -157,7 +157,7 @@ fn replay_texts<C: Source, T: Source, R: Threads + Wait + Sync>(
     }
 }
 
-/// The same, with the pages of active VMs zeroed if that is asked for.
+/// The replay, with the pages of active VMs zeroed if that is asked for.
 fn left_as(made: Replayed, is_blank: bool) -> Replayed
     ensures { result ≡ record made { core = left_as is_blank made.core } }
 {
@@ -188,7 +188,7 @@ pub fn replay_text<C: Source, T: Source, K: Sink, R: Threads + Wait + Sync>(
     requires trace { T.failed trace.old ≡ false }
     requires out { K.failed out.old ≡ false }
 
-    // What is written is the text wanted for what the sources held, and the result is counted of the trace's replies.
+    // What is written is the text wanted for what the sources held, and the result counts the trace's replies.
     ensures answered { IfOk result (AreAnswered order.origin (C.left start.old) (T.left trace.old)) }
     ensures ok { OnOk result (Writes (IsReplayText order.origin order.form order.is_blank)
         (C.left start.old) (T.left trace.old) (K.taken out.old) (K.taken out.new)) }
@@ -206,7 +206,8 @@ pub fn replay_text<C: Source, T: Source, K: Sink, R: Threads + Wait + Sync>(
     Ok(answered)
 }
 
-/// The first line of what a source has left that differs from the text of a core's state; `None` if it is that text.
+/// The number, from 1, of the first line of what a source has left that differs from the text of a core's state;
+/// `None` if it is that text.
 fn difference_in<S: Source>(
     rt: &(impl Threads + Sync),
     alloc: Global,
@@ -233,8 +234,7 @@ fn difference_in<S: Source>(
 pub struct Compared {
     /// How the calls were answered.
     pub answered: Answered,
-    /// The number of the first line of that text, from 1, that differs from the state's text; `None` if it is that
-    /// text.
+    /// The number, from 1, of the first line of that text that differs from the state's; `None` if they are the same.
     pub difference: Option<usize>,
 }
 

@@ -4,6 +4,7 @@ pub mod Ranges
 pub mod Runs
 pub mod Told
 pub mod Turned
+pub mod Passed
 pub mod Calls
 pub mod Pushed
 pub mod Picked

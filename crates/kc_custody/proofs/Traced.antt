@@ -1,11 +1,12 @@
 -- The events of a trace name frames and slots that there are.
-use Rattle.std.proofs.Common.{ℕ, ◌+◌, ◌<◌, ◌≤◌, List, [], ◌∷◌, All, ap, arith}
+use Rattle.std.proofs.Common.{ℕ, ◌+◌, ◌<◌, ◌≤◌, List, [], ◌∷◌, map, All, ap, arith}
 use Rattle.std.specs.List.{range_with_len}
 use Rattle.std.proofs.lemmas.List.Elements.{All-nil, All-cons, All-append, All-map, All-filter, All-from_get_or}
 use Rattle.std.proofs.lemmas.List.FromFn.{get_or-range_with_len, length-range_with_len}
 use Rattle.kc_types.specs.Configuration.{Configuration, slot_count, slots_of}
 use Rattle.kc_types.specs.declared.version.Version.{Version}
 use Rattle.kc_types.specs.declared.version.Version.TheVariants.{One, Two}
+use Rattle.kc_types.specs.declared.slot.Phase.TheVariants.{Booting}
 use Rattle.kc_types.specs.declared.owner.Owner.{Owner}
 use Rattle.kc_types.specs.declared.owner.Owner.TheVariants.{Core, Host, Free, Vm}
 use Rattle.kc_types.specs.declared.call.Call.{Call}
@@ -16,9 +17,11 @@ use Rattle.kc_types.specs.declared.custody.Change.{Change}
 use Rattle.kc_types.specs.declared.custody.Change.TheVariants as change
 use Rattle.kc_types.specs.declared.custody.Event.{Event}
 use Rattle.kc_types.specs.declared.custody.Event.TheVariants as event
-use Rattle.kc_model.specs.State.{State, frame_at}
+use Rattle.kc_model.specs.State.{State, frame_at, slot_at}
+use Rattle.kc_model.specs.Boot.{boot}
 use Rattle.kc_model.specs.Next.{next}
-use Rattle.kc_model.specs.Custody.{changes_by, frame_change, phase_change, has_moved, has_turned}
+use Rattle.kc_model.specs.Custody.{changes_by, frame_change, frame_changes_by, phase_change, has_moved, has_turned}
+use Rattle.kc_model.specs.Before.{header_line, is_taken, is_measured, turn_before, frame_before, slots_that, events_before}
 use Rattle.kc_model.specs.Events.{of_owner, access_by, events_by, events_from}
 use Rattle.kc_model.proofs.States.Sizes.{sized-next}
 use Rattle.kc_custody.specs.Within.{IsWithin}
@@ -62,3 +65,14 @@ events-within n m (call ∷ calls) =
     All-append (IsWithin m.config.frames) (events_by n m call) _
     (All-append (IsWithin m.config.frames) (access_by m call (next m call).0) _ (access-within m.config.frames m call (next m call).0) (All-map (IsWithin m.config.frames) event.Change _ (changes-within n m (next m call).1)))
     rest
+
+-- what is so before the first call names those, too
+pub before-within : (m : State) → All (IsWithin m.config.frames) (events_before m)
+before-within m =
+    let P : Event → Type 0 = IsWithin m.config.frames in
+    let slots = range-below (slot_count m.config) 64 (few-slots m.config) in
+    All-append P (map (turn_before Booting) (slots_that is_taken m)) _
+    (All-map P (turn_before Booting) _ (All-filter (is_taken m) (λ v. v < 64) _ slots))
+    (All-append P (map frame_before (frame_changes_by header_line (boot m.config) m)) _
+    (All-map P frame_before _ (All-map (λ told. P (frame_before told)) (frame_change header_line (boot m.config) m) _ (All-filter (has_moved (boot m.config) m) (λ f. f < m.config.frames) _ (range-below m.config.frames m.config.frames (omega arith)))))
+    (All-map P (λ v. turn_before (slot_at m v).phase v) _ (All-filter (is_measured m) (λ v. v < 64) _ slots)))

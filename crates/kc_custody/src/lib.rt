@@ -5,6 +5,7 @@
 //! - which frames a call may move: `specs/Movable.antt`, `src/movable.rt`
 //! - marks before a call, changes after it: `specs/Marks.antt`, `src/telling.rt`; of a call that somebody else makes:
 //!   `src/watching.rt`
+//! - what is so before the first call: `src/before.rt`
 //! - one VM's changes: `specs/Selected.antt`, `src/selected.rt`
 //! - calls made, and noted or summarized: `src/noting.rt`; the frame that a call names: `src/naming.rt`; which notes are written:
 //!   `specs/Chosen.antt`, `src/chosen.rt`
@@ -12,6 +13,7 @@
 //!   and of all: `specs/Tally.antt`, `specs/Ends.antt`, `specs/Behind.antt`; the loop: `src/gathering.rt`
 #![tactic(auto)]
 
+mod before;
 mod behind;
 mod chosen;
 mod different;
@@ -28,6 +30,7 @@ mod tally;
 mod telling;
 mod watching;
 
+pub use before::events_before;
 pub use chosen::choose;
 pub use gathering::lives;
 pub use look_ups::custody_at;

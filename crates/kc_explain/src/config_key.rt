@@ -1,4 +1,6 @@
 //! Which key of a configuration is wrong.
+use crate::masked::Shortened;
+use crate::trace_line::is_among;
 use hex::FromHex;
 use serde_json::Value;
 use serde_json::error::Category;
@@ -6,15 +8,6 @@ use std::alloc::Global;
 use std::io::Eprint;
 
 const KEYS: [&str; 6] = ["frames", "core", "host", "leaves", "approved", "version"];
-
-fn is_key(name: &str) -> bool {
-    for key in KEYS {
-        if key == name {
-            return true;
-        }
-    }
-    false
-}
 
 /// Says what is wrong with the number under a key, and returns whether something is.
 fn explain_number<P: Eprint>(to: &P, value: &Value, key: &str) -> bool {
@@ -30,7 +23,7 @@ fn explain_number<P: Eprint>(to: &P, value: &Value, key: &str) -> bool {
         },
         None => {},
     }
-    let _ = eprintln!(to; "  {key} is no whole number from 0 to 4294967295");
+    let _ = eprintln!(to; "  {key} is not a whole number from 0 to 4294967295");
     true
 }
 
@@ -48,7 +41,7 @@ fn explain_digests<P: Eprint>(to: &P, value: &Value) -> bool {
         return true;
     };
     let Some(digests) = found.as_array() else {
-        let _ = eprintln!(to; "  approved is no list");
+        let _ = eprintln!(to; "  approved is not a list");
         return true;
     };
     let mut place = 0usize;
@@ -56,7 +49,7 @@ fn explain_digests<P: Eprint>(to: &P, value: &Value) -> bool {
         place = place.saturating_add(1);
         if !is_digest(digest) {
             let _ = eprintln!(to;
-                "  entry {place} of approved is no text of 64 hexadecimal digits"
+                "  entry {place} of approved is not a text of 64 hexadecimal digits"
             );
             return true;
         }
@@ -81,12 +74,13 @@ fn explain_version<P: Eprint>(to: &P, value: &Value) -> bool {
 /// Does the same for keys that no configuration has.
 fn explain_keys<P: Eprint>(to: &P, value: &Value) -> bool {
     let Some(members) = value.as_object() else {
-        let _ = to.eprintln("  it is no object");
+        let _ = to.eprintln("  it is not an object");
         return true;
     };
     for key in members.keys() {
-        if !is_key(key.as_str()) {
-            let shown = crate::Shortened(key.as_str().as_bytes());
+        let name = key.as_str().as_bytes();
+        if !is_among(name, &KEYS) {
+            let shown = Shortened(name);
             let _ = eprintln!(to; "  no key is called {shown}");
             return true;
         }
@@ -102,7 +96,7 @@ pub fn explain_config<P: Eprint>(alloc: Global, to: &P, text: &[u8]) {
         Err(error) => {
             if error.classify() != Category::Memory {
                 let (line, column) = (error.line(), error.column());
-                let _ = eprintln!(to; "  no JSON from line {line}, column {column} on");
+                let _ = eprintln!(to; "  not JSON from line {line}, column {column} on");
             }
             return;
         },

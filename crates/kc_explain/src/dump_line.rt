@@ -1,9 +1,8 @@
 //! Why a line is not one of a dump or of a state's text.
-use crate::trace_line::{LineFault, fault_of_number, has_empty_word, is_among, is_digit};
-use kc_lines::split_word;
+use crate::trace_line::{LineFault, fault_of_number, is_among, is_digit, name_of};
 
-/// A letter for each word after the name of a line: n is a number, f a number or a dash, p a phase, o an owner, b 0 or 1,
-/// d a digest, v a virtual processor, and y a page.
+/// A letter for each word after the name of a line: n is a number, f a number or a dash, p a phase, o an owner, b 0 or
+/// 1, d a digest, v a virtual processor, and y a page.
 fn letters_of(name: &[u8]) -> Option<&'static str> {
     if is_among(name, &["size", "leaf", "entry"]) {
         Some("nnn")
@@ -57,18 +56,9 @@ fn fault_of(word: &[u8], place: usize, letter: u8) -> Option<LineFault> {
 
 /// Why a line, without its newline, is not one of a dump or of a state's text, judged by the line alone.
 pub fn fault_of_text_line(line: &[u8]) -> LineFault {
-    if line.is_empty() {
-        return LineFault::Empty;
-    }
-    if line.last() == Some(&b'\r') {
-        return LineFault::CarriageReturn;
-    }
-    if has_empty_word(line) {
-        return LineFault::Spaces;
-    }
-    let name = match split_word(line) {
-        Some((name, _)) => name,
-        None => line,
+    let name = match name_of(line) {
+        Ok(name) => name,
+        Err(fault) => return fault,
     };
     let Some(letters) = letters_of(name) else {
         return LineFault::NoSuchLine;

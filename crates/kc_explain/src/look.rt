@@ -1,5 +1,6 @@
 //! What a text without its header looks like.
-use kc_lines::{read_number, split_line, split_word};
+use crate::trace_line::{first_word, is_among};
+use kc_lines::{read_number, split_line};
 use std::fmt;
 
 /// The first line of a text, which names its version.
@@ -84,18 +85,12 @@ fn has_crlf(text: &[u8]) -> bool {
 
 /// Whether the text begins with the name of a reply.
 fn begins_as_reply(text: &[u8]) -> bool {
-    let line = first_line(text);
-    let name = match split_word(line) {
-        Some((name, _)) => name,
-        None => line,
-    };
-    name == b"done".as_slice()
-        || name == b"frame".as_slice()
-        || name == b"data".as_slice()
-        || name == b"refused".as_slice()
-        || name == b"image".as_slice()
-        || name == b"rejected".as_slice()
-        || name == b"fault".as_slice()
+    is_among(
+        first_word(first_line(text)),
+        &[
+            "done", "frame", "data", "refused", "image", "rejected", "fault",
+        ],
+    )
 }
 
 /// What a text that another program wrote looks like by its first bytes, if it is one.

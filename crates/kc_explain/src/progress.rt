@@ -9,7 +9,8 @@ const STEP: u64 = 16_000_000;
 /// If there is no clock, the line is not shown before this many bytes.
 const FIRST: u64 = 64_000_000;
 
-/// A line on a terminal that shows how much was read. It overwrites itself, and is erased before anything else is written.
+/// A line on a terminal that shows how much was read. It overwrites itself, and is erased before anything else is
+/// written.
 #[derive(Drop)]
 pub struct Progress<'a, P: Eprint + Clock> {
     to: &'a P,

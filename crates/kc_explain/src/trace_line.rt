@@ -86,12 +86,7 @@ impl fmt::Display for LineFault {
 }
 
 pub(crate) fn is_among(name: &[u8], names: &[&str]) -> bool {
-    for one in names {
-        if one.as_bytes() == name {
-            return true;
-        }
-    }
-    false
+    names.iter().any(|one| one.as_bytes() == name)
 }
 
 /// How many words a call has after its name, and whether the last of them is bytes.
@@ -158,29 +153,36 @@ fn fault_of_word(word: &[u8], place: usize, is_bytes: bool) -> Option<LineFault>
     }
 }
 
-pub(crate) fn has_empty_word(line: &[u8]) -> bool {
-    for word in line.split(|byte| *byte == b' ') {
-        if word.is_empty() {
-            return true;
-        }
+fn has_empty_word(line: &[u8]) -> bool {
+    line.split(|byte| *byte == b' ').any(|word| word.is_empty())
+}
+
+/// The first word of a line, which may be the only one.
+pub(crate) fn first_word(line: &[u8]) -> &[u8] {
+    match split_word(line) {
+        Some((word, _)) => word,
+        None => line,
     }
-    false
+}
+
+/// The name that a line begins with, or why the line is not made of words.
+pub(crate) fn name_of(line: &[u8]) -> Result<&[u8], LineFault> {
+    if line.is_empty() {
+        Err(LineFault::Empty)
+    } else if line.last() == Some(&b'\r') {
+        Err(LineFault::CarriageReturn)
+    } else if has_empty_word(line) {
+        Err(LineFault::Spaces)
+    } else {
+        Ok(first_word(line))
+    }
 }
 
 /// Why a line, without its newline, is not a call, if it is not one.
 pub fn fault_of_line(line: &[u8]) -> LineFault {
-    if line.is_empty() {
-        return LineFault::Empty;
-    }
-    if line.last() == Some(&b'\r') {
-        return LineFault::CarriageReturn;
-    }
-    if has_empty_word(line) {
-        return LineFault::Spaces;
-    }
-    let name = match split_word(line) {
-        Some((name, _)) => name,
-        None => line,
+    let name = match name_of(line) {
+        Ok(name) => name,
+        Err(fault) => return fault,
     };
     let Some((wanted, has_bytes)) = words_of(name) else {
         return LineFault::NoSuchCall;

@@ -1,12 +1,24 @@
 //! The titles of lives, and of the marks in lanes.
 ghost use Rattle.std.specs.Prelude.{◌≡◌, ◌++◌, IfOk, OnOk};
 ghost use Rattle.std.specs.String.{string_bytes};
-ghost use Rattle.kc_lanes.specs.LaneTitles.{measured_words, cleared_words, stay_title, tick_title, lives_title, deaths_title};
+ghost use Rattle.kc_lanes.specs.LaneTitles.{registered_words, measured_words, cleared_words, stay_title, tick_title, lives_title, deaths_title};
 
-use crate::vms::{Measured, Stay};
+use crate::vms::{HEADER_LINE, Measured, Stay};
 use kc_svg::Scale;
 use kc_types::Memory;
 use std::alloc::Global;
+
+/// Appends at which line a life began, or that it did so before the first call.
+fn push_registered(words: &mut String, line: u32) -> Result<(), Memory>
+    ensures { OnOk result (string_bytes words.new ≡ string_bytes words.old ++ registered_words line) }
+{
+    if line == HEADER_LINE {
+        words.push_str(": there before the first call")?;
+    } else {
+        write!(words, ": registered at line {line}")?;
+    }
+    Ok(())
+}
 
 /// Appends how the measuring of a VM's images ended, and at which line.
 fn push_measured(words: &mut String, measured: Measured) -> Result<(), Memory>
@@ -14,6 +26,8 @@ fn push_measured(words: &mut String, measured: Measured) -> Result<(), Memory>
 {
     match measured {
         Measured::Not => words.push_str(", never measured")?,
+        Measured::Active(HEADER_LINE) => words.push_str(", active")?,
+        Measured::Dead(HEADER_LINE) => words.push_str(", dead")?,
         Measured::Active(line) => write!(words, ", measured and active from line {line}")?,
         Measured::Dead(line) => write!(words, ", measured and dead from line {line}")?,
     }
@@ -35,8 +49,8 @@ fn push_cleared(words: &mut String, cleared: Option<u32>) -> Result<(), Memory>
 pub(crate) fn stay_title(alloc: Global, vm: u32, stay: &Stay) -> Result<String, Memory>
     ensures { IfOk result (λ title. string_bytes title ≡ stay_title vm stay.now) }
 {
-    let registered = stay.registered;
-    let mut title = format!(in alloc; "vm {vm}: registered at line {registered}")?;
+    let mut title = format!(in alloc; "vm {vm}")?;
+    push_registered(&mut title, stay.registered)?;
     push_measured(&mut title, stay.measured)?;
     push_cleared(&mut title, stay.cleared)?;
     Ok(title)

@@ -69,8 +69,10 @@ pub struct Sheet {
     /// The slot of the one VM that is drawn, if it is one.
     vm: Option<u32>,
     lanes: Vec<Lane>,
-    /// How many VMs there are, how many of them have lanes, and the most frames of one of these.
+    /// How many VMs there are, how many of them before the first call, how many have lanes, and the most frames of one of
+    /// these.
     used: u64,
+    earlier: u64,
     shown: u64,
     most: u64,
     /// Where the frames begin, and the axis below them.
@@ -89,10 +91,13 @@ impl Sheet {
         frames_height: u64,
     ) -> Result<Sheet, Memory> {
         let lanes = lanes_of(alloc, events)?;
-        let (mut used, mut shown, mut most, mut slot) = (0u64, 0u64, 0u64, 0u32);
+        let (mut used, mut earlier, mut shown, mut most, mut slot) = (0u64, 0u64, 0u64, 0u64, 0u32);
         for lane in &lanes {
             if lane.is_used() {
                 used = used.saturating_add(1);
+            }
+            if lane.is_earlier() {
+                earlier = earlier.saturating_add(1);
             }
             if has_lane(lane, slot, vm) {
                 shown = shown.saturating_add(1);
@@ -111,6 +116,7 @@ impl Sheet {
             vm,
             lanes,
             used,
+            earlier,
             shown,
             most,
             frames,
@@ -127,6 +133,10 @@ impl Sheet {
             title,
             "Custody of {frames} of 4,096 bytes through {calls}, {vms}"
         );
+        if self.earlier > 0 {
+            let earlier = self.earlier;
+            put!(title, ", {earlier} of them there before the first call");
+        }
         if let Some(vm) = self.vm {
             put!(title, ": vm {vm} alone");
         }

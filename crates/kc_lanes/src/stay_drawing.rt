@@ -2,7 +2,7 @@
 use crate::labels::{Labels, Span};
 use crate::lane_drawing::LanePlace;
 use crate::lane_titles::{Run, deaths_title, lives_title, stay_title, tick_title};
-use crate::vms::{Measured, Stay};
+use crate::vms::{HEADER_LINE, Measured, Stay};
 use kc_svg::{Colour, DEAD, EDGE, FAINT, FREE, INK, LIFE, PLAIN, Paint, Scale, Svg};
 use kc_types::Memory;
 use std::alloc::Global;
@@ -59,7 +59,9 @@ fn groups_of(alloc: Global, scale: Scale, stays: &[Stay]) -> Result<Vec<Group>, 
 fn deaths_of(alloc: Global, scale: Scale, stays: &[Stay]) -> Result<Vec<Run>, Memory> {
     let mut deaths: Vec<Run> = Vec::new(alloc);
     for stay in stays {
-        if let Measured::Dead(line) = stay.measured {
+        if let Measured::Dead(line) = stay.measured
+            && line != HEADER_LINE
+        {
             let is_joined = match deaths.last_mut() {
                 Some(run) => run.add(scale, POINT, line),
                 None => false,
@@ -115,10 +117,15 @@ fn draw_tick(svg: &mut Svg, place: &LanePlace, colour: Colour, what: &str, line:
     svg.titled_rect(&area, Paint::Plain(colour), &title);
 }
 
-/// Draws the marks of a life except that of a dead VM, which is drawn above all others.
+/// Draws the marks of a life, but none of what is so before the first call, and not that of a dead VM, which is drawn
+/// above all others.
 fn draw_ticks(svg: &mut Svg, place: &LanePlace, stay: &Stay) {
-    draw_tick(svg, place, EDGE, "registered", stay.registered);
-    if let Measured::Active(line) = stay.measured {
+    if stay.registered != HEADER_LINE {
+        draw_tick(svg, place, EDGE, "registered", stay.registered);
+    }
+    if let Measured::Active(line) = stay.measured
+        && line != HEADER_LINE
+    {
         draw_tick(svg, place, INK, "measured and active", line);
     }
     if let Some(line) = stay.cleared {
@@ -163,7 +170,9 @@ fn meets_any(place: &LanePlace, deaths: &[Run], at: &Span) -> bool {
 fn name_active(svg: &mut Svg, place: &LanePlace, stays: &Stays) {
     let mut labels = Labels::new(place.words_base(), PLAIN.sized(900).coloured(FAINT), 3_300);
     for group in &stays.groups {
-        if let Measured::Active(line) = group.stay.measured {
+        if let Measured::Active(line) = group.stay.measured
+            && line != HEADER_LINE
+        {
             let x = place.scale.x(line);
             let at = Span::beside(x, labels.width);
             if group.run.count == 1 && !meets_any(place, &stays.deaths, &at) {

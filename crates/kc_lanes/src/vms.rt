@@ -2,6 +2,9 @@
 use kc_types::{Change, Custody, Event, Memory, Owner, Phase, SLOT_LIMIT};
 use std::alloc::Global;
 
+/// The line of a trace's header: what has it is so before the first call.
+pub(crate) const HEADER_LINE: u32 = 1;
+
 /// A change of a sum modulo 2^64: by one more.
 pub const ONE_MORE: u64 = 1;
 /// By one fewer.
@@ -50,6 +53,14 @@ impl Lane {
             shared: 0,
             steps: Vec::new(alloc),
             stays: Vec::new(alloc),
+        }
+    }
+
+    /// Whether it is there before the first call.
+    pub fn is_earlier(&self) -> bool {
+        match self.stays.first() {
+            Some(stay) => stay.registered == HEADER_LINE,
+            None => false,
         }
     }
 

@@ -43,7 +43,7 @@ is_data_word word = list_all is_lower_digit word && not (length word == 0) && na
 unfoldable pub data_of : List ℕ → Option (List ℕ)
 data_of word = if is_data_word word then result_ok (decode_of word) else None
 
--- zeros, as many as there are bytes, if there are any
+-- a zero for each byte, if there are any
 abbrev pub blanked_data : Option (List ℕ) → Option (List ℕ)
 blanked_data found = option_map (λ bytes. replicate (length bytes) 0) found
 

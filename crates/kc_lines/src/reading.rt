@@ -214,7 +214,7 @@ pub fn read_data(alloc: Global, word: &[u8]) -> Result<Option<Data>, AllocError>
     }
 }
 
-/// Whether a word has only lower case digits. It never ends early, so that many bytes are looked at in one step.
+/// Whether a word has only lower case digits. The loop never ends early, so that many bytes are checked in one step.
 fn are_lower_digits(word: &[u8]) -> bool
     ensures { result ≡ list_all is_lower_digit word.now }
 {
@@ -225,7 +225,7 @@ fn are_lower_digits(word: &[u8]) -> bool
     valid
 }
 
-/// Makes so few zeros that they need no memory of their own.
+/// Makes up to `SHORT_SIZE` zeros, which need no memory of their own.
 fn make_short_zeros(len: usize) -> Data
     requires some { 0 < len }
     requires few { len ≤ short_size }
@@ -235,7 +235,7 @@ fn make_short_zeros(len: usize) -> Data
     Data::short(&zeros[..len])
 }
 
-/// Reads a word as `read_data` does, but gives zeros, as many as the word spells bytes: its digits are only checked.
+/// Reads a word as `read_data` does, but returns a zero for each byte that it spells: its digits are only checked.
 pub fn read_blanked(alloc: Global, word: &[u8]) -> Result<Option<Data>, AllocError>
     ensures { IfOk result (λ found. found ≡ blanked_data (data_of word.now)) }
 {

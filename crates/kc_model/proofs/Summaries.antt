@@ -7,4 +7,9 @@ pub mod Stretches
 pub mod Lives
 pub mod Images
 pub mod Sharings
+pub mod Brought
+pub mod Before
+pub mod MeasuredBefore
+pub mod SharedBefore
+pub mod UnderWay
 pub mod Summed

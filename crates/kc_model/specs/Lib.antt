@@ -20,6 +20,7 @@ pub mod Custody
 pub mod CustodyLaws
 pub mod Events
 pub mod Lives
+pub mod Before
 pub mod Bars
 pub mod Volumes
 pub mod Passing

@@ -1,6 +1,6 @@
 -- Summaries: what the states of a trace and its replies say of each life of a VM. Place k of a trace is after its
 -- first k calls.
-use Rattle.std.specs.Prelude.{ℕ, ◌+◌, ◌-◌, ◌≡◌, ◌≢◌, ◌⊎◌, ◌≤◌, ◌<◌, Bool, false, not, ◌&&◌, ◌==◌, nat_lt, List, [], ◌++◌, length, map, filter, All, Option, Some, None, is_some}
+use Rattle.std.specs.Prelude.{ℕ, ◌+◌, ◌-◌, ◌≡◌, ◌≢◌, ◌⊎◌, ◌≤◌, ◌<◌, Bool, false, not, ◌&&◌, ◌==◌, nat_lt, if◌then◌else◌, List, [], ◌++◌, length, map, filter, All, Option, Some, None, is_some}
 use Rattle.std.specs.List.{list_any, range_with_len, count_by, sum_by, flat_map, find}
 use Rattle.std.specs.Option.{option_map}
 use Rattle.kc_types.specs.declared.call.Call.{Call}
@@ -18,6 +18,7 @@ use Rattle.kc_model.specs.Custody.{first_line, measured_images}
 use Rattle.kc_model.specs.CustodyLaws.{IsStretch}
 use Rattle.kc_model.specs.Events.{events}
 use Rattle.kc_model.specs.Lives.{is_owned_by, lives}
+use Rattle.kc_model.specs.Before.{header_line, is_taken, slots_that, lives_from}
 
 -- the place after the call on a line; after line 1, the header, no call has been made
 abbrev pub place_after : ℕ → ℕ
@@ -94,7 +95,7 @@ sharing_at m calls k f = record {
 abbrev pub IsFirstIn : State → List Call → ℕ → Phase → ℕ → ℕ → Option ℕ → Type 0
 IsFirstIn m calls v phase i j None = (k : ℕ) → i ≤ k → k ≤ j → phase_at m calls v k ≢ phase
 IsFirstIn m calls v phase i j (Some line) =
-    (i ≤ place_after line) × (place_after line ≤ j) × (phase_at m calls v (place_after line) ≡ phase)
+    (i < line) × (place_after line ≤ j) × (phase_at m calls v (place_after line) ≡ phase)
     × ((k : ℕ) → i ≤ k → k < place_after line → phase_at m calls v k ≢ phase)
 
 -- no state from place i to j has more frames in the slot's list, and one has exactly this many
@@ -102,19 +103,15 @@ pub record IsMost (m : State) (calls : List Call) (v i j most : ℕ) : Type 0 wh
   pub no_more : (k : ℕ) → i ≤ k → k ≤ j → listed_at m calls v k ≤ most
   pub as_many : (k : ℕ) × (i ≤ k) × (k ≤ j) × (listed_at m calls v k ≡ most)
 
--- what states and replies say of a life, from the first place at which its VM is registered to its last
-pub record IsSummary (m : State) (calls : List Call) (life : Life) (first last : ℕ) : Type 0 where
+-- what states and replies say of a life, from the first of its places to its last
+pub record IsLived (m : State) (calls : List Call) (life : Life) (first last : ℕ) : Type 0 where
   pub stretch : IsStretch calls first last
-  -- the call on its first line registers the slot
-  pub within : first_line ≤ life.registered
-  pub registered : registered_by (call_at calls (life.registered - first_line)) (reply_at m calls (life.registered - first_line)) ≡ Some life.vm
-  -- the slot becomes active, dead and empty by the calls on these lines, and not before
+  -- the slot becomes active, dead and empty by the calls on these lines, and not before; on the header's line, it is so before the first call
   pub active : IsFirstIn m calls life.vm Active first last life.active
   pub dead : IsFirstIn m calls life.vm Dead first last life.dead
   pub cleared : IsFirstIn m calls life.vm Empty first (length calls) life.cleared
-  -- it is measured at most once, and its images are those that are measured then
+  -- it is measured at most once
   pub once : (life.active ≡ None) ⊎ (life.dead ≡ None)
-  pub images : life.images ≡ measured_on m calls life.vm life.active ++ measured_on m calls life.vm life.dead
   -- `frames` counts all frames that the VM owns at any of its places
   pub frames : life.frames ≡ frames_that (λ f. list_any (owns_at m calls life.vm f) (range_with_len first (last + 1 - first))) m
   pub most : IsMost m calls life.vm first last life.most
@@ -123,11 +120,52 @@ pub record IsSummary (m : State) (calls : List Call) (life : Life) (first last :
   pub returned : life.returned ≡ sum_by (λ k. frames_that (λ f. owns_at m calls life.vm f k && not (owns_at m calls life.vm f (k + 1))) m) (range_with_len first (last - first))
   pub reads : life.reads ≡ calls_that (reads_from life.vm) m calls first last
   pub writes : life.writes ≡ calls_that (writes_to life.vm) m calls first last
-  -- `shared` has, call by call, the sharings that it begins, by frames in ascending order
-  pub shared : life.shared ≡ flat_map (λ k. map (sharing_at m calls k) (filter (shares_first m calls life.vm k) (range_with_len 0 m.config.frames))) (range_with_len first (last - first))
+
+-- the sharings that the calls of a life begin, call by call, by frames in ascending order
+abbrev pub sharings_begun : State → List Call → ℕ → ℕ → ℕ → List Sharing
+sharings_begun m calls v first last = flat_map (λ k. map (sharing_at m calls k) (filter (shares_first m calls v k) (range_with_len 0 m.config.frames))) (range_with_len first (last - first))
+
+-- the life of a VM that a call registers
+pub record IsSummary (m : State) (calls : List Call) (life : Life) (first last : ℕ) : Type 0 where
+  pub lived : IsLived m calls life first last
+  -- the call on its first line registers the slot
+  pub within : first_line ≤ life.registered
+  pub registered : registered_by (call_at calls (life.registered - first_line)) (reply_at m calls (life.registered - first_line)) ≡ Some life.vm
+  -- its images are those that are measured
+  pub images : life.images ≡ measured_on m calls life.vm life.active ++ measured_on m calls life.vm life.dead
+  pub shared : life.shared ≡ sharings_begun m calls life.vm first last
+
+-- the images that a call on this line measures: none on the header's line
+abbrev pub measured_since : State → List Call → ℕ → Option ℕ → List MeasuredImage
+measured_since m calls v None = []
+measured_since m calls v (Some line) = if line == header_line then [] else measured_on m calls v (Some line)
+
+-- a frame of the VM is shared before the first call
+abbrev pub is_shared_before : State → ℕ → ℕ → Bool
+is_shared_before m v f = is_owned_by v (frame_at m f).owner && nat_lt 0 (frame_at m f).share
+
+-- the sharing of a frame that is shared before the first call
+abbrev pub sharing_before : State → List Call → ℕ → Sharing
+sharing_before m calls f = record {
+  frame = f;
+  gfn = (frame_at m f).gfn;
+  from = header_line;
+  to = option_map (λ n. first_line + n) (unshared_by m calls f 0);
+}
+
+-- the life of a VM that is there before the first call
+pub record IsUnderWay (m : State) (calls : List Call) (life : Life) (last : ℕ) : Type 0 where
+  pub lived : IsLived m calls life 0 last
+  pub registered : life.registered ≡ header_line
+  -- its images are those that calls measure
+  pub images : life.images ≡ measured_since m calls life.vm life.active ++ measured_since m calls life.vm life.dead
+  -- `shared` has first the sharings that are under way
+  pub shared : life.shared ≡ map (sharing_before m calls) (filter (is_shared_before m life.vm) (range_with_len 0 m.config.frames)) ++ sharings_begun m calls life.vm 0 last
 
 pub record AreSummaries (m : State) (calls : List Call) : Type 0 where
   -- each life that the events of a trace give is so
   pub each : All (λ life. IsSummary m calls life (place_after life.registered) (last_place calls life.cleared)) (lives (events m calls))
   -- there is a life for each call that registers a slot, in their order
   pub all : map (λ life. life.registered) (lives (events m calls)) ≡ map (λ k. first_line + k) (filter (λ k. is_some (registered_by (call_at calls k) (reply_at m calls k))) (range_with_len 0 (length calls)))
+  -- before them come those that are under way in the state, one for each VM, in the order of their slots
+  pub before : (told : List Life) × (lives_from m (events m calls) ≡ told ++ lives (events m calls)) × (map (λ life. life.vm) told ≡ slots_that is_taken m) × All (λ life. IsUnderWay m calls life (last_place calls life.cleared)) told

@@ -123,7 +123,8 @@ pub fn bars()
 /// the calls from that one to the one that clears the VM, or to the trace's end: the lines of the calls after which
 /// the slot is active, dead or empty; its images as they were measured; the most frames that its list has, and how
 /// many it has at the end; how many frames it ever owned and how many it lost; how many reads and writes the host was
-/// served at its frames; and which of them it shared, from which call to which.
+/// served at its frames; and which of them it shared, from which call to which. If there are VMs before the first call,
+/// their lives come first, in the order of their slots: what came about before it has the header's line.
 pub fn summaries()
     ensures { (m : State) (calls : List Call) → IsLawful m → AreSummaries m calls }
 {}

@@ -12,7 +12,7 @@
 //! - what custody is, and which changes a call and a trace make: `specs/Custody.antt`; what the changes say of the
 //!   calls between them: `specs/CustodyLaws.antt`
 //! - what is reported of a VM's life: `specs/Events.antt`, `specs/Lives.antt`; what states and replies say of the keys
-//!   of a summary: `specs/Summaries.antt`
+//!   of a summary: `specs/Summaries.antt`; what is so before the first call: `specs/Before.antt`
 //! - which bars a picture has: `specs/Bars.antt`
 //! - what a call may touch: `specs/Resources.antt`, `specs/Footprints.antt`, `specs/Local.antt`, `specs/Linked.antt`
 //! - what a live history is: `specs/Histories.antt`; when volumes, each replayed by itself, are one run:

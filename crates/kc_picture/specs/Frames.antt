@@ -1,5 +1,6 @@
 -- Changes of frames that exist, and the line of the next change of each frame.
-use Rattle.std.specs.Prelude.{ℕ, ◌≡◌, ◌<◌, List, length, slice_index, Option, Some, None}
+use Rattle.std.specs.Prelude.{ℕ, ◌≡◌, ◌<◌, Bool, nat_lt, List, length, slice_index, Option, Some, None}
+use Rattle.kc_types.specs.declared.custody.Bar.{Bar}
 use Rattle.kc_types.specs.declared.custody.Change.{Change}
 use Rattle.kc_types.specs.declared.custody.Change.TheVariants as change
 use Rattle.kc_types.specs.declared.custody.FrameChange.{FrameChange}
@@ -16,6 +17,10 @@ IsIn frames (change.Phase told) = Unit {0}
 pub record AreNextLines (frames end : ℕ) (changes : List Change) (lines : List ℕ) : Type 0 where
   pub long : length lines ≡ frames
   pub each : (f : ℕ) → f < frames → slice_index lines f ≡ next_line end f changes
+
+-- the bar has a line: a frame that changes on the header's line has none before that
+abbrev pub is_lasting : Bar → Bool
+is_lasting bar = nat_lt bar.from bar.to
 
 -- the change of a frame that an event is, if it is one
 abbrev pub told_in : Event → Option FrameChange

@@ -1,10 +1,10 @@
 //! The bars of a trace: the stretches of lines after whose calls a frame has one custody.
-ghost use Rattle.std.specs.Prelude.{◌≡◌, ◌<◌, ◌++◌, All, IfOk, reverse};
+ghost use Rattle.std.specs.Prelude.{◌≡◌, ◌<◌, ◌++◌, All, IfOk, filter, reverse};
 ghost use Rattle.kc_model.specs.Boot.{boot};
 ghost use Rattle.kc_model.specs.Custody.{custody_at};
 ghost use Rattle.kc_model.specs.Events.{changes_in};
 ghost use Rattle.kc_model.specs.Bars.{bars, later_bars};
-ghost use Rattle.kc_picture.specs.Frames.{IsIn, AreNextLines, told_in};
+ghost use Rattle.kc_picture.specs.Frames.{IsIn, AreNextLines, is_lasting, told_in};
 
 use kc_types::{Bar, Change, Config, Custody, Event, FrameChange, Memory};
 use std::alloc::Global;
@@ -66,17 +66,33 @@ fn bars_from_changes(
     Ok((bars, next))
 }
 
+/// Whether a bar has a line. A frame that changes on the header's line has none before that.
+fn is_lasting(bar: &Bar) -> bool
+    ensures { result ≡ is_lasting bar.now }
+{
+    bar.from < bar.to
+}
+
+/// Leaves the bars that have a line.
+fn keep_lasting(bars: &mut Vec<Bar>)
+    ensures { bars.new.items ≡ filter is_lasting bars.old.items }
+{
+    bars.retain(|bar| is_lasting(bar));
+}
+
 /// Makes the bars of all frames: those from the first line on, and from each change on, up to the line `end`. `Memory` if
 /// there was none for them.
 pub fn bars(alloc: Global, config: &Config, end: u32, events: &[Event]) -> Result<Vec<Bar>, Memory>
     // The changes of a trace are of frames that exist.
     requires { All (IsIn config.now.frames) (changes_in events.now) }
-    ensures { IfOk result (λ made. made.items ≡ bars (boot config.now) end (changes_in events.now)) }
+    ensures { IfOk result
+        (λ made. made.items ≡ filter is_lasting (bars (boot config.now) end (changes_in events.now))) }
 {
     let (mut bars, next) = bars_from_changes(alloc, config.frames(), end, events)?;
     for frame in (0..config.frames()).rev() {
         bars.push(first_bar(config, frame, next[frame as usize]))?;
     }
     bars.reverse();
+    keep_lasting(&mut bars);
     Ok(bars)
 }

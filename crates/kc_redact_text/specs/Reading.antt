@@ -18,7 +18,7 @@ pub record AreAsGood (core : Option State) (calls others : List Call) : Type 0 w
   pub redacted : redacted_by core calls ≡ redacted_by core others
   pub made : core_after core calls ≡ core_after core others
 
--- the calls are as good as those that the reader is to return, and it has come so far
+-- the calls are as good as those that the reader is to return, and this is how far it has read
 abbrev pub AreRead : Option State → Result (Progress × List Call) TraceFault → Progress → List Call → Type 0
 AreRead core read progress calls = (whole : List Call) × (read ≡ Ok (progress, whole)) × AreAsGood core calls whole
 

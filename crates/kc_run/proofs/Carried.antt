@@ -24,7 +24,7 @@ use Rattle.kc_cli.specs.declared.account.CustodyForm.{CustodyForm}
 use Rattle.kc_cli.specs.declared.account.Scope.{Scope}
 use Rattle.kc_cli.specs.declared.replaying.Compared.{Compared}
 use Rattle.kc_cli.specs.Engine.{IsReplayText, DiffersFromLeft}
-use Rattle.kc_cli.specs.Custody.{IsCustodyText, TellsCustody, origin_of}
+use Rattle.kc_cli.specs.Custody.{IsCustodyText, TellsCustody}
 use Rattle.kc_cli.specs.Answers.{AreAnswered}
 use Rattle.kc_cli.specs.Live.{IsLiveText, CouldRun, HasBadActor}
 use Rattle.kc_run.specs.declared.ending.Ending.TheVariants as endings
@@ -117,11 +117,11 @@ compares origin form blank workers start to ends (Err f) opened answered written
   sink = sink_err _ _ _ f sink;
 }
 
-pub reports : (form : CustodyForm) (scope : Scope) (start : Seen) (ends : Ends) (r : Result Answered TextFault) → ends.refused ≡ None
-    → IfOk r (AreAnswered (origin_of form) start.had ends.input.had)
-    → OnOk r (Writes (IsCustodyText form scope) start.had ends.input.had ends.out.had ends.out.has) → TellsSources (start ∷ ends.input ∷ []) r → TellsTexts (origin_of form) start ends.input ends.unread r → TellsCustody scope.vm (origin_of form) start.had ends.unread r
-    → TellsSink ends.out.failed (Begins (IsCustodyText form scope) start.had ends.input.had ends.out.had ends.out.has) ends.untouched r → ReportsCustody form scope start ends (answered_as r)
-reports form scope start ends (Ok x) opened answered written sources told custody sink = record {
+pub reports : (origin : Origin) (form : CustodyForm) (scope : Scope) (start : Seen) (ends : Ends) (r : Result Answered TextFault) → ends.refused ≡ None
+    → IfOk r (AreAnswered origin start.had ends.input.had)
+    → OnOk r (Writes (IsCustodyText origin form scope) start.had ends.input.had ends.out.had ends.out.has) → TellsSources (start ∷ ends.input ∷ []) r → TellsTexts origin start ends.input ends.unread r → TellsCustody scope.vm origin start.had ends.unread r
+    → TellsSink ends.out.failed (Begins (IsCustodyText origin form scope) start.had ends.input.had ends.out.had ends.out.has) ends.untouched r → ReportsCustody origin form scope start ends (answered_as r)
+reports origin form scope start ends (Ok x) opened answered written sources told custody sink = record {
   opened = opened;
   written = written;
   answered = answered;
@@ -130,7 +130,7 @@ reports form scope start ends (Ok x) opened answered written sources told custod
   custody = custody_ok _ _ _ _ x (endings.Answered x) custody;
   sink = sink_ok _ _ _ x (endings.Answered x) sink;
 }
-reports form scope start ends (Err f) opened answered written sources told custody sink = record {
+reports origin form scope start ends (Err f) opened answered written sources told custody sink = record {
   opened = opened;
   written = tt;
   answered = tt;

@@ -21,14 +21,14 @@ use Rattle.kc_cli.specs.declared.order.ReplayForm.{ReplayForm}
 use Rattle.kc_cli.specs.declared.account.CustodyForm.{CustodyForm}
 use Rattle.kc_cli.specs.declared.account.Scope.{Scope}
 use Rattle.kc_cli.specs.Engine.{IsReplayText, DiffersFromLeft}
-use Rattle.kc_cli.specs.Custody.{IsCustodyText, TellsCustody, origin_of}
+use Rattle.kc_cli.specs.Custody.{IsCustodyText, TellsCustody}
 use Rattle.kc_cli.specs.Answers.{AreAnswered}
 use Rattle.kc_cli.specs.Live.{IsLiveText, CouldRun, HasBadActor}
 use Rattle.kc_args.specs.declared.job.Start.{Start}
 use Rattle.kc_args.specs.declared.job.Start.TheVariants as starts
 use Rattle.kc_args.specs.declared.job.Action.{Action}
 use Rattle.kc_args.specs.declared.job.Action.TheVariants as actions
-use Rattle.kc_args.specs.Jobs.{Path, path_of, origin_at, form_of, start_in}
+use Rattle.kc_args.specs.Jobs.{Path, path_of, origin_at}
 use Rattle.kc_run.specs.declared.ending.Ending.{Ending}
 use Rattle.kc_run.specs.declared.ending.Ending.TheVariants as endings
 use Rattle.kc_run.specs.Opening.{Held, text_at, IsOpenFault}
@@ -60,7 +60,7 @@ IsAnswered origin start trace (endings.Answered answered) = AreAnswered origin s
 IsAnswered origin start trace (endings.Another answered line) = AreAnswered origin start trace answered
 IsAnswered origin start trace ending = ⊥
 
--- whether the state left is that of a third text, if there is one, and else on which line of that it first differs
+-- whether the state left is that of a third text, if there is one; if it is not, the first line of that text that differs
 abbrev pub IsCompared : Origin → Bool → Option (List ℕ) → Option (List ℕ) → Option Seen → Ending → Type 0
 IsCompared origin blank start trace (Some to) (endings.Answered answered) = DiffersFromLeft origin blank start trace to.had None
 IsCompared origin blank start trace (Some to) (endings.Another answered line) = DiffersFromLeft origin blank start trace to.had (Some line)
@@ -89,14 +89,14 @@ ReplaysTo origin form blank workers (Some path) start ends ended =
     IsUnopened (Some path) ends ended ⊎ ((to : Seen) × (to.had ≡ ends.held path.now) × Replays origin form blank workers start (Some to) ends ended)
 
 -- a report of custody over open sources ended so
-pub record ReportsCustody (form : CustodyForm) (scope : Scope) (start : Seen) (ends : Ends) (ended : Ended) : Type 0 where
+pub record ReportsCustody (origin : Origin) (form : CustodyForm) (scope : Scope) (start : Seen) (ends : Ends) (ended : Ended) : Type 0 where
   pub opened : ends.refused ≡ None
-  pub written : OnOk ended (Writes (IsCustodyText form scope) start.had ends.input.had ends.out.had ends.out.has)
-  pub answered : IfOk ended (IsAnswered (origin_of form) start.had ends.input.had)
+  pub written : OnOk ended (Writes (IsCustodyText origin form scope) start.had ends.input.had ends.out.had ends.out.has)
+  pub answered : IfOk ended (IsAnswered origin start.had ends.input.had)
   pub sources : TellsSources (start ∷ ends.input ∷ []) ended
-  pub told : TellsTexts (origin_of form) start ends.input ends.unread ended
-  pub custody : TellsCustody scope.vm (origin_of form) start.had ends.unread ended
-  pub sink : TellsSink ends.out.failed (Begins (IsCustodyText form scope) start.had ends.input.had ends.out.had ends.out.has) ends.untouched ended
+  pub told : TellsTexts origin start ends.input ends.unread ended
+  pub custody : TellsCustody scope.vm origin start.had ends.unread ended
+  pub sink : TellsSink ends.out.failed (Begins (IsCustodyText origin form scope) start.had ends.input.had ends.out.had ends.out.has) ends.untouched ended
 
 -- a live run over open sources ended so
 pub record RunsLive (workers : ℕ) (config : Seen) (ends : Ends) (ended : Ended) : Type 0 where
@@ -155,7 +155,7 @@ BeginsAt start Runs ends ended = IsUnopened (path_of start) ends ended ⊎ ((sou
 abbrev pub IsEnding : Action → Ends → Ended → Type 0
 IsEnding (actions.Replay start to form blank workers) ends ended = BeginsAt start (ReplaysTo (origin_at start) form blank workers to) ends ended
 IsEnding (actions.Live config workers) ends ended = BeginsAt (starts.Boot config) (RunsLive workers) ends ended
-IsEnding (actions.Custody account scope) ends ended = BeginsAt (start_in account) (ReportsCustody (form_of account) scope) ends ended
+IsEnding (actions.Custody start form scope) ends ended = BeginsAt start (ReportsCustody (origin_at start) form scope) ends ended
 IsEnding (actions.Audit all) ends ended = AuditsDump all ends ended
 IsEnding actions.Redact ends ended = RedactsTrace ends ended
 IsEnding (actions.RedactHost start) ends ended = BeginsAt start (RedactsHost (origin_at start)) ends ended
@@ -173,7 +173,7 @@ abbrev pub IsEndingOf : {S : Type 0} → (S → Option (List ℕ)) → (S → Bo
 IsEndingOf left failed None action ends ended = IsEnding action ends ended
 IsEndingOf left failed (Some path) action ends ended = IsUnopened (Some path) ends ended ⊎ ReadsFile left failed path action ends ended
 
--- what a run of a job leaves, and the exit status, the fault, the counts and the differing line that it answers: the exit status and the error sink say how the job ended
+-- what a run of a job leaves, and the exit status, the fault, the counts and the line that differs, which it returns: the exit status and the error sink say how the job ended
 pub record IsRun {S : Type 0} (left : S → Option (List ℕ)) (failed : S → Bool) (job : Job) (ends : Ends) (err : Took) (silent : Type 0) (status : ℕ) (fault : Option TextFault) (answered : Option Answered) (difference : Option ℕ) : Type 0 where
   pub ended : Ended
   pub ending : IsEndingOf left failed job.input job.action ends ended

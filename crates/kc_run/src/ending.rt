@@ -16,8 +16,8 @@ pub enum Ending {
     Done,
     /// The same, and this is how the trace's calls were answered.
     Answered(Answered),
-    /// The same, and the state that the trace leaves is not the one that it was compared with: this line of that one's
-    /// text, from 1, is the first that differs.
+    /// The same, and the state that the trace leaves is not that of the text that it was compared with, whose first
+    /// line that differs has this number, from 1.
     Another { answered: Answered, line: usize },
     /// The same, and something is found in the dump.
     Unsound,
@@ -32,7 +32,7 @@ pub struct Exit {
     pub fault: Option<TextFault>,
     /// How the trace's calls were answered, if that was counted.
     pub answered: Option<Answered>,
-    /// The first line that differs of the text of the state that was compared, if one does.
+    /// The number of the first line that differs, in the text that the state was compared with, if one does.
     pub difference: Option<usize>,
 }
 

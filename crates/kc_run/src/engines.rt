@@ -1,7 +1,7 @@
 //! The engines, over the files that a job names, an input and a sink.
 ghost use Rattle.std.specs.Prelude.{◌≡◌, false, None};
 ghost use Rattle.kc_texts.specs.Ends.{seen};
-ghost use Rattle.kc_args.specs.Jobs.{origin_at, form_of, start_in};
+ghost use Rattle.kc_args.specs.Jobs.{origin_at};
 ghost use Rattle.kc_run.specs.Opening.{Held};
 ghost use Rattle.kc_run.specs.Endings.{took, done_as, answered_as, compared_as, ending_of, judged_as};
 ghost use Rattle.kc_run.specs.Run.{ends_of, BeginsAt, ReplaysTo, ReportsCustody, RunsLive, AuditsDump, RedactsTrace, RedactsHost};
@@ -9,10 +9,10 @@ ghost use Rattle.kc_run.specs.Run.{ends_of, BeginsAt, ReplaysTo, ReportsCustody,
 use crate::beginning::{begin, close, open};
 use crate::ending::Ending;
 use crate::files::Files;
-use kc_args::{Account, Start};
+use kc_args::Start;
 use kc_cli::{
-    Answered, Compared, CustodyOrder, Lanes, ReplayOrder, Scope, Sink, Source, TextFault,
-    audit_text, custody_text, live_text, replay_text, replay_to_text,
+    Answered, Compared, CustodyOrder, Lanes, ReplayOrder, Sink, Source, TextFault, audit_text,
+    custody_text, live_text, replay_text, replay_to_text,
 };
 use kc_redact_text::{redact_host_text, redact_text};
 use kc_replay::OpenGate;
@@ -149,25 +149,19 @@ pub(crate) fn replay<F: Files, T: Source, K: Sink, R: Threads + Wait + Sync>(
 pub(crate) fn custody<F: Files, T: Source, K: Sink, R: Threads + Wait + Sync>(
     system: &System<'_, R>,
     files: &mut F,
-    account: Account<'_>,
-    scope: Scope,
+    start: Start<'_>,
     input: &mut T,
     out: &mut K,
+    order: CustodyOrder,
 ) -> Result<Ending, TextFault>
     requires files { F.refused files.old ≡ None }
     requires input { T.failed input.old ≡ false }
     requires out { K.failed out.old ≡ false }
-    ensures { BeginsAt (start_in account.entry) (ReportsCustody (form_of account.entry) scope)
+    ensures { BeginsAt start.entry (ReportsCustody order.origin order.form order.scope)
         (ends_of (F.held files.old) (F.refused files.new) (seen T.failed T.left input.old input.new)
         (input.new ≡ input.old) (took K.failed K.taken out.old out.new) (out.new ≡ out.old)) result }
 {
-    let form = account.form();
-    let mut beginning = begin(system.alloc, files, account.start())?;
-    let order = CustodyOrder {
-        form,
-        lanes: system.lanes,
-        scope,
-    };
+    let mut beginning = begin(system.alloc, files, start)?;
     let answer = custody_text(
         system.threads,
         system.alloc,

@@ -9,7 +9,7 @@ use crate::ending::{Ending, Exit, end};
 use crate::engines::{System, audit, custody, live, redact, redact_host, replay};
 use crate::files::Files;
 use kc_args::{Action, Job};
-use kc_cli::{ReplayOrder, Sink, Source, TextFault};
+use kc_cli::{CustodyOrder, ReplayOrder, Sink, Source, TextFault};
 use std::sync::Wait;
 use std::thread::Threads;
 
@@ -46,7 +46,15 @@ fn run_action<F: Files, T: Source, K: Sink, R: Threads + Wait + Sync>(
             replay(system, files, start, to, input, out, order)
         },
         Action::Live { config, workers } => live(system, files, config, workers, input, out),
-        Action::Custody { account, scope } => custody(system, files, account, scope, input, out),
+        Action::Custody { start, form, scope } => {
+            let order = CustodyOrder {
+                origin: start.origin(),
+                form,
+                lanes: system.lanes,
+                scope,
+            };
+            custody(system, files, start, input, out, order)
+        },
         Action::Audit { all } => audit(system, all, input, out),
         Action::Redact => redact(system.alloc, input, out),
         Action::RedactHost { start } => redact_host(system, files, start, input, out),

@@ -7,7 +7,7 @@ pub record PartAfter (n : ℕ) (text other : List ℕ) : Type 0 where
   pub same : take n text ≡ take n other
   pub apart : take (n + 1) text ≢ take (n + 1) other
 
--- the number of the line, from 1, of the byte after the first of these many
+-- the number, from 1, of the line that the byte after the first n is on
 abbrev pub line_after : ℕ → List ℕ → ℕ
 line_after n text = 1 + count_by (λ b. b == 10) (take n text)
 

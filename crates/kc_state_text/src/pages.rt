@@ -41,8 +41,8 @@ impl Buffer {
     }
 }
 
-/// Decodes a word of digits into a zero page, by way of a buffer; returns whether it spells the bytes of a page that
-/// are not all zero.
+/// Decodes a word of digits into a zero page, through a buffer, and returns whether it spells the bytes of a page, not
+/// all of them zero.
 fn decode_page(word: &[u8], bytes: &mut [u8], page: &mut PageBytes) -> bool
     requires whole { length bytes.old ≡ page_size }
     requires zero { page.old ≡ zero_page }

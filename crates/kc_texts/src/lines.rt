@@ -151,8 +151,8 @@ pub fn give_trace<K: Sink>(out: &mut K, mut piece: Vec<u8>, calls: Vec<Call>) ->
 /// The line of a trace's first call: its header is line 1.
 const FIRST_LINE: usize = 2;
 
-/// Gives the lines of a trace's calls with their replies to a sink, in pieces as large as the empty buffer has room for:
-/// memory does not grow. After an `Err` the sink has taken a beginning of them.
+/// Gives the lines of a trace's calls with their replies to a sink, in pieces as large as the empty buffer has room
+/// for: memory does not grow. After an `Err` the sink has taken a beginning of them.
 pub fn give_answers<K: Sink>(
     out: &mut K,
     mut piece: Vec<u8>,

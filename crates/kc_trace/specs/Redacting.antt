@@ -1,4 +1,4 @@
--- What a reader makes of the bytes that virtual processors write: it reads them, or has zeros in their place.
+-- What a reader makes of the bytes that virtual processors write: it reads them, or puts zeros in their place.
 use Rattle.std.specs.Prelude.{ℕ, List, Option, option_map, Result, Ok, Err}
 use Rattle.kc_types.specs.declared.call.Call.{Call}
 use Rattle.kc_model.specs.Redaction.{redacted_call, redacted}

@@ -8,11 +8,11 @@ use crate::writer::{LONGEST_CALL, push_line};
 use kc_lines::push_bytes;
 use kc_types::{Call, Reply};
 
-/// More bytes than the longest line of a call with its reply, with its newline.
+/// More bytes than the longest line of a call and its reply, with its newline.
 pub const LONGEST_ANSWER: usize = LONGEST_CALL + LONGEST_REPLY + 64;
 
-/// Appends the line of a call that is on this line of its trace, and of its reply, with its newline, for which there is
-/// room: memory does not grow.
+/// Appends the line of a call and its reply, with its newline, for which there is room: memory does not grow. The call
+/// is on line `line` of its trace.
 pub fn push_answer(text: &mut Vec<u8>, line: usize, call: &Call, reply: &Reply)
     requires { vec_len text.old + longest_answer ≤ vec_capacity text.old }
     ensures line { text.new.items ≡ text.old.items ++ answer_line line call.now reply.now }

@@ -203,7 +203,7 @@ fn read_host_write(
     }))
 }
 
-/// Reads the bytes that a virtual processor writes, or has zeros in their place.
+/// Reads the bytes that a virtual processor writes, or puts zeros in their place.
 fn read_guest_data(
     alloc: Global,
     guests: GuestData,

@@ -35,7 +35,7 @@ fn push_number(text: &mut Vec<u8>, name: &str, number: u32)
     push_word(text, name, Buffer::new().format(number));
 }
 
-/// Appends the words of some bytes.
+/// Appends `data` and the digits of some bytes.
 fn push_data(text: &mut Vec<u8>, bytes: &Data)
     requires { vec_len text.old + longest_reply ≤ vec_capacity text.old }
     ensures words { text.new.items ≡ text.old.items ++ join_with_byte 32 (codes "data" ∷ encode_lower bytes.now ∷ []) }

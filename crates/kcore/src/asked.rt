@@ -58,9 +58,10 @@ impl<'a> Asked<'a> {
     /// What this job asks for.
     pub fn of(job: &Job<'a>) -> Asked<'a> {
         let (kind, start) = match job.action {
-            Action::Replay { start, .. } | Action::RedactHost { start } => (Kind::Trace, start),
+            Action::Replay { start, .. }
+            | Action::Custody { start, .. }
+            | Action::RedactHost { start } => (Kind::Trace, start),
             Action::Live { config, .. } => (Kind::Trace, Start::Boot(config)),
-            Action::Custody { account, .. } => (Kind::Trace, account.start()),
             Action::Redact => (Kind::Trace, Start::Boot(None)),
             Action::Audit { .. } => (Kind::Dump, Start::Boot(None)),
         };

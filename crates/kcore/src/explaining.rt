@@ -228,7 +228,7 @@ impl<'a> Reading<'a> {
 
     /// Says which line of the state that was compared is the first that differs, and shows it if it can be read again.
     pub fn explain_difference(&self, rt: &HostRuntime, number: usize) {
-        // It may also be the one in which calls began, and was given back before that.
+        // The compared file was given back first; calls may also begin in it.
         let mut states = self.files.iter();
         let Some(file) = states.find(|file| matches!(file.kind, Kind::State | Kind::Compared))
         else {

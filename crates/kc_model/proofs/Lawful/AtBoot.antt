@@ -28,10 +28,10 @@ pub slot_at-boot : (c : Configuration) (v : ℕ) → slot_at (boot c) v ≡ empt
 unfolding no_vms
 slot_at-boot c v = get_or-same (slot_count c) empty_slot v
 
-frame_at-boot : (c : Configuration) (f : ℕ) → f < c.frames → frame_at (boot c) f ≡ boot_frame c f
+pub frame_at-boot : (c : Configuration) (f : ℕ) → f < c.frames → frame_at (boot c) f ≡ boot_frame c f
 frame_at-boot c f lt = get_or-map-range_with_len (boot_frame c) 0 c.frames f f (untouched Core) lt (omega arith)
 
-frame_at-past : (c : Configuration) (f : ℕ) → c.frames ≤ f → frame_at (boot c) f ≡ untouched Core
+pub frame_at-past : (c : Configuration) (f : ℕ) → c.frames ≤ f → frame_at (boot c) f ≡ untouched Core
 frame_at-past c f h = get_or_past _ f _ (rw length-map-range_with_len h)
 
 not_vm : (c : Configuration) (f v : ℕ) → boot_owner c f ≡ Vm v → ⊥

@@ -69,7 +69,7 @@ access-all P reads writes m (HostRead f off len) (reply.Data bytes) = owner-all 
 access-all P reads writes m (HostWrite f off bytes) reply.Done = owner-all P event.Write writes (frame_at m f).owner
 access-all P reads writes m _ _ = All-nil P
 
-frames-all : (P : Event → Type 0) → ((told : FrameChange) → P (event.Change (change.Frame told))) → (told : List FrameChange) → All P (map event.Change (map change.Frame told))
+pub frames-all : (P : Event → Type 0) → ((told : FrameChange) → P (event.Change (change.Frame told))) → (told : List FrameChange) → All P (map event.Change (map change.Frame told))
 frames-all P each told = All-map P event.Change (map change.Frame told) (All-map (λ change. P (event.Change change)) change.Frame told (λ i d lt. each _))
 
 pub front-all : (P : Event → Type 0) → ((w : ℕ) → P (event.Read w)) → ((w : ℕ) → P (event.Write w)) → ((told : FrameChange) → P (event.Change (change.Frame told))) → (n : ℕ) (m : State) (call : Call) → All P (front n m call)
@@ -136,21 +136,26 @@ and-not : (b : Bool) → (b && not b) ≡ false
 and-not true = refl
 and-not false = refl
 
+-- changes of frames gain what the VM has only after them, and lose what it has only before them
+pub frames-gain : (v n : ℕ) (old new : State) → count (is_gain v) (map event.Change (map change.Frame (frame_changes_by n old new))) ≡ count (gained old new v) (all_frames old)
+frames-gain v n old new = count-moved (is_gain v) n old new (λ f still. ap (λ b. not (has old v f) && b) (has-still old new v f still) ∙ not-and (has old v f))
+
+pub frames-lose : (v n : ℕ) (old new : State) → count (is_loss v) (map event.Change (map change.Frame (frame_changes_by n old new))) ≡ count (lost old new v) (all_frames old)
+frames-lose v n old new = count-moved (is_loss v) n old new (λ f still. ap (λ b. has old v f && not b) (has-still old new v f still) ∙ and-not (has old v f))
+
 front-gains : (v n : ℕ) (m : State) (call : Call) → count (is_gain v) (front n m call) ≡ count (gained m (next m call).1 v) (all_frames m)
 front-gains v n m call =
     let new = (next m call).1 in
     let access = access_by m call (next m call).0 in
     let none = count-none (is_gain v) access (access-all (λ told. is_gain v told ≡ false) (λ w. refl) (λ w. refl) m call (next m call).0) in
-    let some = count-moved (is_gain v) n m new (λ f still. ap (λ b. not (has m v f) && b) (has-still m new v f still) ∙ not-and (has m v f)) in
-    count-append (is_gain v) access (map event.Change (map change.Frame (frame_changes_by n m new))) ∙ omega (arith, none, some)
+    count-append (is_gain v) access (map event.Change (map change.Frame (frame_changes_by n m new))) ∙ omega (arith, none, frames-gain v n m new)
 
 front-losses : (v n : ℕ) (m : State) (call : Call) → count (is_loss v) (front n m call) ≡ count (lost m (next m call).1 v) (all_frames m)
 front-losses v n m call =
     let new = (next m call).1 in
     let access = access_by m call (next m call).0 in
     let none = count-none (is_loss v) access (access-all (λ told. is_loss v told ≡ false) (λ w. refl) (λ w. refl) m call (next m call).0) in
-    let some = count-moved (is_loss v) n m new (λ f still. ap (λ b. has m v f && not b) (has-still m new v f still) ∙ and-not (has m v f)) in
-    count-append (is_loss v) access (map event.Change (map change.Frame (frame_changes_by n m new))) ∙ omega (arith, none, some)
+    count-append (is_loss v) access (map event.Change (map change.Frame (frame_changes_by n m new))) ∙ omega (arith, none, frames-lose v n m new)
 
 -- an event that is not a gain brings no frame
 gained-none : (v : ℕ) (told : Event) → is_gain v told ≡ false → frame_gained v told ≡ None
@@ -189,6 +194,18 @@ gained-moved old new v f = by_moved (has_moved old new f) refl
     by_moved : (b : Bool) → has_moved old new f ≡ b → (b && (gained old new v f && nat_eq f f)) ≡ gained old new v f
     by_moved true is = ap (λ b. gained old new v f && b) (eq-eqb f f refl) ∙ and-true (gained old new v f)
     by_moved false still = sym (ap (λ b. not (has old v f) && b) (has-still old new v f still) ∙ not-and (has old v f))
+
+-- the frames that changes bring are those that the VM has only after them
+pub frames-bring : (v n : ℕ) (old new : State) (f : ℕ) → f < old.config.frames → is_in (frames_gained v (map event.Change (map change.Frame (frame_changes_by n old new)))) f ≡ gained old new v f
+frames-bring v n old new f lt =
+    moved-gains v n old new (moved old new) f
+    ∙ among-range (λ g. gained old new v g && nat_eq g f) (has_moved old new) 0 old.config.frames f (λ g differs. and_right (gained old new v g) (nat_eq g f) (ne_eqb g f differs)) (omega arith) (omega (arith, lt))
+    ∙ gained-moved old new v f
+
+pub frames-within : (v n : ℕ) (old new : State) → All (λ f. f < old.config.frames) (frames_gained v (map event.Change (map change.Frame (frame_changes_by n old new))))
+frames-within v n old new =
+    moved-within (λ f. f < old.config.frames) v n old new (moved old new)
+    (All-filter (has_moved old new) (λ f. f < old.config.frames) (all_frames old) (All-weaker (λ f. (0 ≤ f) × (f < 0 + old.config.frames)) (λ f. f < old.config.frames) (λ f is. omega (arith, is.1)) (all_frames old) (in-range 0 old.config.frames)))
 
 front-gained : (v n : ℕ) (m : State) (call : Call) → frames_gained v (front n m call) ≡ frames_gained v (map event.Change (map change.Frame (frame_changes_by n m (next m call).1)))
 front-gained v n m call =
@@ -231,11 +248,6 @@ call-tells v n m call quiet is low each =
         | inr none ↦ inr (losses ∙ none)
       ];
       losses = losses;
-      gains = λ f lt.
-          ap (λ (fs : List ℕ). is_in fs f) brought ∙ moved-gains v n m new (moved m new) f
-          ∙ among-range (λ g. gained m new v g && nat_eq g f) (has_moved m new) 0 m.config.frames f (λ g differs. and_right (gained m new v g) (nat_eq g f) (ne_eqb g f differs)) (omega arith) (omega (arith, lt))
-          ∙ gained-moved m new v f;
-      within = subst (λ (fs : List ℕ). All (λ f. f < m.config.frames) fs) (sym brought)
-          (moved-within (λ f. f < m.config.frames) v n m new (moved m new)
-          (All-filter (has_moved m new) (λ f. f < m.config.frames) (all_frames m) (All-weaker (λ f. (0 ≤ f) × (f < 0 + m.config.frames)) (λ f. f < m.config.frames) (λ f is. omega (arith, is.1)) (all_frames m) (in-range 0 m.config.frames))));
+      gains = λ f lt. ap (λ (fs : List ℕ). is_in fs f) brought ∙ frames-bring v n m new f lt;
+      within = subst (λ (fs : List ℕ). All (λ f. f < m.config.frames) fs) (sym brought) (frames-within v n m new);
     }

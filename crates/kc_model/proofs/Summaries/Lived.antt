@@ -9,9 +9,10 @@ use Rattle.kc_types.specs.declared.slot.Phase.TheVariants.{Empty, Booting, Activ
 use Rattle.kc_types.specs.declared.custody.Change.TheVariants as change
 use Rattle.kc_types.specs.declared.custody.Event.{Event}
 use Rattle.kc_types.specs.declared.custody.Event.TheVariants as event
+use Rattle.kc_types.specs.declared.custody.Life.{Life}
 use Rattle.kc_model.specs.State.{State, slot_at}
 use Rattle.kc_model.specs.Custody.{has_turned, same_phase, phase_change, images_for, measured_images}
-use Rattle.kc_model.specs.Lives.{is_turn, life_in, line_of_turn, is_measuring, images_told}
+use Rattle.kc_model.specs.Lives.{is_turn, life_in, line_of_turn, is_measuring, images_told, life_from, lives}
 use Rattle.kc_model.proofs.Custody.Same.{same_phase-refl}
 use Rattle.kc_model.proofs.Custody.Told.{turned, among-range}
 use Rattle.kc_model.proofs.Summaries.Called.{slot_event, IsQuiet, slot-quiet}
@@ -43,7 +44,7 @@ pub life-through : (v : ℕ) (xs ys : List Event) → All (IsInLife v) xs → li
 life-through v [] ys within = refl
 life-through v (x ∷ xs) ys within = life-more v x (xs ++ ys) (All-head (IsInLife v) x xs within) ∙ ap (λ zs. x ∷ zs) (life-through v xs ys (All-tail (IsInLife v) x xs within))
 
-line-more : (v : ℕ) (phase : Phase) (told : Event) (more : List Event) → is_turn v phase told ≡ false → line_of_turn v phase (told ∷ more) ≡ line_of_turn v phase more
+pub line-more : (v : ℕ) (phase : Phase) (told : Event) (more : List Event) → is_turn v phase told ≡ false → line_of_turn v phase (told ∷ more) ≡ line_of_turn v phase more
 line-more v phase (event.Change (change.Phase told)) more other = cond-false ((nat_eq told.vm v) && same_phase told.phase phase) (Some told.line) _ other
 line-more v phase (event.Change (change.Frame told)) more other = refl
 line-more v phase (event.Read w) more other = refl
@@ -55,8 +56,15 @@ line-through v phase [] ys other = refl
 line-through v phase (x ∷ xs) ys other =
     line-more v phase x (xs ++ ys) (All-head (λ told. is_turn v phase told ≡ false) x xs other) ∙ line-through v phase xs ys (All-tail (λ told. is_turn v phase told ≡ false) x xs other)
 
+-- events that begin no life
+pub lives-through : (xs ys : List Event) → All (λ told. (more : List Event) → life_from told more ≡ []) xs → lives (xs ++ ys) ≡ lives ys
+lives-through [] ys none = refl
+lives-through (x ∷ xs) ys none =
+    ap (λ (first : List Life). first ++ lives (xs ++ ys)) (All-head (λ told. (more : List Event) → life_from told more ≡ []) x xs none (xs ++ ys))
+    ∙ lives-through xs ys (All-tail (λ told. (more : List Event) → life_from told more ≡ []) x xs none)
+
 -- an event that does not measure the slot gives none of its images
-images-more : (v : ℕ) (told : Event) (more : List Event) → is_measuring v told ≡ false → images_told v (told ∷ more) ≡ images_told v more
+pub images-more : (v : ℕ) (told : Event) (more : List Event) → is_measuring v told ≡ false → images_told v (told ∷ more) ≡ images_told v more
 images-more v (event.Change (change.Phase told)) more not = cond-false (is_measuring v (event.Change (change.Phase told))) told.images _ not
 images-more v (event.Change (change.Frame told)) more not = refl
 images-more v (event.Read w) more not = refl
@@ -67,7 +75,7 @@ images-through v [] ys not = refl
 images-through v (x ∷ xs) ys not =
     images-more v x (xs ++ ys) (All-head (λ told. is_measuring v told ≡ false) x xs not) ∙ images-through v xs ys (All-tail (λ told. is_measuring v told ≡ false) x xs not)
 
-measures-not : (v : ℕ) (told : Event) → is_turn v Active told ≡ false → is_turn v Dead told ≡ false → is_measuring v told ≡ false
+pub measures-not : (v : ℕ) (told : Event) → is_turn v Active told ≡ false → is_turn v Dead told ≡ false → is_measuring v told ≡ false
 measures-not v told active dead = cond-false (is_turn v Active told) true _ active ∙ dead
 
 pub measure-not : (v : ℕ) (xs : List Event) → All (λ told. is_turn v Active told ≡ false) xs → All (λ told. is_turn v Dead told ≡ false) xs → All (λ told. is_measuring v told ≡ false) xs

@@ -34,10 +34,10 @@ abbrev frame_events : ℕ → State → State → List ℕ → List Event
 frame_events n old new fs = map event.Change (map change.Frame (map (frame_change n old new) fs))
 
 -- events that end no sharing
-abbrev EndsNone : ℕ → Event → Type 0
+abbrev pub EndsNone : ℕ → Event → Type 0
 EndsNone f told = (more : List Event) → end_of_sharing f (told ∷ more) ≡ end_of_sharing f more
 
-end-through : (f : ℕ) (xs ys : List Event) → All (EndsNone f) xs → end_of_sharing f (xs ++ ys) ≡ end_of_sharing f ys
+pub end-through : (f : ℕ) (xs ys : List Event) → All (EndsNone f) xs → end_of_sharing f (xs ++ ys) ≡ end_of_sharing f ys
 end-through f [] ys none = refl
 end-through f (x ∷ xs) ys none = All-head (EndsNone f) x xs none (xs ++ ys) ∙ end-through f xs ys (All-tail (EndsNone f) x xs none)
 
@@ -96,16 +96,16 @@ share-more : (v : ℕ) (told : Event) (more : List Event) → IsInLife v told �
 share-more v told more is = cond-false (is_turn v Booting told) [] _ is.unregistered ∙ cond-false (is_turn v Empty told) [] _ is.kept
 
 -- what holds of the elements of a map holds of the map's results
-from-map : {X Y : Type 0} (P : Y → Type 0) (make : X → Y) (xs : List X) → All P (map make xs) → All (λ x. P (make x)) xs
+pub from-map : {X Y : Type 0} (P : Y → Type 0) (make : X → Y) (xs : List X) → All P (map make xs) → All (λ x. P (make x)) xs
 from-map P make [] each = All-nil (λ x. P (make x))
 from-map P make (x ∷ xs) each = All-cons (λ x. P (make x)) x xs (All-head P (make x) (map make xs) each) (from-map P make xs (All-tail P (make x) (map make xs) each))
 
 -- events that begin no sharing
-record BeginsNone (v : ℕ) (told : Event) : Type 0 where
-  goes_on : IsInLife v told
-  none : (more : List Event) → sharing_from v told more ≡ []
+pub record BeginsNone (v : ℕ) (told : Event) : Type 0 where
+  pub goes_on : IsInLife v told
+  pub none : (more : List Event) → sharing_from v told more ≡ []
 
-share-through : (v : ℕ) (xs ys : List Event) → All (BeginsNone v) xs → sharings v (xs ++ ys) ≡ sharings v ys
+pub share-through : (v : ℕ) (xs ys : List Event) → All (BeginsNone v) xs → sharings v (xs ++ ys) ≡ sharings v ys
 share-through v [] ys none = refl
 share-through v (x ∷ xs) ys none =
     let first = All-head (BeginsNone v) x xs none in
@@ -127,10 +127,10 @@ share-closed v n old new (w ∷ ws) more any empty =
     ]
 
 -- whether the VM shares the frame after a call, and it was not shared before it
-abbrev starts : ℕ → State → State → ℕ → Bool
+abbrev pub starts : ℕ → State → State → ℕ → Bool
 starts v old new f = is_owned_by v (frame_at new f).owner && (nat_eq (frame_at old f).share 0 && nat_lt 0 (frame_at new f).share)
 
-abbrev started : ℕ → State → Option ℕ → ℕ → Sharing
+abbrev pub started : ℕ → State → Option ℕ → ℕ → Sharing
 started n new to f = record { frame = f; gfn = (frame_at new f).gfn; from = n; to = to }
 
 starts-moved : (v : ℕ) (old new : State) (f : ℕ) → has_moved old new f ≡ false → starts v old new f ≡ false
@@ -143,11 +143,11 @@ starts-moved v old new f still = false_from_ne_true (starts v old new f) (λ is.
     omega (arith, same, none, some))
 
 -- the same, with its end as later events report it
-abbrev starting : ℕ → State → List Event → ℕ → Sharing
+abbrev pub starting : ℕ → State → List Event → ℕ → Sharing
 starting n new later f = started n new (end_of_sharing f later) f
 
 -- the sharings that changes of frames begin
-frames-share : (v n : ℕ) (old new : State) (later : List Event) (low count : ℕ)
+pub frames-share : (v n : ℕ) (old new : State) (later : List Event) (low count : ℕ)
     → sharings v (frame_events n old new (filter (has_moved old new) (range_with_len low count)) ++ later) ≡ map (starting n new later) (filter (starts v old new) (range_with_len low count)) ++ sharings v later
 frames-share v n old new later low zero = refl
 frames-share v n old new later low (suc count) =
@@ -172,11 +172,11 @@ frames-share v n old new later low (suc count) =
 
 module _ (m : State) (calls : List Call) where
   -- the line of the first of `d` calls from a place on after which the frame is not shared, if there is one
-  abbrev ended_in : ℕ → ℕ → ℕ → Option ℕ
+  abbrev pub ended_in : ℕ → ℕ → ℕ → Option ℕ
   ended_in f k d = option_map (λ n. first_line + n) (find (λ k. nat_eq (grants_at m calls f (k + 1)) 0) (range_with_len k d))
 
   -- what is reported of the end of a sharing
-  ends-at : (f : ℕ) → f < m.config.frames → (d k : ℕ) → k + d ≡ length calls → 0 < grants_at m calls f k → end_of_sharing f (told m calls d k) ≡ ended_in f k d
+  pub ends-at : (f : ℕ) → f < m.config.frames → (d k : ℕ) → k + d ≡ length calls → 0 < grants_at m calls f k → end_of_sharing f (told m calls d k) ≡ ended_in f k d
   ends-at f low zero k whole shared = refl
   ends-at f low (suc d) k whole shared =
       let line = first_line + k in
@@ -199,7 +199,7 @@ module _ (m : State) (calls : List Call) where
   abbrev begun : ℕ → ℕ → List Sharing
   begun v k = map (sharing_at m calls k) (filter (shares_first m calls v k) (range_with_len 0 m.config.frames))
 
-  same-on : {X : Type 0} (g h : ℕ → X) (xs : List ℕ) → All (λ x. g x ≡ h x) xs → map g xs ≡ map h xs
+  pub same-on : {X : Type 0} (g h : ℕ → X) (xs : List ℕ) → All (λ x. g x ≡ h x) xs → map g xs ≡ map h xs
   same-on g h [] same = refl
   same-on g h (x ∷ xs) same = ap₂ (λ y ys. y ∷ ys) (All-head (λ x. g x ≡ h x) x xs same) (same-on g h xs (All-tail (λ x. g x ≡ h x) x xs same))
 

@@ -37,7 +37,7 @@ most-lost v (x ∷ xs) ys none =
     by_event false false other is rest = let all = count-cons (is_loss v) x xs ∙ ap (λ b. one_if b + count (is_loss v) xs) is in omega (arith, rest, all)
 
 -- events that take no frames raise the most by what they bring
-most-gained : (v : ℕ) (xs ys : List Event) → count (is_loss v) xs ≡ 0 → most_beyond v (xs ++ ys) ≡ most_beyond v ys + count (is_gain v) xs
+pub most-gained : (v : ℕ) (xs ys : List Event) → count (is_loss v) xs ≡ 0 → most_beyond v (xs ++ ys) ≡ most_beyond v ys + count (is_gain v) xs
 most-gained v [] ys none = omega arith
 most-gained v (x ∷ xs) ys none =
     let parts = first-of-none (is_loss v x) (count (is_loss v) xs) (sym (count-cons (is_loss v) x xs) ∙ none) in

@@ -1,10 +1,8 @@
 -- Each life that the events of a trace give is what its states and replies say.
-use Rattle.std.proofs.Common.{ℕ, zero, suc, ◌≡◌, ◌<◌, ◌≤◌, ◌+◌, ◌-◌, inl, inr, ◌&&◌, ◌||◌, is_some, Bool, true, false, cond, List, [], ◌∷◌, ◌++◌, map, filter, length, get_or, All, Option, Some, None, refl, sym, ap, subst, ◌∙◌, arith, append_assoc}
-use Rattle.std.specs.List.{list_any, range_with_len}
+use Rattle.std.proofs.Common.{ℕ, zero, suc, ◌≡◌, ◌<◌, ◌≤◌, ◌+◌, ◌-◌, inl, inr, ◌&&◌, is_some, Bool, true, false, cond, List, [], ◌∷◌, ◌++◌, map, filter, length, get_or, All, Option, Some, None, refl, sym, ap, subst, ◌∙◌, arith, append_assoc}
+use Rattle.std.specs.List.{range_with_len}
 use Rattle.std.proofs.lemmas.Bool.{cond_both, cond-true, cond-false, cases_eq, false_from_ne_true, true≢false, and_parts, and_from}
-use Rattle.std.proofs.Math.Bool.{or-false}
-use Rattle.std.proofs.lemmas.List.Sums.{length-filter}
-use Rattle.std.proofs.lemmas.List.Elements.{All-nil, All-cons, All-append, All-weaker, All-head, All-tail, All-filter}
+use Rattle.std.proofs.lemmas.List.Elements.{All-nil, All-cons, All-append, All-weaker, All-filter}
 use Rattle.kc_types.specs.Configuration.{slot_count}
 use Rattle.kc_types.specs.declared.call.Call.{Call}
 use Rattle.kc_types.specs.declared.call.Call.TheVariants.{Take}
@@ -18,20 +16,22 @@ use Rattle.kc_model.specs.Footprints.{state_at, call_at, reply_at}
 use Rattle.kc_model.specs.Resources.{is_in}
 use Rattle.kc_model.specs.Custody.{has_turned, same_phase, first_line}
 use Rattle.kc_model.specs.Events.{events_by, events_from, events}
-use Rattle.kc_model.specs.Lives.{life_in, line_of_turn, life_of, life_from, lives, frames_gained}
-use Rattle.kc_model.specs.Summaries.{place_after, last_place, phase_at, listed_at, owns_at, registered_by, IsFirstIn, IsSummary, AreSummaries}
+use Rattle.kc_model.specs.Lives.{life_in, line_of_turn, life_of, life_from, lives}
+use Rattle.kc_model.specs.Before.{is_taken, slots_that, lives_from}
+use Rattle.kc_model.specs.Summaries.{place_after, last_place, phase_at, owns_at, registered_by, IsSummary, IsUnderWay, AreSummaries}
 use Rattle.kc_model.proofs.Lawful.LawfulTraces.{lawful-at}
 use Rattle.kc_model.proofs.Footprints.Reaches.{config-at}
 use Rattle.kc_model.proofs.Custody.Same.{not-turned}
 use Rattle.kc_model.proofs.Custody.Told.{turned}
 use Rattle.kc_model.proofs.Custody.Ordered.{in-range}
 use Rattle.kc_model.proofs.Summaries.Owned.{has-listed}
-use Rattle.kc_model.proofs.Summaries.Counts.{different, count-same}
 use Rattle.kc_model.proofs.Summaries.Turns.{stays, registers, activates, rejects, clears, turns, booted}
 use Rattle.kc_model.proofs.Summaries.Called.{slot_event, front, rear, front-all, events-parted}
-use Rattle.kc_model.proofs.Summaries.Lived.{phase-is}
+use Rattle.kc_model.proofs.Summaries.Lived.{phase-is, lives-through}
 use Rattle.kc_model.proofs.Summaries.Sharings.{AreShared, begun_from, shared-from, shared-beside}
 use Rattle.kc_model.proofs.Summaries.Images.{IsMeasuredOnce, measured-once, measured-beside}
+use Rattle.kc_model.proofs.Summaries.UnderWay.{lives-before}
+use Rattle.kc_model.proofs.Summaries.Brought.{Brings, AreTurns, lived}
 use Rattle.kc_model.proofs.Summaries.Lives.{told, IsLife, life-from as life-onward, life-beside, has-turned}
 
 -- the events of a trace, by places
@@ -63,11 +63,6 @@ is-registered v m call is turned booting = elim (turns v m call is) [
 ]
 
 module _ (m : State) (calls : List Call) (is : IsLawful m) where
-  -- a life's last place is in the trace
-  last-within : (v : ℕ) (i : ℕ) (line : Option ℕ) → IsFirstIn m calls v Empty i (length calls) line → last_place calls line ≤ length calls
-  last-within v i None first = omega arith
-  last-within v i (Some line) first = first.1
-
   abbrev Summed : Life → Type 0
   Summed life = IsSummary m calls life (place_after life.registered) (last_place calls life.cleared)
 
@@ -78,39 +73,29 @@ module _ (m : State) (calls : List Call) (is : IsLawful m) where
       let call : k ≡ (first_line + k) - first_line = omega arith in
       let place : suc k ≡ (first_line + k) - 1 = omega arith in
       let booting = by.booting in
-      let none : listed_at m calls v (suc k) ≡ 0 = ap (λ (frames : List ℕ). length frames) by.none in
-      let tells = life.tells in
-      let gained = frames_gained v (life_in v more) in
-      let N = m.config.frames in
-      let first : (f : ℕ) → owns_at m calls v f (suc k) ≡ false = λ f. false_from_ne_true (owns_at m calls v f (suc k)) (λ owns.
+      let unlisted : (f : ℕ) → owns_at m calls v f (suc k) ≡ false = λ f. false_from_ne_true (owns_at m calls v f (suc k)) (λ owns.
       let listed = has-listed (state_at m calls (suc k)) v (lawful-at m calls is (suc k) within) (rw (config-at m calls (suc k)) low) f owns in
-      let unlisted = ap (λ (fs : List ℕ). is_in fs f) by.none in
-      true≢false (sym listed ∙ unlisted)) in
-      let ever : ℕ → Bool = λ f. list_any (owns_at m calls v f) (range_with_len (suc k) (last_place calls line + 1 - suc k)) in
-      let summed : IsSummary m calls (life_of v (first_line + k) more) (suc k) (last_place calls line) = record {
-        within = omega arith;
-        registered = subst (λ i. registered_by (call_at calls i) (reply_at m calls i) ≡ Some v) call by.by;
-        stretch = record { begins = tells.begins; ends = last-within v (suc k) line life.cleared };
+      let none = ap (λ (fs : List ℕ). is_in fs f) by.none in
+      true≢false (sym listed ∙ none)) in
+      let brings : Brings m calls v (suc k) [] = record {
+        gains = sym (ap (λ (frames : List ℕ). length frames) by.none);
+        losses = refl;
+        reads = refl;
+        writes = refl;
+        frames = λ f low. sym (unlisted f);
+        within = All-nil (λ f. f < m.config.frames);
+      } in
+      let turns : AreTurns m calls v (suc k) line (life_in v more) = record {
+        cleared = life.ended;
         active = life.turned Active (λ e. cc) (λ e. let h = sym booting ∙ e in cc);
         dead = life.turned Dead (λ e. cc) (λ e. let h = sym booting ∙ e in cc);
         once = measured.once;
+      } in
+      let summed : IsSummary m calls (life_of v (first_line + k) more) (suc k) (last_place calls line) = record {
+        lived = lived m calls is v low (first_line + k) (suc k) [] (life_in v more) more line brings life turns;
+        within = omega arith;
+        registered = subst (λ i. registered_by (call_at calls i) (reply_at m calls i) ≡ Some v) call by.by;
         images = measured.images;
-        cleared = subst (λ end. IsFirstIn m calls v Empty (suc k) (length calls) end) (sym life.ended) life.cleared;
-        most = record {
-          no_more = λ n from to. let most = tells.no_more n from to in omega (arith, most, none);
-          as_many = let at = tells.as_many in let most = at.3 in (at.0, at.1, at.2, omega (arith, most, none));
-        };
-        frames =
-            different gained N tells.within
-            ∙ count-same (is_in gained) ever (range_with_len 0 N)
-            (All-weaker (λ f. (0 ≤ f) × (f < 0 + N)) (λ f. is_in gained f ≡ ever f)
-            (λ f low. sym (or-false (is_in gained f)) ∙ ap (λ b. is_in gained f || b) (sym (first f)) ∙ tells.gains f (omega (arith, low.1)))
-            (range_with_len 0 N) (in-range 0 N))
-            ∙ length-filter ever (range_with_len 0 N);
-        returned = tells.losses;
-        left = let balance = tells.balance in omega (arith, balance, none);
-        reads = tells.reads;
-        writes = tells.writes;
         shared = shared ∙ ap (λ end. begun_from m calls v (suc k) (last_place calls end)) life.ended;
       } in
       subst (λ i. IsSummary m calls (life_of v (first_line + k) more) i (last_place calls (line_of_turn v Empty (life_in v more)))) place
@@ -159,13 +144,6 @@ module _ (m : State) (calls : List Call) (is : IsLawful m) where
           All-append Summed (life_from (slot_event (first_line + k) (state_at m calls k) (state_at m calls (suc k)) low) more) (lives more) (summed-slot d k whole low (omega (arith, within)) turned ws above) rest
       by_test false turned ws above rest = rest
 
-  -- no life begins with an access or a change of a frame
-  lives-front : (xs ys : List Event) → All (λ told. (more : List Event) → life_from told more ≡ []) xs → lives (xs ++ ys) ≡ lives ys
-  lives-front [] ys none = refl
-  lives-front (x ∷ xs) ys none =
-      ap (λ (first : List Life). first ++ lives (xs ++ ys)) (All-head (λ told. (more : List Event) → life_from told more ≡ []) x xs none (xs ++ ys))
-      ∙ lives-front xs ys (All-tail (λ told. (more : List Event) → life_from told more ≡ []) x xs none)
-
   -- the lives that begin with the call at a place, and those after it
   lives-parted : (d k : ℕ) → lives (told m calls (suc d) k) ≡ lives (rear (first_line + k) (state_at m calls k) (call_at calls k) ++ told m calls d (suc k))
   lives-parted d k =
@@ -176,7 +154,7 @@ module _ (m : State) (calls : List Call) (is : IsLawful m) where
       let more = told m calls d (suc k) in
       ap (λ events. lives (events ++ more)) (events-parted line old (call_at calls k))
       ∙ ap lives (append_assoc first slots more)
-      ∙ lives-front first (slots ++ more) (front-all (λ told. (more : List Event) → life_from told more ≡ []) (λ w more. refl) (λ w more. refl) (λ told more. refl) line old (call_at calls k))
+      ∙ lives-through first (slots ++ more) (front-all (λ told. (more : List Event) → life_from told more ≡ []) (λ w more. refl) (λ w more. refl) (λ told more. refl) line old (call_at calls k))
 
   summed-from : (d k : ℕ) → k + d ≡ length calls → All Summed (lives (told m calls d k))
   summed-from zero k whole = All-nil Summed
@@ -280,4 +258,5 @@ pub summaries_are : (m : State) (calls : List Call) → IsLawful m → AreSummar
 summaries_are m calls is = record {
   each = subst (λ events. All (Summed m calls is) (lives events)) (sym (told-all m calls)) (summed-from m calls is (length calls) 0 (omega arith));
   all = ap lines (told-all m calls) ∙ lines-from m calls is (length calls) 0 (omega arith);
+  before = subst (λ events. (told : List Life) × (lives_from m events ≡ told ++ lives events) × (map (λ life. life.vm) told ≡ slots_that is_taken m) × All (λ life. IsUnderWay m calls life (last_place calls life.cleared)) told) (sym (told-all m calls)) (lives-before m calls is);
 }

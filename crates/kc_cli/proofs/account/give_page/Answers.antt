@@ -29,13 +29,11 @@ returns-clause-ok g c =
     let lines = c.args.piece.items ++ (flat_map g.L.Line.line c.args.lines.items ++ c.args.end.now) in
     let head = rw c.as_bytes.ensures.value at c.in_ok-write_whole.ensures.ok in
     let both = Appends-trans _ _ _ html_head lines head c.in_ok-give_text.ensures.ok in
-    let tail = rw c.as_bytes-2.ensures.value at c.write_whole-2.ensures.ok in
-    on_ok_weaker c.write_whole-2.result (λ more. both_given _ _ _ html_head lines html_tail both more) tail
+    on_ok_weaker c.give_parts.result (λ more. both_given _ _ _ html_head lines html_tail both more) c.give_parts.ensures.ok
 
 pub returns-clause-begun : goal.returns-clause-begun
 returns-clause-begun g c =
     let lines = c.args.piece.items ++ (flat_map g.L.Line.line c.args.lines.items ++ c.args.end.now) in
     let head = rw c.as_bytes.ensures.value at c.in_ok-write_whole.ensures.ok in
     let both = Appends-trans _ _ _ html_head lines head c.in_ok-give_text.ensures.ok in
-    let tail = rw c.as_bytes-2.ensures.value at c.write_whole-2.ensures.begun in
-    on_err_weaker c.write_whole-2.result (λ cut. second_cut _ _ _ html_head lines html_tail both cut) tail
+    on_err_weaker c.give_parts.result (λ cut. second_cut _ _ _ html_head lines html_tail both cut) c.give_parts.ensures.begun

@@ -10,7 +10,7 @@ use Rattle.kc_cli.proofs.custody.tell_source.Goals as goal
 
 pub loop-ledger-init : goal.loop-ledger-init
 loop-ledger-init g c = record {
-  read = ([], [], c.stream_of-stream.ensures.none (g.T.Source.left c.args.trace.now), c.new-ledger.ensures, refl, refl, c.none-denials.ensures.total, omega (arith, c.none-denials.ensures.total), c.none-denials.ensures.counted);
+  read = ([], [], c.stream_of-stream.ensures.none (g.T.Source.left c.args.trace.now), c.in-Ok.ensures, refl, refl, c.none-denials.ensures.total, omega (arith, c.none-denials.ensures.total), c.none-denials.ensures.counted);
   hashed = c.stream_of-stream.ensures.hashed;
   few = search rules;
   mark = c.requires;
@@ -43,13 +43,13 @@ loop-ledger-preserved g c =
     let calls = c.in_ok-part.part.calls.items in
     let long = length-append before.1 calls in
     let at = before.5 in
-    let grown = (rw c.deref.ensures.value at c.in-Ok.ensures.kept) c.args.form (notes c.args.core.now before.1) before.3 in
-    let told = subst (λ (told : List Note). Keeps c.args.form told c.note.new.self) (told_more c.args.core.now c.loop-ledger.core before.1 calls c.loop-ledger.line before.4 before.5) grown in
-    let left = left_more c.args.core.now c.loop-ledger.core c.note.new.core before.1 calls before.4 (rw c.deref.ensures.value at c.in-Ok.ensures.state) in
-    let counts = denied_more c.args.core.now c.loop-ledger.core before.1 calls c.loop-ledger.line c.loop-ledger.denials.total c.note.new.denials.total before.4 before.5 before.6 (rw c.deref.ensures.value at c.in-Ok.ensures.denied) in
+    let grown = (rw c.deref.ensures.value at c.in-Ok-note.ensures.kept) c.args.form c.args.core.now (notes c.args.core.now before.1) before.3 in
+    let told = subst (λ (told : List Note). Keeps c.args.form c.args.core.now told c.note.new.self) (told_more c.args.core.now c.loop-ledger.core before.1 calls c.loop-ledger.line before.4 before.5) grown in
+    let left = left_more c.args.core.now c.loop-ledger.core c.note.new.core before.1 calls before.4 (rw c.deref.ensures.value at c.in-Ok-note.ensures.state) in
+    let counts = denied_more c.args.core.now c.loop-ledger.core before.1 calls c.loop-ledger.line c.loop-ledger.denials.total c.note.new.denials.total before.4 before.5 before.6 (rw c.deref.ensures.value at c.in-Ok-note.ensures.denied) in
     let same = ap length c.deref.ensures.value in
-    let counted = counted_more c.args.core.now c.loop-ledger.core before.1 calls c.loop-ledger.denials c.note.new.denials before.4 before.8 (rw c.deref.ensures.value at c.in-Ok.ensures.counted) in
-    let few : c.note.new.denials.total ≤ length (before.1 ++ calls) = omega (arith, long, before.7, same, c.in-Ok.ensures.few) in
+    let counted = counted_more c.args.core.now c.loop-ledger.core before.1 calls c.loop-ledger.denials c.note.new.denials before.4 before.8 (rw c.deref.ensures.value at c.in-Ok-note.ensures.counted) in
+    let few : c.note.new.denials.total ≤ length (before.1 ++ calls) = omega (arith, long, before.7, same, c.in-Ok-note.ensures.few) in
     record {
       read = (before.0 ++ more.0, before.1 ++ calls, more.1, told, left, omega (arith, long, at), counts, few, counted);
       hashed = λ asked. c.in_ok-part.ensures.hashed ∙ c.loop-ledger.invariant.hashed asked;
@@ -64,8 +64,8 @@ returns-in-Ok-finish-clause-ok g c =
     let calls = c.in_ok-part.part.calls.items in
     let long = length-append before.1 calls in
     let at = before.5 in
-    let grown = (rw c.deref.ensures.value at c.in-Ok.ensures.kept) c.args.form (notes c.args.core.now before.1) before.3 in
-    let told = subst (λ (told : List Note). Keeps c.args.form told c.note.new.self) (told_more c.args.core.now c.loop-ledger.core before.1 calls c.loop-ledger.line before.4 before.5) grown in (
+    let grown = (rw c.deref.ensures.value at c.in-Ok-note.ensures.kept) c.args.form c.args.core.now (notes c.args.core.now before.1) before.3 in
+    let told = subst (λ (told : List Note). Keeps c.args.form c.args.core.now told c.note.new.self) (told_more c.args.core.now c.loop-ledger.core before.1 calls c.loop-ledger.line before.4 before.5) grown in (
       notes c.args.core.now (before.1 ++ calls),
       record {
         calls = before.1 ++ calls;
@@ -73,7 +73,7 @@ returns-in-Ok-finish-clause-ok g c =
         counted = omega (arith, long, at);
         few = more.1.few;
         exact = refl;
-        denied = denied_more c.args.core.now c.loop-ledger.core before.1 calls c.loop-ledger.line c.loop-ledger.denials.total c.note.new.denials.total before.4 before.5 before.6 (rw c.deref.ensures.value at c.in-Ok.ensures.denied);
+        denied = denied_more c.args.core.now c.loop-ledger.core before.1 calls c.loop-ledger.line c.loop-ledger.denials.total c.note.new.denials.total before.4 before.5 before.6 (rw c.deref.ensures.value at c.in-Ok-note.ensures.denied);
       },
       told,
     )
@@ -91,7 +91,7 @@ pub returns-in-Ok-finish-clause-config : goal.returns-in-Ok-finish-clause-config
 returns-in-Ok-finish-clause-config g c =
     let before = c.loop-ledger.invariant.read in
     let calls = c.in_ok-part.part.calls.items in
-    ap (λ (m : State). m.config) (left_more c.args.core.now c.loop-ledger.core c.note.new.core before.1 calls before.4 (rw c.deref.ensures.value at c.in-Ok.ensures.state))
+    ap (λ (m : State). m.config) (left_more c.args.core.now c.loop-ledger.core c.note.new.core before.1 calls before.4 (rw c.deref.ensures.value at c.in-Ok-note.ensures.state))
     ∙ config-after c.args.core.now (before.1 ++ calls)
 
 pub returns-in-Ok-finish-clause-answered : goal.returns-in-Ok-finish-clause-answered
@@ -101,5 +101,5 @@ returns-in-Ok-finish-clause-answered g c =
     let calls = c.in_ok-part.part.calls.items in
     let long = length-append before.1 calls in
     let at = before.5 in
-    let counted = counted_more c.args.core.now c.loop-ledger.core before.1 calls c.loop-ledger.denials c.note.new.denials before.4 before.8 (rw c.deref.ensures.value at c.in-Ok.ensures.counted) in
+    let counted = counted_more c.args.core.now c.loop-ledger.core before.1 calls c.loop-ledger.denials c.note.new.denials before.4 before.8 (rw c.deref.ensures.value at c.in-Ok-note.ensures.counted) in
     answered_from (g.T.Source.left c.args.trace.now) c.args.core.now (before.1 ++ calls) _ (c.in-Ok-finish.ensures.ok _ _ _ _ more.1 (c.in_ok-part.ensures.last c.if-part.true)) (omega (arith, long, at)) counted

@@ -14,7 +14,7 @@ use Rattle.kc_cli.proofs.custody.tell_source.Given as goal
 abbrev pub invariant-loop-ledger : goal.invariant-loop-ledger
 invariant-loop-ledger g l = record {
   read : (bytes : List ℕ) × (calls : List Call) × HasRead l.stream bytes calls (g.T.Source.left l.fn.trace) (g.T.Source.left l.trace)
-      × Keeps l.fn.form (notes l.fn.core calls) l.ledger × (l.core ≡ state_after l.fn.core calls) × (l.line ≡ first_line + length calls)
+      × Keeps l.fn.form l.fn.core (notes l.fn.core calls) l.ledger × (l.core ≡ state_after l.fn.core calls) × (l.line ≡ first_line + length calls)
       × (l.denials.total ≡ length (filter is_denied (notes l.fn.core calls))) × (l.denials.total ≤ length calls)
       × Counts (replies_from l.fn.core calls) l.denials;
   hashed : l.is_hashed ≡ true → is_some l.stream.hasher ≡ true;

@@ -1,0 +1,121 @@
+//! The part of the script that reads the page's controls, fills its foot, and starts it.
+
+pub(crate) const CONTROLS: &str = r##"
+function choose(number) {
+  shown = vms.get(number) ?? vm(number);
+  cursor = null;
+  byId("vm").value = number;
+  plot.setAttribute("aria-label", `Frames of vm ${number}: ${numbered(shown.stays.length, "frame", "frames")}, ${numbered(shown.refusals.length, "refused call", "refused calls")}, ${numbered(shown.accesses.length, "read or write", "reads and writes")} of the host`);
+  byId("hover").textContent = "";
+  draw();
+  fillLives();
+  fillRefusals();
+  fillAccesses();
+}
+
+function textOfAnswer(number, frame, line) {
+  const said = answer(number, frame, line);
+  if (said.first === null) return `The machine has frames 0 to ${head.frames - 1}, and the trace lines 1 to ${lastLine}.`;
+  const when = `After line ${line}, frame ${frame}`;
+  if (said.owner === null && said.isIts === false) return `${when} was not vm ${number}'s.`;
+  if (said.owner === null) return `The lines do not say whose frame ${frame} was after line ${line}.`;
+  const owner = vmOf(said.owner), since = said.first === 1 ? "from the beginning" : `since line ${said.first}`;
+  const whose = owner === null ? said.owner === "free" ? "free" : `the ${said.owner}'s` : `vm ${owner}'s, at guest frame ${said.gfn}, ${sharing(said)}`;
+  return `${when} was ${whose}: ${since}, up to line ${said.last}.`;
+}
+
+function ask() {
+  const frame = byId("frame"), line = byId("line");
+  if (frame.value === "" || line.value === "") return;
+  byId("answer").textContent = textOfAnswer(shown.number, Number(frame.value), Number(line.value));
+}
+
+// The browser runs a script of this digest alone.
+function scriptDigest() {
+  const policy = document.querySelector("meta[http-equiv]").content;
+  const bytes = atob(/script-src 'sha256-([^']+)'/.exec(policy)[1]);
+  return [...bytes].map(it => it.charCodeAt(0).toString(16).padStart(2, "0")).join("");
+}
+
+function fillDigests() {
+  const config = head.config === "default" ? "the default one" : head.config ?? (head.state ? "none: the calls begin in a state's text" : null);
+  const rows = [["kcore", head.kcore], ["SHA-256 of the trace", head.trace], ["of the configuration", config], ["of the state's text", head.state ?? (head.state === null ? "none: the calls begin at boot" : null)], ["of this page's script", scriptDigest()]];
+  for (const [name, text] of rows) {
+    const term = document.createElement("dt"), said = document.createElement("dd"), code = document.createElement("code");
+    term.textContent = name;
+    code.textContent = text ?? "not in the lines";
+    said.append(code);
+    byId("digests").append(term, said);
+  }
+}
+
+function listen() {
+  byId("vm").onchange = () => choose(Number(byId("vm").value));
+  byId("everyone").onchange = fillRefusals;
+  byId("in").onclick = () => zoom(1 / 1.6);
+  byId("out").onclick = () => zoom(1.6);
+  byId("left").onclick = () => move(-.25);
+  byId("right").onclick = () => move(.25);
+  byId("all").onclick = lookAtAll;
+  for (const id of ["first", "last"]) byId(id).onchange = () => {
+    const first = Number(byId("first").value), last = Number(byId("last").value);
+    if (first >= 1 && last >= first) look(first, last + 1);
+  };
+  byId("question").oninput = () => byId("answer").textContent = "";
+  byId("question").onsubmit = event => {
+    event.preventDefault();
+    ask();
+  };
+  plot.onkeydown = event => {
+    const keys = { ArrowLeft: () => move(-.1), ArrowRight: () => move(.1), "+": () => zoom(1 / 1.6), "=": () => zoom(1 / 1.6), "-": () => zoom(1.6), 0: lookAtAll, ArrowUp: () => moveCursor(-1), ArrowDown: () => moveCursor(1), Home: () => look(1, 1 + until - from), End: () => look(lastLine + 1 - (until - from), lastLine + 1) };
+    const act = event.ctrlKey || event.metaKey || event.altKey ? undefined : keys[event.key];
+    if (!act) return;
+    event.preventDefault();
+    act();
+    if (cursor && ["ArrowLeft", "ArrowRight", "+", "=", "-", "0", "Home", "End"].includes(event.key)) moveCursor(0);
+  };
+  plot.addEventListener("wheel", event => {
+    event.preventDefault();
+    zoom(event.deltaY > 0 ? 1.25 : .8, lineAt(event.offsetX));
+  }, { passive: false });
+  plot.onpointerdown = event => plot.setPointerCapture(event.pointerId);
+  plot.onpointermove = event => {
+    if (event.buttons === 1) {
+      const by = -event.movementX / (width() - GUTTER - 8) * (until - from);
+      look(from + by, until + by);
+      return;
+    }
+    const row = Math.floor((event.offsetY - STRIP) / rowHeight);
+    say(row, Math.floor(lineAt(event.offsetX)), event.offsetX, event.offsetY);
+  };
+  window.onresize = draw;
+}
+
+function start() {
+  read(byId("lines").textContent);
+  const count = end.refused ?? refusals.length;
+  byId("about").textContent = `${numbered(head.frames, "frame", "frames")} and ${numbered(head.slots, "slot", "slots")}; ${numbered(end.calls, "call", "calls")}, on lines 2 to ${lastLine} of the trace; ${numbered(count, "call was", "calls were")} refused.`;
+  byId("main").hidden = false;
+  fillDigests();
+  for (const number of [...vms.keys()].sort((a, b) => a - b)) byId("vm").add(new Option(`vm ${number}`, number));
+  if (!vms.size) {
+    byId("vm").add(new Option("none", 0));
+    vm(0);
+  }
+  listen();
+  from = 1;
+  until = lastLine + 1;
+  choose(Number(byId("vm").value));
+}
+
+try {
+  start();
+} catch (fault) {
+  byId("fault").hidden = false;
+  byId("fault").textContent = `The lines in this page are damaged or cut off: ${fault.message}`;
+  throw fault;
+}
+</script>
+</body>
+</html>
+"##;
