@@ -246,7 +246,8 @@ def difference(case, program, told, remarks):
     rng = random.Random(config["cut_by"])
     volumes = volumes_of(rng, Core(config), lines, told, remarks)
     words = ["replay", "--config", program.path, "--state", "--workers", str(rng.choice(WORKERS))]
-    if program.ran(lines, *words) != (0, volumes[-1].behind, ""):
+    answers = [reply for volume in volumes for reply in volume.replies.splitlines()]
+    if program.ran(lines, *words) != (0, volumes[-1].behind, warning_of(answers)):
         return "the text of the state"
     order, sizes = list(enumerate(volumes, 1)), ", ".join(str(len(it.lines)) for it in volumes)
     rng.shuffle(order)
