@@ -21,6 +21,7 @@ _kcore() {
     local host='--host[blank also what the host writes to active VMs]'
     local explain='--explain[say more of a fault]'
     local file='1::file:_files'
+    local files='*:file:_files'
     local -a help=('(-h --help)'{-h,--help}'[print help]')
     local -a version=('(-V --version)'{-V,--version}'[print the version]')
     local -a commands=(
@@ -42,7 +43,7 @@ _kcore() {
     case $words[1] in
         replay) _arguments $config $from $to $workers $lines $dump $state_text $blank $explain $help $file ;;
         live) _arguments $config $workers $explain $help $file ;;
-        custody) _arguments $config $from $vm $summary $svg $html $refused $accesses $unseen $digests $explain $help $file ;;
+        custody) _arguments $config $from $vm $summary $svg $html $refused $accesses $unseen $digests $explain $help $files ;;
         audit) _arguments $all $explain $help $file ;;
         redact) _arguments $config $from $host $explain $help $file ;;
         help) (( CURRENT > 2 )) || _describe -t commands command commands ;;

@@ -18,10 +18,24 @@
 static atomic_int growths, starts, reads, writes, pages, bytes, ticks, marked, told, held, spilled, stuck;
 static _Thread_local int own;
 
-/* The number that the environment gives to this word, 0 for none. */
-static int asked(const char *name) {
-    const char *text = getenv(name);
-    return text ? atoi(text) : 0;
+/* What the environment may give a number to. */
+#define EACH(it)                                                                                                       \
+    it(REFUSE_GROWTH) it(REFUSE_START) it(FAIL_READ) it(INTERRUPT_READ) it(SHORT_READ) it(FAIL_WRITE)                  \
+        it(INTERRUPT_WRITE) it(SHORT_WRITE) it(MOST_READ) it(MOST_WRITE) it(MARK_SIZE) it(HOLD_UP) it(PASS_DIGITS)
+#define ITSELF(name) name,
+#define WORD(name) #name,
+enum { EACH(ITSELF) COUNT };
+
+/* The number that it gives, 0 for none. It is looked at once, as soon as it is there. */
+static int asked(int which) {
+    static const char *const names[] = {EACH(WORD)};
+    static int numbers[COUNT];
+    static atomic_int is_known;
+    if (!is_known && environ) {
+        for (int each = 0; each < COUNT; each++) numbers[each] = getenv(names[each]) ? atoi(getenv(names[each])) : 0;
+        is_known = 1;
+    }
+    return numbers[which];
 }
 
 /* Holds a growth up until the other threads have had a hundred. If they have none, this thread has what they wait for. */
@@ -40,11 +54,11 @@ static void hold_up(void) {
  * Under HOLD_UP each growth of a thread that was started is held up. */
 static int is_refused(size_t size) {
     int none = 0;
-    if (size == (size_t)asked("MARK_SIZE") && atomic_compare_exchange_strong(&marked, &none, bytes)) told = ticks;
+    if (size == (size_t)asked(MARK_SIZE) && atomic_compare_exchange_strong(&marked, &none, bytes)) told = ticks;
     own++;
     int number = atomic_fetch_add(&growths, 1) + 1;
-    if (asked("HOLD_UP") && gettid() != getpid()) hold_up();
-    return number == asked("REFUSE_GROWTH");
+    if (asked(HOLD_UP) && gettid() != getpid()) hold_up();
+    return number == asked(REFUSE_GROWTH);
 }
 
 /* How often one text is found between two places with another after it. */
@@ -79,7 +93,7 @@ __attribute__((constructor)) static void know_secret(void) {
  * over then. */
 static int found(char *from, char *end) {
     if (!front || from == end) return 0;
-    int of_digits = asked("PASS_DIGITS") ? 0 : pairs(from, end, front_digits, back_digits);
+    int of_digits = asked(PASS_DIGITS) ? 0 : pairs(from, end, front_digits, back_digits);
     return of_digits + pairs(from, end, front, back);
 }
 
@@ -168,11 +182,12 @@ static size_t passing(size_t size, int is_short, int most) {
 
 ssize_t read(int end, void *to, size_t size) {
     int number = atomic_fetch_add(&reads, 1) + 1;
-    if (number == asked("FAIL_READ")) { errno = EIO; return -1; }
-    if (number == asked("INTERRUPT_READ")) { errno = EINTR; return -1; }
-    ssize_t count = syscall(SYS_read, end, to, passing(size, number == asked("SHORT_READ"), asked("MOST_READ")));
+    if (number == asked(FAIL_READ)) { errno = EIO; return -1; }
+    if (number == asked(INTERRUPT_READ)) { errno = EINTR; return -1; }
+    ssize_t count = syscall(SYS_read, end, to, passing(size, number == asked(SHORT_READ), asked(MOST_READ)));
     if (count > 0) atomic_fetch_add(&bytes, count);
-    if (count == 0) held = secrets();
+    // (a look at all memory takes time: at the end of a text only if it is asked what was read before a growth)
+    if (count == 0 && asked(MARK_SIZE)) held = secrets();
     return count;
 }
 
@@ -184,7 +199,7 @@ int clock_gettime(clockid_t clock, struct timespec *time) {
 typedef int creation(pthread_t *, const pthread_attr_t *, void *(*)(void *), void *);
 
 int pthread_create(pthread_t *thread, const pthread_attr_t *attributes, void *(*job)(void *), void *given) {
-    if (atomic_fetch_add(&starts, 1) + 1 == asked("REFUSE_START")) return EAGAIN;
+    if (atomic_fetch_add(&starts, 1) + 1 == asked(REFUSE_START)) return EAGAIN;
     return ((creation *)dlsym(RTLD_NEXT, "pthread_create"))(thread, attributes, job, given);
 }
 
@@ -192,7 +207,7 @@ int pthread_create(pthread_t *thread, const pthread_attr_t *attributes, void *(*
 ssize_t write(int end, const void *from, size_t size) {
     if (end == 2) return syscall(SYS_write, end, from, size);
     int number = atomic_fetch_add(&writes, 1) + 1;
-    if (number == asked("FAIL_WRITE")) { errno = EIO; return -1; }
-    if (number == asked("INTERRUPT_WRITE")) { errno = EINTR; return -1; }
-    return syscall(SYS_write, end, from, passing(size, number == asked("SHORT_WRITE"), asked("MOST_WRITE")));
+    if (number == asked(FAIL_WRITE)) { errno = EIO; return -1; }
+    if (number == asked(INTERRUPT_WRITE)) { errno = EINTR; return -1; }
+    return syscall(SYS_write, end, from, passing(size, number == asked(SHORT_WRITE), asked(MOST_WRITE)));
 }

@@ -1,8 +1,13 @@
 """What the scripts of tests/ and bench/ share: which programs they try, how one is run, and how results are counted."""
+import fcntl
 import os
 import pathlib
+import select
+import shutil
+import signal
 import subprocess
 import sys
+import tempfile
 
 TOP = pathlib.Path(__file__).resolve().parent.parent
 WORK = TOP / "bench" / "work"
@@ -10,17 +15,64 @@ WORK = TOP / "bench" / "work"
 PROGRAM = os.environ.get("KCORE") or subprocess.check_output([TOP / "bin" / "program"], text=True).strip()
 PLANNER = os.environ.get("PLAN_LISTER") or str(TOP / "crates" / "plan_lister" / "out" / "plan_lister")
 HAS_PLANNER = os.access(PLANNER, os.X_OK)
-
-
 # Large pages, as bin/kcore asks for them, which only cost or save time.
 LARGE_PAGES = {"GLIBC_TUNABLES": "glibc.malloc.hugetlb=1"}
+ENVIRONMENT = os.environ | LARGE_PAGES
+# Files that are written again and again are in memory, if it has so many bytes for them: a disk is waited for.
+MEMORY, LEAST_ROOM = "/dev/shm", 2 ** 31
+
+
+def status_of(process, seconds):
+    """The status that a process ends with; if it takes more than so many seconds, if that is a number, it is killed."""
+    is_in_time = True
+    if seconds is not None:
+        ended = os.pidfd_open(process)
+        is_in_time = bool(select.select([ended], [], [], seconds)[0])
+        os.close(ended)
+        if not is_in_time:
+            os.kill(process, signal.SIGKILL)
+    status = os.waitstatus_to_exitcode(os.waitpid(process, 0)[1])
+    if not is_in_time:
+        raise TimeoutError(f"a run took more than {seconds} seconds")
+    return status
+
+
+def spawned(words, given, environment, passed=(), seconds=None):
+    """Runs a command whose standard input is an open file, with some of our open files, and perhaps for at most so many
+    seconds: its status, what it wrote, and its standard error, in bytes. Both go to memory, so that nobody has to read
+    while it runs."""
+    ends = [os.memfd_create(name) for name in ("out", "err")]
+    try:
+        actions = [(os.POSIX_SPAWN_DUP2, end, to) for to, end in enumerate([given, *ends])]
+        actions += [(os.POSIX_SPAWN_DUP2, end, end) for end in passed]
+        signals = [signal.SIGPIPE, signal.SIGXFSZ]
+        process = os.posix_spawnp(words[0], words, environment, file_actions=actions, setsigdef=signals)
+        status = status_of(process, seconds)
+        return status, *(os.pread(end, os.fstat(end).st_size, 0) for end in ends)
+    finally:
+        for end in ends:
+            os.close(end)
 
 
 def run(words, text, program=PROGRAM):
-    """Runs the program on a text: its status, what it wrote, and its standard error."""
-    how = {"stdout": subprocess.PIPE, "stderr": subprocess.PIPE, "env": os.environ | LARGE_PAGES}
-    ran = subprocess.run([program, *words], input=text.encode(), **how)
+    """Runs the program on a text, which comes by a pipe: its status, what it wrote, and its standard error."""
+    given, words = text.encode(), [program, *map(str, words)]
+    reads, writes = os.pipe()
+    with open(reads, "rb", buffering=0) as pipe, open(writes, "wb", buffering=0) as end:
+        # (it is full before anybody reads it, if it takes all)
+        if len(given) <= fcntl.fcntl(end, fcntl.F_GETPIPE_SZ):
+            end.write(given)
+            end.close()
+            status, out, err = spawned(words, pipe.fileno(), ENVIRONMENT)
+            return status, out.decode(), err.decode()
+    ran = subprocess.run(words, input=given, capture_output=True, env=ENVIRONMENT)
     return ran.returncode, ran.stdout.decode(), ran.stderr.decode()
+
+
+def scratch(name, otherwise=None):
+    """A folder for files, which go with it: in memory, or else in this other folder, or where such folders are."""
+    is_roomy = os.access(MEMORY, os.W_OK) and shutil.disk_usage(MEMORY).free >= LEAST_ROOM
+    return tempfile.TemporaryDirectory(prefix=f"kcore-{name}-", dir=MEMORY if is_roomy else otherwise)
 
 
 class Results:

@@ -153,7 +153,8 @@ def check_refusals(tree):
 def faults_of(tree):
     """The words of each fault's line, up to a number."""
     sources = [tree.text(file) for crate in tree.crates for file in tree.below(f"crates/{crate}/specs", "Faults.antt")]
-    return {words.strip() for source in sources for words in re.findall(r'codes "(\w[^"]*)"', source)} - {"kcore:"}
+    found = {words for source in sources for words in re.findall(r'codes "(\w[^"]*)"', source)}
+    return {words.removeprefix("kcore:").strip() for words in found} - {""}
 
 
 def check_faults(tree):

@@ -1,7 +1,6 @@
 """The rules written out once more in another language: what a core keeps, why a call is refused and what it does; and
 what custody, a summary and a dump say of it."""
 import hashlib
-import itertools
 import json
 import operator
 
@@ -20,7 +19,7 @@ REASONS = (
     " no-free"
 ).split()
 # What is said of a frame, in the order in which it is told.
-CUSTODY = [operator.attrgetter(name) for name in ("owner", "gfn", "share", "present")]
+CUSTODY = operator.attrgetter("owner", "gfn", "share", "present")
 # The configuration that the program has where none is named.
 DEFAULT = {
     "version": 1, "frames": 8, "core": 1, "host": 4, "leaves": 1, "approved": [hashlib.sha256(b"abc").hexdigest()],
@@ -54,6 +53,22 @@ def noted(told, remarks, options):
     return sorted(asked + told, key=lambda it: it[1]["line"])
 
 
+def rows_of_volumes(sizes, digests=None):
+    """The lines that name volumes of so many calls, which were read one after another, perhaps with the digests of their
+    texts."""
+    rows, line = [], 2
+    for number, size in enumerate(sizes, 1):
+        rows.append({"volume": number, "line": line, "calls": size})
+        rows[-1] |= {"trace": digests[number - 1]} if digests else {}
+        line += size
+    return rows
+
+
+def placed(told, volumes):
+    """A line with the number of its volume before all else: how many volumes begin on it or before it."""
+    return {"volume": sum(it["line"] <= told["line"] for it in volumes)} | told if volumes else told
+
+
 class Refused(Exception):
     pass
 
@@ -68,10 +83,20 @@ def digest_of_page(page):
 
 
 class Frame:
-    __slots__ = "owner", "share", "gfn", "present", "page"
+    """What is kept of a frame. Each frame of which something is set is noted, since any other is as it was."""
 
-    def __init__(self, owner):
-        self.owner, self.share, self.gfn, self.present, self.page = owner, 0, None, False, ZERO_PAGE
+    __slots__ = "owner", "share", "gfn", "present", "page", "number", "noted"
+
+    def __init__(self, number, owner, noted):
+        put = object.__setattr__
+        put(self, "number", number)
+        put(self, "noted", noted)
+        for name, value in zip(self.__slots__, (owner, 0, None, False, ZERO_PAGE)):
+            put(self, name, value)
+
+    def __setattr__(self, name, value):
+        object.__setattr__(self, name, value)
+        self.noted.add(self.number)
 
     def write(self, offset, data):
         self.page = self.page[:offset] + data + self.page[offset + len(data):]
@@ -180,7 +205,8 @@ class Core:
         self.config = config
         owners = ["core"] * config["core"] + ["host"] * config["host"]
         owners += ["free"] * (config["frames"] - len(owners))
-        self.frames = [Frame(owner) for owner in owners]
+        self.noted = set()
+        self.frames = [Frame(f, owner, self.noted) for f, owner in enumerate(owners)]
         self.slots = [Slot() for _ in range(SLOTS[config["version"]])]
         self.free = [f for f, owner in enumerate(owners) if owner == "free"]
 
@@ -245,7 +271,8 @@ class Core:
         return [(base, length, hashlib.sha256(image).hexdigest()) for base, length, image in images]
 
     def release(self, f):
-        self.frames[f] = Frame("free")
+        frame = self.frames[f]
+        frame.owner, frame.share, frame.gfn, frame.present, frame.page = "free", 0, None, False, ZERO_PAGE
         self.free.append(f)
 
     # The host's calls.
@@ -392,32 +419,31 @@ class Core:
         self.release(f)
         return "done"
 
-    def seen(self):
-        """What custody tells of all frames, a list for each word, and of all slots."""
-        return [list(map(word, self.frames)) for word in CUSTODY], [slot.phase for slot in self.slots]
-
     def custody(self, lines):
         """The replies to these calls of a trace, and all that is told of them: whose VMs' line it is, and the line."""
-        replies, told, before = [], [], self.seen()
+        replies, told, frames = [], [], list(map(CUSTODY, self.frames))
+        phases = lambda: [slot.phase for slot in self.slots]
+        before = phases()
         for number, line in enumerate(lines, 2):
             # Measured before the call, which may change its pages.
             slot = int(line.split(" ")[1]) if line.startswith("verify ") else len(self.slots)
-            images = self.measured(slot) if before[1][slot : slot + 1] == ["booting"] else []
+            images = self.measured(slot) if before[slot : slot + 1] == ["booting"] else []
+            self.noted.clear()
             replies.append(self.answer(line))
-            after = self.seen()
-            told += self.moved(number, before[0], after[0]) + self.turned(number, before[1], after[1], images)
+            after = phases()
+            told += self.moved(number, frames) + self.turned(number, before, after, images)
             before = after
         return replies, told
 
-    def moved(self, number, before, after):
-        """What is told of the frames that a call changes."""
-        words = [(old, new) for old, new in zip(before, after) if old != new]
-        differing = lambda old, new: itertools.compress(range(len(old)), map(operator.ne, old, new))
+    def moved(self, number, frames):
+        """What is told of the frames that a call changes, of which this is the custody before it; then that after it."""
         told = []
-        for f in sorted({f for old, new in words for f in differing(old, new)}):
-            old, new = ([word[f] for word in seen] for seen in (before, after))
-            line = {"line": number, "frame": f, "from": custody_of(*old), "to": custody_of(*new)}
-            told.append(((old[0], new[0]), line))
+        for f in sorted(self.noted):
+            old, new = frames[f], CUSTODY(self.frames[f])
+            if old != new:
+                line = {"line": number, "frame": f, "from": custody_of(*old), "to": custody_of(*new)}
+                told.append(((old[0], new[0]), line))
+                frames[f] = new
         return told
 
     def turned(self, number, before, after, images):
@@ -469,19 +495,21 @@ class Core:
             lives.note(number, line, self.answer(line))
         return lives.told()
 
-    def text(self, kind, calls, counted, lines, named=None, is_unseen=False):
+    def text(self, kind, calls, counted, lines, named=None, is_unseen=False, volumes=()):
         """The text of what is reported of calls, of which the number is given and how many were denied, its first line
         and its last with it. Perhaps the texts that were read are named, or the machine's accesses are not in the
-        trace."""
+        trace, or the calls came in these volumes."""
         header = {kind: 2, "kcore": VERSION} | (named or {})
         header |= {"frames": len(self.frames), "core": self.config["core"], "host": self.config["host"]}
         header |= {"slots": len(self.slots)} | ({"accesses": "unseen"} if is_unseen else {})
-        lines = [header, *lines, {"calls": calls[0], counted: len(lines), "refused": calls[1]}]
+        header |= {"volumes": len(volumes)} if volumes else {}
+        lines = [header, *volumes, *lines, {"calls": calls[0], counted: len(lines), "refused": calls[1]}]
         return "".join(json.dumps(line, separators=(",", ":")) + "\n" for line in lines)
 
-    def custody_text(self, calls, told, vm=None, **said):
+    def custody_text(self, calls, told, vm=None, volumes=(), **said):
         """The text of custody, perhaps of one slot's VM alone."""
-        return self.text("custody", calls, "lines", [line for vms, line in told if vm is None or vm in vms], **said)
+        lines = [placed(line, volumes) for vms, line in told if vm is None or vm in vms]
+        return self.text("custody", calls, "lines", lines, volumes=volumes, **said)
 
     def summary_text(self, calls, lives, vm=None, **said):
         """The text of the summary, perhaps of one slot's VM alone."""

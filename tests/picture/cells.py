@@ -5,7 +5,7 @@ import itertools
 
 from picture.case import Case
 from picture.colours import DEAD, EDGE, INK, MOST_COLUMNS, MOST_ROWS, OTHERS, PALER, SEVERAL, colour_of_vm, nearer
-from picture.reading import is_near, levels_of, number, uprights_of, want
+from picture.reading import Wrong, is_near, levels_of, number, uprights_of, want
 from picture.told import lines_in
 
 
@@ -86,10 +86,10 @@ class Cells(Case):
         shown = painted(self.picture, plot, rows, columns)
         parts, shared, size = self.weights
         for row, column in itertools.product(range(rows), range(columns)):
-            at = f"the cell in row {row}, column {column}, where {dict(parts[row][column])} of {size[row]}"
-            fill, mark = shown[row][column]
-            want(fill in self.fills_of(row, column), f"{at} is {fill}")
-            want((mark == INK) == shared[row][column], f"{at} is {'not ' if shared[row][column] else ''}underlined")
+            (fill, mark), is_shared = shown[row][column], shared[row][column]
+            if fill not in self.fills_of(row, column) or (mark == INK) != is_shared:
+                at = f"the cell in row {row}, column {column}, where {dict(parts[row][column])} of {size[row]}"
+                raise Wrong(f"{at} is {fill} and {'' if mark == INK else 'not '}underlined")
 
     def try_titles_of_cells(self):
         """Each cell has one title, which says its frames, the lines that fall into it and its neighbours of the same

@@ -4,7 +4,7 @@ import re
 
 from picture.case import Case
 from picture.colours import DEAD, EDGE, INK, LEFT, LIFE, MOST_CALLS, PLOT, colour_of_vm
-from picture.reading import is_near, levels_of, number, want
+from picture.reading import Wrong, is_near, levels_of, number, want
 from picture.told import most_in_columns
 
 MOST_LANES_WITH_WORDS, SINGLE_LIVES = 6, 40
@@ -157,8 +157,9 @@ class Lanes(Case):
                 for column, count in enumerate(most):
                     high = self.bases[vm] - drawn.get(column, self.bases[vm])
                     wanted = max(2.5, full * count / top) if count else 0
-                    said = f"vm {vm} in column {column} of {columns} is {high} high for {count} of {top} {which}"
-                    want(abs(high - wanted) <= 0.02, said)
+                    if not abs(high - wanted) <= 0.02:
+                        at = f"vm {vm} in column {column} of {columns}"
+                        raise Wrong(f"{at} is {high} high for {count} of {top} {which}")
 
     def columns_of(self, paths, columns):
         """How low a path is in each column over which it goes."""

@@ -69,23 +69,15 @@ class Told:
         it = self.core.frames[frame]
         return it.owner, it.gfn, it.share, it.present
 
-    def frames_of(self, vm):
-        return self.core.slots[vm].list if vm < len(self.core.slots) else []
-
     def make(self, line, call):
-        """Makes a call, and looks at the frames of the VM that it names, and at those that the host names."""
+        """Makes a call, and looks at the frames of which it sets something."""
         name, *words = call.split(" ")
-        is_host, at = name in ("take", "give", "hfault", "hread", "hwrite"), int(words[0]) if words else 0
-        seen = set() if is_host else set(self.frames_of(at))
+        self.core.noted.clear()
         reply = self.core.answer(call)
-        if is_host:
-            seen = {int(reply.split(" ")[1])} if name == "take" and "frame" in reply else {at} - {len(self.begun)}
-        else:
-            seen |= set(self.frames_of(at))
-        exist = (it for it in seen if it < len(self.begun))
-        for frame in sorted(it for it in exist if self.custody(it) != self.begun[it][1]):
-            self.turn(line, frame)
-        self.live(line, name, at, reply)
+        for frame in sorted(self.core.noted):
+            if self.custody(frame) != self.begun[frame][1]:
+                self.turn(line, frame)
+        self.live(line, name, int(words[0]) if words else 0, reply)
 
     def turn(self, line, frame):
         """Ends the bar of a frame whose custody has changed, and counts it."""

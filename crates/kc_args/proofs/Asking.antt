@@ -19,7 +19,8 @@ use Rattle.kc_args.specs.declared.clash.Clash.{Clash}
 use Rattle.kc_args.specs.declared.arguments.ArgFault.{ArgFault}
 use Rattle.kc_args.specs.declared.arguments.ArgFault.TheVariants as faults
 use Rattle.kc_args.specs.Commands.{kcore}
-use Rattle.kc_args.specs.Arguments.{Asks, Contradicts, IsJobIn, IsClashIn, HasStatus, IsRefusal}
+use Rattle.kc_args.specs.Options.{files_after}
+use Rattle.kc_args.specs.Arguments.{Asks, Contradicts, IsJobIn, IsClashIn, HasStatus, IsRefusal, files_asked}
 
 pub kcore_is_simple : is_simple kcore ≡ true
 unfolding clap_on_literals
@@ -43,6 +44,21 @@ asked_in (Some found) name rows job n e h = found_in (λ its of. IsJobIn its of 
 
 pub asked_within : (arguments : List Text) (entered : Entered) (name : Text) (rows : List Row) (job : Job) → entered ≡ subcommand_of kcore arguments → Some name ≡ option_map (λ p. p.0) entered → Some rows ≡ option_map (λ p. p.1) entered → IsJobIn name rows job → Asks (subcommand_of kcore arguments) job
 asked_within arguments entered name rows job is n e h = rw is at (asked_in entered name rows job n e h)
+
+after_in : (entered : Entered) (name : Text) (rows : List Row) (files : List Text) → Some name ≡ option_map (λ p. p.0) entered → Some rows ≡ option_map (λ p. p.1) entered → files ≡ files_after rows → files ≡ files_asked entered
+after_in None name rows files n e h = absurd cc
+after_in (Some found) name rows files n e h = found_in (λ its of. files ≡ files_after of) found name rows n e h
+
+pub after_within : (arguments : List Text) (entered : Entered) (name : Text) (rows : List Row) (files : List Text) → entered ≡ subcommand_of kcore arguments → Some name ≡ option_map (λ p. p.0) entered → Some rows ≡ option_map (λ p. p.1) entered → files ≡ files_after rows → files ≡ files_asked (subcommand_of kcore arguments)
+after_within arguments entered name rows files is n e h = rw is at (after_in entered name rows files n e h)
+
+nothing_in : (Holds : Entered → Type 0) (entered : Entered) → None ≡ option_map (λ p. p.0) entered → Holds None → Holds entered
+nothing_in Holds None n h = h
+nothing_in Holds (Some found) n h = absurd cc
+
+-- what holds without a subcommand holds if the parse found none
+pub nothing_within : (Holds : Entered → Type 0) (arguments : List Text) (entered : Entered) → entered ≡ subcommand_of kcore arguments → None ≡ option_map (λ p. p.0) entered → Holds None → Holds (subcommand_of kcore arguments)
+nothing_within Holds arguments entered is n h = rw is at (nothing_in Holds entered n h)
 
 contradicts_in : (entered : Entered) (name : Text) (rows : List Row) (clash : Clash) → Some name ≡ option_map (λ p. p.0) entered → Some rows ≡ option_map (λ p. p.1) entered → IsClashIn name rows clash → Contradicts entered clash
 contradicts_in None name rows clash n e h = absurd cc

@@ -47,18 +47,19 @@ other_option clashes.SummaryHtml = codes "--html"
 other_option clashes.SvgHtml = codes "--html"
 other_option clashes.UnseenAccesses = codes "--accesses"
 
-abbrev pub command_of : Clash → List ℕ
-command_of clashes.DumpState = codes "replay"
-command_of clashes.LinesDump = codes "replay"
-command_of clashes.LinesState = codes "replay"
-command_of clashes.BlankAlone = codes "replay"
-command_of clashes.ReplayConfigFrom = codes "replay"
-command_of clashes.RedactConfigFrom = codes "redact"
-command_of clashes.ConfigAlone = codes "redact"
-command_of clashes.FromAlone = codes "redact"
-command_of clash = codes "custody"
+-- how the command is used: custody alone takes more than one file
+abbrev pub usage_of : Clash → List ℕ
+usage_of clashes.DumpState = codes "replay [OPTIONS] [FILE]"
+usage_of clashes.LinesDump = codes "replay [OPTIONS] [FILE]"
+usage_of clashes.LinesState = codes "replay [OPTIONS] [FILE]"
+usage_of clashes.BlankAlone = codes "replay [OPTIONS] [FILE]"
+usage_of clashes.ReplayConfigFrom = codes "replay [OPTIONS] [FILE]"
+usage_of clashes.RedactConfigFrom = codes "redact [OPTIONS] [FILE]"
+usage_of clashes.ConfigAlone = codes "redact [OPTIONS] [FILE]"
+usage_of clashes.FromAlone = codes "redact [OPTIONS] [FILE]"
+usage_of clash = codes "custody [OPTIONS] [FILE]..."
 
 -- in the form in which a wrong command line is reported
 abbrev pub clash_text : Clash → List ℕ
 clash_text clash = codes "error: the argument '" ++ first_option clash ++ link_of clash ++ other_option clash
-    ++ codes "'\n\nUsage: kcore " ++ command_of clash ++ codes " [OPTIONS] [FILE]\n\nFor more information, try '--help'.\n"
+    ++ codes "'\n\nUsage: kcore " ++ usage_of clash ++ codes "\n\nFor more information, try '--help'.\n"

@@ -2,7 +2,7 @@
 use Rattle.std.specs.Prelude.{◌-◌, codes, pos, Some, true}
 use Rattle.clap.specs.Words.{App, Rule, Text, new_app, new_rule, with_rule, with_subcommand}
 use Rattle.clap.specs.Simple.{on_top}
-use Rattle.clap.specs.declared.builder.action.ArgAction.TheVariants.{SetTrue}
+use Rattle.clap.specs.declared.builder.action.ArgAction.TheVariants.{SetTrue, Append}
 use Rattle.clap.specs.declared.builder.value_parser.ValueParser.TheVariants.{Signed}
 use Rattle.kc_types.specs.Limits.{slot_limit, worker_limit}
 
@@ -26,6 +26,10 @@ vm_rule = record (new_rule (codes "vm")) { long = Some (codes "vm"); value_names
 abbrev pub file_rule : Rule
 file_rule = record (new_rule (codes "file")) { value_names = 1 }
 
+-- the files that custody reads one after another, of which each is one more value
+abbrev pub files_rule : Rule
+files_rule = record (new_rule (codes "file")) { value_names = 1; action = Some Append }
+
 -- the two options for what calls begin with
 abbrev pub with_start : App → App
 with_start app = with_rule (with_rule app (path_rule (codes "config"))) (path_rule (codes "from"))
@@ -44,24 +48,24 @@ abbrev pub with_contents : App → App
 with_contents app = with_rule (with_rule (with_rule (with_rule app (flag_rule (codes "refused"))) (flag_rule (codes "accesses")))
     (flag_rule (codes "unseen"))) (flag_rule (codes "digests"))
 
--- the two arguments that each subcommand has
-abbrev pub ended : App → App
-ended app = with_rule (with_rule app (flag_rule (codes "explain"))) file_rule
+-- the two arguments that each subcommand has: a flag, and the file, or the files, that it reads
+abbrev pub ended : App → Rule → App
+ended app file = with_rule (with_rule app (flag_rule (codes "explain"))) file
 
 abbrev pub replay : App
-replay = ended (with_outputs (with_rule (with_rule (with_start (new_app (codes "replay"))) (path_rule (codes "to"))) workers_rule))
+replay = ended (with_outputs (with_rule (with_rule (with_start (new_app (codes "replay"))) (path_rule (codes "to"))) workers_rule)) file_rule
 
 abbrev pub live : App
-live = ended (with_rule (with_rule (new_app (codes "live")) (path_rule (codes "config"))) workers_rule)
+live = ended (with_rule (with_rule (new_app (codes "live")) (path_rule (codes "config"))) workers_rule) file_rule
 
 abbrev pub custody : App
-custody = ended (with_contents (with_forms (with_rule (with_start (new_app (codes "custody"))) vm_rule)))
+custody = ended (with_contents (with_forms (with_rule (with_start (new_app (codes "custody"))) vm_rule))) files_rule
 
 abbrev pub audit : App
-audit = ended (with_rule (new_app (codes "audit")) (flag_rule (codes "all")))
+audit = ended (with_rule (new_app (codes "audit")) (flag_rule (codes "all"))) file_rule
 
 abbrev pub redact : App
-redact = ended (with_rule (with_start (new_app (codes "redact"))) (flag_rule (codes "host")))
+redact = ended (with_rule (with_start (new_app (codes "redact"))) (flag_rule (codes "host"))) file_rule
 
 -- the command with `replay` alone
 abbrev pub base : App

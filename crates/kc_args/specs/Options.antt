@@ -1,8 +1,8 @@
 -- The options of a subcommand, as clap finds them.
-use Rattle.std.specs.Prelude.{◌≡◌, ◌≢◌, ◌⊎◌, ◌↔◌, ◌&&◌, IsTrue, ℕ, nat_le, Bool, List, codes, Option, Some, None, option_map, if◌then◌else◌}
+use Rattle.std.specs.Prelude.{◌≡◌, ◌≢◌, ◌⊎◌, ◌↔◌, ◌&&◌, IsTrue, ℕ, nat_le, Bool, List, [], drop, codes, Option, Some, None, option_map, if◌then◌else◌}
 use Rattle.std.specs.Option.{option_map_or}
 use Rattle.std.specs.Borrow.{Bor}
-use Rattle.clap.specs.Words.{Text, Row, first_of, one_of}
+use Rattle.clap.specs.Words.{Text, Row, first_of, one_of, all_of}
 use Rattle.clap.specs.Walk.{byte_or_zero}
 use Rattle.kc_types.specs.Limits.{worker_limit}
 use Rattle.kc_args.specs.declared.options.Options.{Options}
@@ -40,6 +40,14 @@ IsSet flag rows = first_of flag rows ≡ Some (codes "true")
 abbrev pub HasInput : List Row → Option (Bor Text) → Type 0
 HasInput rows None = (first_of (codes "file") rows ≡ None) ⊎ (first_of (codes "file") rows ≡ Some (codes "-"))
 HasInput rows (Some name) = (first_of (codes "file") rows ≡ Some name.now) × (name.now ≢ codes "-")
+
+-- the files that come after the first of those that are named, in order
+abbrev pub files_after_first : Option (List Text) → List Text
+files_after_first None = []
+files_after_first (Some files) = drop 1 files
+
+abbrev pub files_after : List Row → List Text
+files_after rows = files_after_first (all_of (codes "file") rows)
 
 -- the flag is given exactly if this is true
 abbrev pub IsFlag : Text → List Row → Bool → Type 0

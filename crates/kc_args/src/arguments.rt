@@ -3,13 +3,13 @@ ghost use Rattle.std.specs.Prelude.{◌≡◌, IfOk, IfErr, map};
 ghost use Rattle.clap.specs.Words.{found_of, rows_of};
 ghost use Rattle.clap.specs.Values.{kind_of};
 ghost use Rattle.kc_args.specs.Jobs.{plain_job};
-ghost use Rattle.kc_args.specs.Arguments.{IsJobIn, IsClashIn, IsJob, IsRefusal, HasStatus};
+ghost use Rattle.kc_args.specs.Arguments.{IsJobIn, IsClashIn, IsRequest, IsRefusal, HasStatus};
 
 use crate::clash::Clash;
 use crate::commands::command;
-use crate::job::{Action, Job, Start};
+use crate::job::{Action, Job, Request, Start};
 use crate::judging::action_of;
-use crate::options::{input_in, is_set, options_in};
+use crate::options::{files_after, input_in, is_set, options_in};
 use clap::error::ErrorKind;
 use clap::{ArgMatches, Error};
 use kc_cli::ReplayForm;
@@ -86,11 +86,11 @@ fn plain_job<'a>() -> Job<'a>
 /// `--state` and `--blank`; `custody`, with or without `--config PATH`, `--from PATH`, `--vm V` with a number from 0 to
 /// 63, `--summary`, `--svg`, `--html`, `--refused`, `--accesses`, `--unseen` and `--digests`; `audit`, also with
 /// `--all`; `redact`, also with `--config PATH`, `--from PATH` and `--host`; each also with `--explain` and the file to
-/// be read; and `replay` if there are no arguments.
-pub fn job_of<'a>(alloc: Global, arguments: &'a [&'a str]) -> Result<Job<'a>, ArgFault>
-    // The job is what the arguments say by the command's rules. Only a command line that breaks them is refused, or one
-    // with options that contradict each other.
-    ensures job { IfOk result (IsJob (map (λ w. w.now) arguments.entry.now)) }
+/// be read, `custody` with more files to be read after it; and `replay` if there are no arguments.
+pub fn request_of<'a>(alloc: Global, arguments: &'a [&'a str]) -> Result<Request<'a>, ArgFault>
+    // The job, and the files after its input, are what the arguments say by the command's rules. Only a command line
+    // that breaks them is refused, or one with options that contradict each other.
+    ensures request { IfOk result (IsRequest (map (λ w. w.now) arguments.entry.now)) }
     ensures refused { IfErr result (IsRefusal (map (λ w. w.now) arguments.entry.now)) }
 {
     let matches = match command(alloc)?.try_get_matches_from(arguments) {
@@ -99,9 +99,15 @@ pub fn job_of<'a>(alloc: Global, arguments: &'a [&'a str]) -> Result<Job<'a>, Ar
     };
     match matches.subcommand() {
         Some((name, found)) => match job_in(name, found) {
-            Ok(job) => Ok(job),
+            Ok(job) => Ok(Request {
+                job,
+                after: files_after(alloc, found)?,
+            }),
             Err(clash) => Err(ArgFault::Clash(clash)),
         },
-        None => Ok(plain_job()),
+        None => Ok(Request {
+            job: plain_job(),
+            after: Vec::new(alloc),
+        }),
     }
 }

@@ -1,6 +1,6 @@
 //! Options that contradict each other.
 ghost use Rattle.std.specs.Prelude.{◌≡◌};
-ghost use Rattle.kc_args.specs.Clashes.{first_option, link_of, other_option, command_of, clash_text};
+ghost use Rattle.kc_args.specs.Clashes.{first_option, link_of, other_option, usage_of, clash_text};
 
 use arrayvec::ArrayString;
 
@@ -92,17 +92,18 @@ impl Clash {
         }
     }
 
-    fn command(&self) -> &'static str
-        ensures { result.now ≡ command_of self.now }
+    fn usage(&self) -> &'static str
+        ensures { result.now ≡ usage_of self.now }
     {
         match self {
             Clash::DumpState
             | Clash::LinesDump
             | Clash::LinesState
             | Clash::BlankAlone
-            | Clash::ReplayConfigFrom => "replay",
-            Clash::RedactConfigFrom | Clash::ConfigAlone | Clash::FromAlone => "redact",
-            _ => "custody",
+            | Clash::ReplayConfigFrom => "replay [OPTIONS] [FILE]",
+            Clash::RedactConfigFrom | Clash::ConfigAlone | Clash::FromAlone =>
+                "redact [OPTIONS] [FILE]",
+            _ => "custody [OPTIONS] [FILE]...",
         }
     }
 
@@ -116,8 +117,8 @@ impl Clash {
         text.push_str(self.link());
         text.push_str(self.other());
         text.push_str("'\n\nUsage: kcore ");
-        text.push_str(self.command());
-        text.push_str(" [OPTIONS] [FILE]\n\nFor more information, try '--help'.\n");
+        text.push_str(self.usage());
+        text.push_str("\n\nFor more information, try '--help'.\n");
         text
     }
 }

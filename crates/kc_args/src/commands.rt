@@ -2,7 +2,7 @@
 ghost use Rattle.std.specs.Prelude.{◌≡◌, IfOk, codes, false};
 ghost use Rattle.clap.specs.declared.builder.command.Command.TheViews.{out-Command as fields_of};
 ghost use Rattle.clap.specs.Words.{app_of, rule_of, new_app, with_rule};
-ghost use Rattle.kc_args.specs.Commands.{kcore, replay, live, custody, audit, redact, with_start, with_outputs, with_forms, with_contents, ended, path_rule, flag_rule, workers_rule, vm_rule, file_rule};
+ghost use Rattle.kc_args.specs.Commands.{kcore, replay, live, custody, audit, redact, with_start, with_outputs, with_forms, with_contents, ended, path_rule, flag_rule, workers_rule, vm_rule, file_rule, files_rule};
 
 use clap::{Arg, ArgAction, Command};
 use kc_types::{SLOT_LIMIT, WORKER_LIMIT};
@@ -10,9 +10,12 @@ use std::alloc::{AllocError, Global};
 
 /// What `--version` prints after the program's name: the version, which the first line of custody names too, and on a
 /// second line the toolchain that proves it.
-const VERSION: &str = "2.0.0\nrattle-kit-13b";
+const VERSION: &str = "2.0.0\nrattle-kit-13f";
 
 const TRACE_HELP: &str = "The trace; standard input if this is - or not given";
+
+const VOLUMES_HELP: &str =
+    "The trace, or the volumes of a life in order; standard input if the first is - or not given";
 
 const DUMP_HELP: &str = "The dump; standard input if this is - or not given";
 
@@ -73,6 +76,14 @@ fn file_arg<'a>(alloc: Global, help: &'a str) -> Arg<'a>
     Arg::new(alloc, "file").value_name("FILE").help(help)
 }
 
+/// Makes the arguments without a name: the files to be read one after another.
+fn files_arg<'a>(alloc: Global) -> Arg<'a>
+    ensures rule { rule_of result ≡ files_rule }
+    ensures local { result.global ≡ false }
+{
+    file_arg(alloc, VOLUMES_HELP).action(ArgAction::Append)
+}
+
 /// Begins a subcommand.
 fn subcommand<'a>(
     alloc: Global,
@@ -129,15 +140,16 @@ fn with_flag<'a>(
     with_own(command, arg)
 }
 
-/// Adds the two arguments that each subcommand has.
-fn ended<'a>(alloc: Global, command: Command<'a>, help: &'a str) -> Result<Command<'a>, AllocError>
-    requires { (fields_of command).has_globals ≡ false }
-    ensures app { IfOk result (λ c. app_of c ≡ ended (app_of command.entry)) }
+/// Adds the two arguments that each subcommand has: the flag for explanations, and the file that it reads.
+fn ended<'a>(alloc: Global, command: Command<'a>, file: Arg<'a>) -> Result<Command<'a>, AllocError>
+    requires command { (fields_of command).has_globals ≡ false }
+    requires file { file.global ≡ false }
+    ensures app { IfOk result (λ c. app_of c ≡ ended (app_of command.entry) (rule_of file.entry)) }
     ensures local { IfOk result (λ c. (fields_of c).has_globals ≡ false) }
 {
     let about = "Say more of a fault, in further lines";
     let command = with_flag(alloc, command, "explain", about)?;
-    with_own(command, file_arg(alloc, help))
+    with_own(command, file)
 }
 
 /// Adds the flags for what a replay writes.
@@ -174,7 +186,7 @@ fn replay_command<'a>(alloc: Global) -> Result<Command<'a>, AllocError>
     let command = with_own(command, path_arg(alloc, "to", help))?;
     let command = with_own(command, workers_arg(alloc))?;
     let command = with_outputs(alloc, command)?;
-    ended(alloc, command, TRACE_HELP)
+    ended(alloc, command, file_arg(alloc, TRACE_HELP))
 }
 
 fn live_command<'a>(alloc: Global) -> Result<Command<'a>, AllocError>
@@ -190,7 +202,7 @@ fn live_command<'a>(alloc: Global) -> Result<Command<'a>, AllocError>
     );
     let command = with_own(command, config_arg(alloc))?;
     let command = with_own(command, workers_arg(alloc))?;
-    ended(alloc, command, TRACE_HELP)
+    ended(alloc, command, file_arg(alloc, TRACE_HELP))
 }
 
 /// Adds the flags for the form in which custody is reported.
@@ -231,14 +243,14 @@ fn custody_command<'a>(alloc: Global) -> Result<Command<'a>, AllocError>
         alloc,
         "custody",
         "Write what happened to each frame and VM: every change, with the line of its call",
-        "kcore custody [OPTIONS] [FILE]",
-        "Example: kcore custody --vm 3 --summary --config machine.json run.trace",
+        "kcore custody [OPTIONS] [FILE]...",
+        "Examples:\n  kcore custody --vm 3 --summary --config machine.json run.trace\n  kcore custody --config machine.json first.trace second.trace",
     );
     let command = with_start(alloc, command)?;
     let command = with_own(command, vm_arg(alloc))?;
     let command = with_forms(alloc, command)?;
     let command = with_contents(alloc, command)?;
-    ended(alloc, command, TRACE_HELP)
+    ended(alloc, command, files_arg(alloc))
 }
 
 fn audit_command<'a>(alloc: Global) -> Result<Command<'a>, AllocError>
@@ -254,7 +266,7 @@ fn audit_command<'a>(alloc: Global) -> Result<Command<'a>, AllocError>
     );
     let help = "Write a line for each finding, and the report last";
     let command = with_flag(alloc, command, "all", help)?;
-    ended(alloc, command, DUMP_HELP)
+    ended(alloc, command, file_arg(alloc, DUMP_HELP))
 }
 
 fn redact_command<'a>(alloc: Global) -> Result<Command<'a>, AllocError>
@@ -271,7 +283,7 @@ fn redact_command<'a>(alloc: Global) -> Result<Command<'a>, AllocError>
     let command = with_start(alloc, command)?;
     let help = "Blank also what the host writes to frames of active VMs; this replays the trace";
     let command = with_flag(alloc, command, "host", help)?;
-    ended(alloc, command, TRACE_HELP)
+    ended(alloc, command, file_arg(alloc, TRACE_HELP))
 }
 
 /// Makes the whole command.

@@ -59,6 +59,13 @@ pub struct Job<'a> {
     pub explain: bool,
 }
 
+/// A job, and the files of the volumes that come after its input, in order.
+#[derive(Drop)]
+pub struct Request<'a> {
+    pub job: Job<'a>,
+    pub after: Vec<&'a str>,
+}
+
 impl<'a> Start<'a> {
     /// The file that holds what calls begin with, if one is named.
     pub fn path(self) -> Option<&'a str>

@@ -1,10 +1,11 @@
 //! The options of a subcommand, as they are given.
-ghost use Rattle.std.specs.Prelude.{◌≡◌, ◌↔◌, IsTrue, option_map};
-ghost use Rattle.clap.specs.Words.{found_of, rows_of, first_of};
-ghost use Rattle.kc_args.specs.Options.{in_range, workers_in, slot_in, vm_in, IsSet, HasInput, AreOptionsIn};
+ghost use Rattle.std.specs.Prelude.{◌≡◌, ◌↔◌, IsTrue, IfOk, codes, map, option_map};
+ghost use Rattle.clap.specs.Words.{found_of, rows_of, first_of, all_of};
+ghost use Rattle.kc_args.specs.Options.{in_range, workers_in, slot_in, vm_in, IsSet, HasInput, files_after, AreOptionsIn};
 
 use clap::ArgMatches;
 use kc_types::WORKER_LIMIT;
+use std::alloc::{AllocError, Global};
 
 /// The options of a subcommand, which may contradict each other. Paths are those of files.
 #[derive(Clone, Copy, Debug, PartialEq, Eq)]
@@ -118,6 +119,29 @@ pub(crate) fn input_in<'a>(matches: &ArgMatches<'a>) -> Option<&'a str>
         None
     } else {
         Some(file)
+    }
+}
+
+/// All files that are named, in order.
+fn files_in<'b, 'a>(matches: &'b ArgMatches<'a>) -> Option<&'b [&'a str]>
+    ensures { option_map (λ files. map (λ file. file.now) files.now) result ≡ all_of (codes "file") (rows_of (found_of matches.now)) }
+{
+    matches.get_strs("file")
+}
+
+/// Lists the files that come after the first, in order.
+pub(crate) fn files_after<'a>(
+    alloc: Global,
+    matches: &ArgMatches<'a>,
+) -> Result<Vec<&'a str>, AllocError>
+    ensures { IfOk result (λ files. map (λ file. file.now) files.items ≡ files_after (rows_of (found_of matches.now))) }
+{
+    let Some(files) = files_in(matches) else {
+        return Ok(Vec::new(alloc));
+    };
+    match files.split_first() {
+        Some((_, after)) => Vec::from_slice(alloc, after),
+        None => Ok(Vec::new(alloc)),
     }
 }
 

@@ -16,7 +16,7 @@ pub one_each : (m : State) (calls : List Call) → length (replies_from m calls)
 one_each m [] = refl
 one_each m (call ∷ calls) = ap suc (one_each (next m call).1 calls)
 
-answered_by : (m : State) (calls : List Call) (answered : Answered) → answered.calls ≡ length calls → Counts (replies_from m calls) answered.denials → IsAnsweredBy (replies_from m calls) answered
+pub answered_by : (m : State) (calls : List Call) (answered : Answered) → answered.calls ≡ length calls → Counts (replies_from m calls) answered.denials → IsAnsweredBy (replies_from m calls) answered
 answered_by m calls answered count denials = record {
   calls = count ∙ sym (one_each m calls);
   denials = denials;

@@ -14,6 +14,7 @@ use Rattle.kc_types.specs.declared.custody.Event.TheVariants as event
 use Rattle.kc_model.proofs.Custody.Events.{changes-of-changes}
 use Rattle.kc_custody.specs.Within.{IsWithin}
 use Rattle.kc_trace.specs.declared.custody_writer.Heading.{Heading}
+use Rattle.kc_trace.specs.declared.volume_writer.VolumeEntry.{VolumeEntry}
 use Rattle.kc_model.specs.State.{State, slot_at}
 use Rattle.kc_model.specs.Boot.{boot}
 use Rattle.kc_model.specs.Custody.{frame_changes_by}
@@ -187,38 +188,38 @@ reported_after true m told =
     ∙ ap (λ (xs : List Event). xs ++ map event.Change (changes_in told)) (all_changes m)
 
 -- what is given of what is kept is the account of the notes
-pub account_given : (form : CustodyForm) (vm : Option ℕ) (heading : Heading) (m : State) (count refused : ℕ) (told : List Note) (ledger : Ledger) (text : List ℕ) → Keeps form m told ledger → IsGiven vm heading m.config count refused ledger text → IsAccount form vm heading m count refused told text
-account_given (Changes remarks) vm heading m count refused told (kept.Changes events) text h given =
+pub account_given : (form : CustodyForm) (vm : Option ℕ) (heading : Heading) (m : State) (volumes : List VolumeEntry) (count refused : ℕ) (told : List Note) (ledger : Ledger) (text : List ℕ) → Keeps form m told ledger → IsGiven vm heading m.config volumes count refused ledger text → IsAccount form vm heading m volumes count refused told text
+account_given (Changes remarks) vm heading m volumes count refused told (kept.Changes events) text h given =
     given
-    ∙ ap (λ (xs : List Event). custody_text_of heading m.config count refused (selected vm (changes_in xs))) h.1
-    ∙ sym (plain heading m.config count refused vm told)
-    ∙ ap (λ (r : Remarks). notes_text_of heading m.config count refused (chosen vm r told)) (sym h.0)
-account_given (Changes remarks) vm heading m count refused told (kept.Notes wanted notes) text h given = given ∙ ap₂ (λ (r : Remarks) (xs : List Note). notes_text_of heading m.config count refused (chosen vm r xs)) h.0 h.1
-account_given (Changes remarks) vm heading m count refused told (kept.Summary events attempts) text h given = absurd h
-account_given (Changes remarks) vm heading m count refused told (kept.Picture events) text h given = absurd h
-account_given (Changes remarks) vm heading m count refused told (kept.VmPicture v before notes) text h given = absurd h
-account_given (Changes remarks) vm heading m count refused told (kept.Html notes) text h given = absurd h
-account_given Summary vm heading m count refused told (kept.Changes events) text h given = absurd h
-account_given Summary vm heading m count refused told (kept.Notes wanted notes) text h given = absurd h
-account_given Summary vm heading m count refused told (kept.Summary events attempts) text h given =
+    ∙ ap (λ (xs : List Event). custody_text_of heading m.config volumes count refused (selected vm (changes_in xs))) h.1
+    ∙ sym (plain heading m.config volumes count refused vm told)
+    ∙ ap (λ (r : Remarks). notes_text_of heading m.config volumes count refused (chosen vm r told)) (sym h.0)
+account_given (Changes remarks) vm heading m volumes count refused told (kept.Notes wanted notes) text h given = given ∙ ap₂ (λ (r : Remarks) (xs : List Note). notes_text_of heading m.config volumes count refused (chosen vm r xs)) h.0 h.1
+account_given (Changes remarks) vm heading m volumes count refused told (kept.Summary events attempts) text h given = absurd h
+account_given (Changes remarks) vm heading m volumes count refused told (kept.Picture events) text h given = absurd h
+account_given (Changes remarks) vm heading m volumes count refused told (kept.VmPicture v before notes) text h given = absurd h
+account_given (Changes remarks) vm heading m volumes count refused told (kept.Html notes) text h given = absurd h
+account_given Summary vm heading m volumes count refused told (kept.Changes events) text h given = absurd h
+account_given Summary vm heading m volumes count refused told (kept.Notes wanted notes) text h given = absurd h
+account_given Summary vm heading m volumes count refused told (kept.Summary events attempts) text h given =
     given
-    ∙ ap₂ (λ (xs : List Event) (ys : List Attempt). summary_text_of heading m.config count refused ys (selected_lives vm (lives (reported heading.is_unseen xs)))) h.0 h.1
-    ∙ ap (λ (xs : List Event). summary_text_of heading m.config count refused (attempts_in told) (selected_lives vm (lives xs))) (reported_after heading.is_unseen m (events_in told))
-account_given Summary vm heading m count refused told (kept.Picture events) text h given = absurd h
-account_given Summary vm heading m count refused told (kept.VmPicture v before notes) text h given = absurd h
-account_given Summary vm heading m count refused told (kept.Html notes) text h given = absurd h
-account_given Picture vm heading m count refused told (kept.Changes events) text h given = absurd h
-account_given Picture vm heading m count refused told (kept.Notes wanted notes) text h given = absurd h
-account_given Picture vm heading m count refused told (kept.Summary events attempts) text h given = absurd h
-account_given Picture vm heading m count refused told (kept.Picture events) text h given = given
-account_given Picture vm heading m count refused told (kept.VmPicture v before notes) text h given = given
-account_given Picture vm heading m count refused told (kept.Html notes) text h given = absurd h
-account_given Html vm heading m count refused told (kept.Changes events) text h given = absurd h
-account_given Html vm heading m count refused told (kept.Notes wanted notes) text h given = absurd h
-account_given Html vm heading m count refused told (kept.Summary events attempts) text h given = absurd h
-account_given Html vm heading m count refused told (kept.Picture events) text h given = absurd h
-account_given Html vm heading m count refused told (kept.VmPicture v before notes) text h given = absurd h
-account_given Html vm heading m count refused told (kept.Html notes) text h given = given ∙ ap (λ (xs : List Note). html_text_of (notes_text_of heading m.config count refused (chosen vm (page_remarks heading.is_unseen) xs))) h
+    ∙ ap₂ (λ (xs : List Event) (ys : List Attempt). summary_text_of heading m.config volumes count refused ys (selected_lives vm (lives (reported heading.is_unseen xs)))) h.0 h.1
+    ∙ ap (λ (xs : List Event). summary_text_of heading m.config volumes count refused (attempts_in told) (selected_lives vm (lives xs))) (reported_after heading.is_unseen m (events_in told))
+account_given Summary vm heading m volumes count refused told (kept.Picture events) text h given = absurd h
+account_given Summary vm heading m volumes count refused told (kept.VmPicture v before notes) text h given = absurd h
+account_given Summary vm heading m volumes count refused told (kept.Html notes) text h given = absurd h
+account_given Picture vm heading m volumes count refused told (kept.Changes events) text h given = absurd h
+account_given Picture vm heading m volumes count refused told (kept.Notes wanted notes) text h given = absurd h
+account_given Picture vm heading m volumes count refused told (kept.Summary events attempts) text h given = absurd h
+account_given Picture vm heading m volumes count refused told (kept.Picture events) text h given = given
+account_given Picture vm heading m volumes count refused told (kept.VmPicture v before notes) text h given = given
+account_given Picture vm heading m volumes count refused told (kept.Html notes) text h given = absurd h
+account_given Html vm heading m volumes count refused told (kept.Changes events) text h given = absurd h
+account_given Html vm heading m volumes count refused told (kept.Notes wanted notes) text h given = absurd h
+account_given Html vm heading m volumes count refused told (kept.Summary events attempts) text h given = absurd h
+account_given Html vm heading m volumes count refused told (kept.Picture events) text h given = absurd h
+account_given Html vm heading m volumes count refused told (kept.VmPicture v before notes) text h given = absurd h
+account_given Html vm heading m volumes count refused told (kept.Html notes) text h given = given ∙ ap (λ (xs : List Note). html_text_of (notes_text_of heading m.config volumes count refused (chosen vm (page_remarks heading.is_unseen) xs))) h
 
 -- what is reported of events within a machine is within it
 pub reported_within : (unseen : Bool) (frames : ℕ) (told : List Event) → All (IsWithin frames) told → All (IsWithin frames) (reported unseen told)

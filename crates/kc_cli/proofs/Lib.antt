@@ -9,3 +9,4 @@ mod Marked
 mod Told
 pub mod Sources
 pub mod Counted
+mod Volumes

@@ -10,13 +10,16 @@ use Rattle.kc_model.specs.Events.{changes_in}
 use Rattle.kc_custody.specs.Selected.{is_for, selected}
 use Rattle.kc_model.proofs.Custody.Events.{flat-changes}
 use Rattle.kc_trace.specs.declared.custody_writer.Heading.{Heading}
-use Rattle.kc_trace.specs.CustodyText.{change_line, event_line, header_line, end_line, custody_text_of}
-use Rattle.kc_trace.specs.RemarkText.{note_line, notes_text_of}
+use Rattle.kc_trace.specs.declared.volume_writer.VolumeEntry.{VolumeEntry}
+use Rattle.kc_trace.specs.CustodyText.{change_line, event_line, line_of_change, line_of_event, placed_text, header_line, volumes_text, end_line, custody_text_of}
+use Rattle.kc_trace.specs.RemarkText.{note_line, line_of_note, notes_text_of}
 use Rattle.kc_html.specs.Html.{html_text_of}
+use Rattle.kc_remarks.specs.declared.denials.Answered.{Answered}
 use Rattle.kc_remarks.specs.declared.remark.Note.{Note}
 use Rattle.kc_remarks.specs.declared.remark.Note.TheVariants as note
 use Rattle.kc_remarks.specs.Remarks.{events_in}
 use Rattle.kc_custody.specs.Chosen.{no_remarks, chosen}
+use Rattle.kc_cli.specs.Ledgers.{lined_text}
 
 abbrev noted : Change → Note
 noted change = note.Event (event.Change change)
@@ -45,24 +48,36 @@ picked : (vm : Option ℕ) (told : List Note) → chosen vm no_remarks told ≡ 
 picked None told = all told
 picked (Some v) told = of-one v told
 
-lines : (changes : List Change) → flat_map note_line (map noted changes) ≡ flat_map change_line changes
-lines [] = refl
-lines (change ∷ more) = ap (λ (rest : List ℕ). change_line change ++ rest) (lines more)
+abbrev placed_change : List VolumeEntry → Change → List ℕ
+placed_change volumes change = placed_text volumes (line_of_change change) (change_line change)
 
-pub plain : (heading : Heading) (config : Configuration) (calls refused : ℕ) (vm : Option ℕ) (told : List Note) → notes_text_of heading config calls refused (chosen vm no_remarks told) ≡ custody_text_of heading config calls refused (selected vm (changes_in (events_in told)))
-plain heading config calls refused vm told =
+abbrev placed_event : List VolumeEntry → Event → List ℕ
+placed_event volumes event = placed_text volumes (line_of_event event) (event_line event)
+
+abbrev placed_note : List VolumeEntry → Note → List ℕ
+placed_note volumes note = placed_text volumes (line_of_note note) (note_line note)
+
+lines : (volumes : List VolumeEntry) (changes : List Change) → flat_map (placed_note volumes) (map noted changes) ≡ flat_map (placed_change volumes) changes
+lines volumes [] = refl
+lines volumes (change ∷ more) = ap (λ (rest : List ℕ). placed_change volumes change ++ rest) (lines volumes more)
+
+pub plain : (heading : Heading) (config : Configuration) (volumes : List VolumeEntry) (calls refused : ℕ) (vm : Option ℕ) (told : List Note) → notes_text_of heading config volumes calls refused (chosen vm no_remarks told) ≡ custody_text_of heading config volumes calls refused (selected vm (changes_in (events_in told)))
+plain heading config volumes calls refused vm told =
     let changes = selected vm (changes_in (events_in told)) in
-    ap (notes_text_of heading config calls refused) (picked vm told)
-    ∙ ap₂ (λ (body : List ℕ) (n : ℕ). header_line heading config ++ (body ++ end_line calls n refused)) (lines changes) (length-map changes noted)
+    ap (notes_text_of heading config volumes calls refused) (picked vm told)
+    ∙ ap₂ (λ (body : List ℕ) (n : ℕ). header_line heading config ++ (volumes_text volumes ++ (body ++ end_line calls n refused))) (lines volumes changes) (length-map changes noted)
 
 -- the text of the changes among events, and that of notes
-pub changes_text : (heading : Heading) (config : Configuration) (calls refused : ℕ) (changes : List Change) (told : List Event) → told ≡ map event.Change changes → header_line heading config ++ (flat_map event_line told ++ end_line calls (length told) refused) ≡ custody_text_of heading config calls refused changes
-changes_text heading config calls refused changes told are =
-    ap₂ (λ (body : List ℕ) (n : ℕ). header_line heading config ++ (body ++ end_line calls n refused))
-    (ap (flat_map event_line) are ∙ flat-changes event_line change_line (λ c. refl) changes) (ap length are ∙ length-map changes event.Change)
+pub changes_text : (heading : Heading) (config : Configuration) (volumes : List VolumeEntry) (answered : Answered) (changes : List Change) (told : List Event) → told ≡ map event.Change changes
+    → lined_text line_of_event event_line heading config volumes answered told ≡ custody_text_of heading config volumes answered.calls answered.denials.total changes
+changes_text heading config volumes answered changes told are =
+    ap₂ (λ (body : List ℕ) (n : ℕ). header_line heading config ++ (volumes_text volumes ++ (body ++ end_line answered.calls n answered.denials.total)))
+    (ap (flat_map (placed_event volumes)) are ∙ flat-changes (placed_event volumes) (placed_change volumes) (λ c. refl) changes) (ap length are ∙ length-map changes event.Change)
 
-pub notes_text : (heading : Heading) (config : Configuration) (calls refused : ℕ) (told wanted : List Note) → told ≡ wanted → header_line heading config ++ (flat_map note_line told ++ end_line calls (length told) refused) ≡ notes_text_of heading config calls refused wanted
-notes_text heading config calls refused told wanted are = ap (notes_text_of heading config calls refused) are
+pub notes_text : (heading : Heading) (config : Configuration) (volumes : List VolumeEntry) (answered : Answered) (told wanted : List Note) → told ≡ wanted
+    → lined_text line_of_note note_line heading config volumes answered told ≡ notes_text_of heading config volumes answered.calls answered.denials.total wanted
+notes_text heading config volumes answered told wanted are = ap (notes_text_of heading config volumes answered.calls answered.denials.total) are
 
-pub page_text : (heading : Heading) (config : Configuration) (calls refused : ℕ) (told wanted : List Note) → told ≡ wanted → html_text_of (header_line heading config ++ (flat_map note_line told ++ end_line calls (length told) refused)) ≡ html_text_of (notes_text_of heading config calls refused wanted)
-page_text heading config calls refused told wanted are = ap (λ (xs : List Note). html_text_of (notes_text_of heading config calls refused xs)) are
+pub page_text : (heading : Heading) (config : Configuration) (volumes : List VolumeEntry) (answered : Answered) (told wanted : List Note) → told ≡ wanted
+    → html_text_of (lined_text line_of_note note_line heading config volumes answered told) ≡ html_text_of (notes_text_of heading config volumes answered.calls answered.denials.total wanted)
+page_text heading config volumes answered told wanted are = ap html_text_of (notes_text heading config volumes answered told wanted are)

@@ -1,14 +1,13 @@
 -- What is reported of calls that come after others, and what the sink takes of it.
-use Rattle.std.proofs.Common.{ℕ, ◌≡◌, ◌<◌, ◌+◌, ◌++◌, List, [], Bor, get_or, drop, length, filter, take, refl, ap, sym, ◌∙◌, Option, Some, None, Err, subst, arith, inl, inr, append_assoc}
+use Rattle.std.proofs.Common.{ℕ, ◌≡◌, ◌<◌, ◌+◌, ◌++◌, ◌≤◌, List, [], Bor, get_or, drop, length, length-append, filter, take, refl, ap, sym, ◌∙◌, Option, Some, None, Result, Ok, Err, Bool, true, false, subst, arith, inl, inr, append_assoc}
 use Rattle.std.proofs.lemmas.Bool.{cases_lt}
 use Rattle.std.proofs.lemmas.Grind.{flat_map-append}
 use Rattle.std.proofs.lemmas.List.{take_all, append-nil, take-append-drop, drop_more}
 use Rattle.std.proofs.Math.Seq.{take-append-add, take-append-le}
 use Rattle.std.proofs.KnownBytes.{Appends-trans}
-use Rattle.std.specs.Prelude.{IfSome}
+use Rattle.std.specs.Prelude.{IfSome, OnOk, OnErr, is_err}
 use Rattle.std.specs.List.{flat_map}
 use Rattle.std.specs.Io.KnownBytes.{Appends}
-use Rattle.kc_types.specs.Configuration.{Configuration}
 use Rattle.kc_types.specs.declared.call.Call.{Call}
 use Rattle.kc_types.specs.declared.reply.Reply.{Reply}
 use Rattle.kc_remarks.specs.declared.remark.Note.{Note}
@@ -30,19 +29,12 @@ use Rattle.kc_model.proofs.Custody.Bars.{bars_are}
 use Rattle.kc_model.proofs.Custody.Laws.{custody_is}
 use Rattle.kc_model.proofs.Summaries.Summed.{summaries_are}
 use Rattle.kc_model.proofs.States.Runs.{state_after-append, replies_from-append}
-use Rattle.kc_faults.specs.declared.fault.TextFault.{TextFault}
-use Rattle.kc_faults.specs.declared.fault.TextFault.TheVariants as texts
-use Rattle.kc_faults.specs.declared.origin.Origin.{Origin}
-use Rattle.kc_faults.specs.Origins.{BeginsIn}
-use Rattle.kc_texts.specs.Written.{Writes, Begins}
 use Rattle.kc_cli.specs.declared.account.CustodyForm.{CustodyForm}
-use Rattle.kc_cli.specs.declared.ledger.Ledger.{Ledger}
-use Rattle.kc_trace.specs.declared.custody_writer.Heading.{Heading}
-use Rattle.kc_cli.specs.declared.account.Scope.{Scope}
-use Rattle.kc_cli.specs.Custody.{AreNotesOf, IsCustodyTold, IsCustodyOfAll, IsAccount, IsCustodyText, TellsCustody}
-use Rattle.kc_cli.specs.Headings.{IsHeaded}
-use Rattle.kc_cli.specs.Ledgers.{Keeps, IsGiven}
-use Rattle.kc_cli.proofs.Ledgers.{account_given}
+use Rattle.kc_cli.specs.declared.telling.Kept.{Kept}
+use Rattle.kc_cli.specs.Custody.{IsCustodyTold, IsCustodyOfAll}
+use Rattle.kc_texts.specs.declared.source.Failed.{Failed}
+use Rattle.kc_faults.specs.Outcomes.{TellsSink}
+use Rattle.kc_cli.specs.Ledgers.{Keeps, HasKept, written}
 
 -- the notes on calls after those so far
 pub told_more : (m old : State) (xs ys : List Call) (line : ℕ) → old ≡ state_after m xs → line ≡ first_line + length xs → notes m xs ++ notes_from line old ys ≡ notes m (xs ++ ys)
@@ -73,60 +65,46 @@ is_of_all m calls is = (
   λ kept n marks happened other_is differ may keeps same lines long. rw same at (((accesses_change_nothing n happened other_is).1 kept m marks is differ may keeps).custody lines long),
 )
 
-pub is_told : (source : Option (List ℕ)) (m : State) (told : List Note) (count refused : ℕ) → IsLawful m → AreNotesOf m source count refused told → IsCustodyTold m source count refused told
-is_told source m told count refused is h = record {
-  calls = h.calls;
-  traced = h.traced;
-  counted = h.counted;
-  few = h.few;
-  exact = h.exact;
-  refused_is = h.denied ∙ ap (λ (all : List Note). length (filter is_denied all)) h.exact ∙ denied first_line m h.calls;
-  events = ap events_in h.exact ∙ events-of-notes m h.calls;
-  changes = ap (λ (all : List Note). changes_in (events_in all)) h.exact ∙ changes-of-notes m h.calls;
-  promises = promises_kept m h.calls is;
-  laws = custody_is m h.calls is;
-  blind = custody_is_blind m h.calls is;
-  all = is_of_all m h.calls is;
-  summaries = summaries_are m h.calls is;
-  bars = bars_are m h.calls is;
+pub is_told : (m : State) (calls : List Call) (count refused : ℕ) → IsLawful m → count ≡ length calls → refused ≡ length (filter is_denied (notes m calls)) → IsCustodyTold m calls count refused (notes m calls)
+is_told m calls count refused is counted denied_so = record {
+  counted = counted;
+  exact = refl;
+  refused_is = denied_so ∙ denied first_line m calls;
+  events = events-of-notes m calls;
+  changes = changes-of-notes m calls;
+  promises = promises_kept m calls is;
+  laws = custody_is m calls is;
+  blind = custody_is_blind m calls is;
+  all = is_of_all m calls is;
+  summaries = summaries_are m calls is;
+  bars = bars_are m calls is;
 }
 
--- what was kept of a start and a trace
-abbrev pub WasTold : Origin → CustodyForm → Option (List ℕ) → Option (List ℕ) → Configuration → ℕ → ℕ → Ledger → Type 0
-WasTold origin form start trace config count refused ledger = (m : State) × IfSome start (λ text. BeginsIn origin text m) × (config ≡ m.config) × (told : List Note) × IsCustodyTold m trace count refused told × Keeps form m told ledger
+-- what is kept of calls after those so far
+kept_more : (form : CustodyForm) (m : State) (xs ys : List Call) (old new : State) (before after : Kept) → HasKept form m xs old before
+    → ((told : List Note) → Keeps form m told before.ledger → Keeps form m (told ++ notes_from before.line old ys) after.ledger) → new ≡ state_after old ys
+    → after.denials.total ≡ before.denials.total + length (filter is_denied (notes_from before.line old ys)) → after.denials.total ≤ before.denials.total + length ys
+    → ((replies : List Reply) → Counts replies before.denials → Counts (replies ++ replies_from old ys) after.denials) → after.line ≡ before.line + length ys → HasKept form m (xs ++ ys) new after
+kept_more form m xs ys old new before after h grown to added few counted at =
+    let long = length-append xs ys in
+    let so_far = h.line in
+    let few_before = h.few in
+    record {
+      ledger = subst (λ (told : List Note). Keeps form m told after.ledger) (told_more m old xs ys before.line h.left h.line) (grown (notes m xs) h.ledger);
+      line = omega (arith, long, so_far, at);
+      left = left_more m old new xs ys h.left to;
+      denied = denied_more m old xs ys before.line before.denials.total after.denials.total h.left h.line h.denied added;
+      few = omega (arith, long, few_before, few);
+      counted = counted_more m old xs ys before.denials after.denials h.left h.counted counted;
+    }
 
--- the account of both texts
-account_of_both : (origin : Origin) (form : CustodyForm) (scope : Scope) (start trace : List ℕ) (config : Configuration) (heading : Heading) (count refused : ℕ) (ledger : Ledger) (text : List ℕ) → WasTold origin form (Some start) (Some trace) config count refused ledger → IsHeaded scope origin (Some start) (Some trace) heading
-    → IsGiven scope.vm heading config count refused ledger text → IsCustodyText origin form scope start trace text
-account_of_both origin form scope start trace config heading count refused ledger text h headed given =
-    let account = account_given form scope.vm heading h.0 count refused h.3 ledger text h.5 (subst (λ c. IsGiven scope.vm heading c count refused ledger text) h.2 given) in
-    (h.0, count, refused, h.3, h.1, h.4, subst (λ (said : Heading). IsAccount form scope.vm said h.0 count refused h.3 text) headed account)
-
--- what was written is made of what was kept of both texts
-pub gives_custody : (origin : Origin) (form : CustodyForm) (scope : Scope) (start trace old new : Option (List ℕ)) (config : Configuration) (heading : Heading) (count refused : ℕ) (ledger : Ledger) → WasTold origin form start trace config count refused ledger → IsHeaded scope origin start trace heading
-    → ((text : List ℕ) × IsGiven scope.vm heading config count refused ledger text × Appends old new text) → Writes (IsCustodyText origin form scope) start trace old new
-gives_custody origin form scope None trace old new config heading count refused ledger h headed given = tt
-gives_custody origin form scope (Some start) None old new config heading count refused ledger h headed given = tt
-gives_custody origin form scope (Some start) (Some trace) old new config heading count refused ledger h headed given =
-    (given.0, account_of_both origin form scope start trace config heading count refused ledger given.0 h headed given.1, given.2)
-
-pub begins_custody : (origin : Origin) (form : CustodyForm) (scope : Scope) (start trace old new : Option (List ℕ)) (config : Configuration) (heading : Heading) (count refused : ℕ) (ledger : Ledger) → WasTold origin form start trace config count refused ledger → IsHeaded scope origin start trace heading
-    → ((text : List ℕ) × (n : ℕ) × IsGiven scope.vm heading config count refused ledger text × Appends old new (take n text)) → Begins (IsCustodyText origin form scope) start trace old new
-begins_custody origin form scope None trace old new config heading count refused ledger h headed given = tt
-begins_custody origin form scope (Some start) None old new config heading count refused ledger h headed given = tt
-begins_custody origin form scope (Some start) (Some trace) old new config heading count refused ledger h headed given =
-    (given.0, given.1, account_of_both origin form scope start trace config heading count refused ledger given.0 h headed given.2, given.3)
-
--- a fault from which nothing was written
-pub custody_err : {A B : Type 0} (slot : Option ℕ) (origin : Origin) (start : Option (List ℕ)) (unread : Type 0) (f : TextFault) → TellsCustody {A = A} slot origin start unread (Err f) → TellsCustody {A = B} slot origin start unread (Err f)
-custody_err slot origin start unread f h = record {
-  named = tt;
-  lacking = λ n e. h.lacking n (let same : f ≡ texts.NoSlot n = cc in cc);
-  workers = λ e. h.workers (let same : f ≡ texts.Workers = cc in cc);
-  started = λ e. h.started (let same : f ≡ texts.Start = cc in cc);
-  settled = λ e. h.settled (let same : f ≡ texts.Unsettled = cc in cc);
-  actor = λ p e. h.actor p (let same : f ≡ texts.BadActor p = cc in cc);
-}
+-- the same after others
+pub kept_after : (form : CustodyForm) (m : State) (first xs ys : List Call) (old new : State) (before after : Kept) → HasKept form m (first ++ xs) old before
+    → ((told : List Note) → Keeps form m told before.ledger → Keeps form m (told ++ notes_from before.line old ys) after.ledger) → new ≡ state_after old ys
+    → after.denials.total ≡ before.denials.total + length (filter is_denied (notes_from before.line old ys)) → after.denials.total ≤ before.denials.total + length ys
+    → ((replies : List Reply) → Counts replies before.denials → Counts (replies ++ replies_from old ys) after.denials) → after.line ≡ before.line + length ys → HasKept form m (first ++ (xs ++ ys)) new after
+kept_after form m first xs ys old new before after h grown to added few counted at =
+    subst (λ (all : List Call). HasKept form m all new after) (append_assoc first xs ys) (kept_more form m (first ++ xs) ys old new before after h grown to added few counted at)
 
 cut_first : (xs ys : List ℕ) (n : ℕ) → (m : ℕ) × (take n xs ≡ take m (xs ++ ys))
 cut_first xs ys n =
@@ -177,3 +155,12 @@ piece_cut old mid new bytes piece come left whole one cut next all =
 -- nothing was left
 pub all_given : (old new : Option (List ℕ)) (bytes come whole : List ℕ) → Appends old new bytes → come ≡ [] → bytes ++ come ≡ whole → Appends old new whole
 all_given old new bytes come whole one none all = rw (sym (append-nil bytes) ∙ ap (λ (l : List ℕ). bytes ++ l) (sym none) ∙ all) at one
+
+-- what was given to a sink, by the outcome
+pub gives : (given : Result (Unit {0}) Failed) (P Q : Type 0) → (P → Q) → OnOk given P → OnOk (written given) Q
+gives (Ok done) P Q step h = step h
+gives (Err failed) P Q step h = tt
+
+pub gives_to : (given : Result (Unit {0}) Failed) (failed : Bool) (begun more untouched : Type 0) → (begun → more) → OnErr given begun → failed ≡ is_err given → TellsSink failed more untouched (written given)
+gives_to (Ok done) failed begun more untouched step h mark = record { write = λ e. absurd cc; failed_is = λ bad. absurd (let never : false ≡ true = sym mark ∙ bad in cc); kept = tt }
+gives_to (Err error) failed begun more untouched step h mark = record { write = λ e. (mark, step h); failed_is = λ e. refl; kept = inr refl }

@@ -1,5 +1,5 @@
 -- How the calls of a trace were answered: how many there are, and how many were refused or rejected, and for what.
-use Rattle.std.specs.Prelude.{ℕ, List, Option, Some, None}
+use Rattle.std.specs.Prelude.{ℕ, List, map, Option, Some, None}
 use Rattle.kc_types.specs.declared.call.Call.{Call}
 use Rattle.kc_model.specs.State.{State}
 use Rattle.kc_model.specs.Next.{replies_from}
@@ -8,6 +8,7 @@ use Rattle.kc_remarks.specs.Denials.{IsAnsweredBy}
 use Rattle.kc_trace.specs.Trace.{IsTrace}
 use Rattle.kc_faults.specs.declared.origin.Origin.{Origin}
 use Rattle.kc_faults.specs.Origins.{BeginsIn}
+use Rattle.kc_cli.specs.Custody.{joined, AreVolumes}
 
 -- the counts are of the trace's calls, made in order from this state on
 abbrev pub AreAnsweredFrom : State → List ℕ → Answered → Type 0
@@ -18,3 +19,10 @@ abbrev pub AreAnswered : Origin → Option (List ℕ) → Option (List ℕ) → 
 AreAnswered origin None trace answered = Unit {0}
 AreAnswered origin (Some start) None answered = Unit {0}
 AreAnswered origin (Some start_text) (Some trace_text) answered = (m : State) × BeginsIn origin start_text m × AreAnsweredFrom m trace_text answered
+
+-- the same of the calls of all volumes, one after another
+abbrev pub AreAllAnswered : Origin → Option (List ℕ) → Option (List (List ℕ)) → Answered → Type 0
+AreAllAnswered origin None traces answered = Unit {0}
+AreAllAnswered origin (Some start) None answered = Unit {0}
+AreAllAnswered origin (Some start_text) (Some trace_texts) answered =
+    (m : State) × BeginsIn origin start_text m × (volumes : List (List Call)) × AreVolumes (map Some trace_texts) volumes × IsAnsweredBy (replies_from m (joined volumes)) answered

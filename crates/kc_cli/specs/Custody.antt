@@ -1,5 +1,5 @@
 -- What the engine of custody writes of what its sources held.
-use Rattle.std.specs.Prelude.{◌≡◌, ◌≢◌, ◌<◌, ◌≤◌, ℕ, Bool, not, true, false, List, length, map, filter, Option, Some, None, Result, Err, IfSome, OnOk}
+use Rattle.std.specs.Prelude.{◌≡◌, ◌≢◌, ◌<◌, ◌≤◌, ◌+◌, ◌++◌, ℕ, Bool, not, true, false, List, [], ◌∷◌, length, map, filter, Option, Some, None, is_some, Result, Err, IfSome, OnOk}
 use Rattle.std.specs.List.{range_with_len}
 use Rattle.sha2.specs.Sha256.{sha256}
 use Rattle.kc_types.specs.Limits.{call_limit}
@@ -33,6 +33,7 @@ use Rattle.kc_trace.specs.Trace.{IsTrace}
 use Rattle.kc_trace.specs.declared.custody_writer.StartDigest.TheVariants as starts
 use Rattle.kc_trace.specs.declared.custody_writer.Digests.{Digests}
 use Rattle.kc_trace.specs.declared.custody_writer.Heading.{Heading}
+use Rattle.kc_trace.specs.declared.volume_writer.VolumeEntry.{VolumeEntry}
 use Rattle.kc_trace.specs.RemarkText.{notes_text_of}
 use Rattle.kc_trace.specs.SummaryText.{summary_text_of}
 use Rattle.kc_faults.specs.declared.fault.TextFault.{TextFault}
@@ -53,21 +54,20 @@ IsCustodyOfAll m calls =
     × ((kept : ℕ → Bool) (n : State) (marks : List Bool) (happened : List Call) → IsLawful n → DifferInBytes kept n m → MayLackOthers kept n marks happened → KeepsImages kept happened → marked marks happened ≡ calls
     → (lines : List ℕ) → length lines ≡ length happened → custody_on (marked marks lines) m calls ≡ custody_on lines n happened)
 
--- the notes are those on the calls that the source's text holds, if it is known, and this many calls were refused or rejected
-pub record AreNotesOf (m : State) (source : Option (List ℕ)) (count refused : ℕ) (told : List Note) : Type 0 where
-  pub calls : List Call
-  pub traced : IfSome source (λ text. IsTrace text calls)
-  pub counted : count ≡ length calls
-  pub few : length calls ≤ call_limit
-  pub exact : told ≡ notes m calls
-  pub denied : refused ≡ length (filter is_denied told)
+-- the calls of all volumes, one after another
+abbrev pub joined : List (List Call) → List Call
+joined [] = []
+joined (calls ∷ volumes) = calls ++ joined volumes
 
--- the same of a lawful state: the events among them are those of the calls, and the changes among these their custody; the calls keep the promises, and what their custody, its lives and its bars say holds, also of what the machine did unseen
-pub record IsCustodyTold (m : State) (source : Option (List ℕ)) (count refused : ℕ) (told : List Note) : Type 0 where
-  pub calls : List Call
-  pub traced : IfSome source (λ text. IsTrace text calls)
+-- the sources' texts, as far as they are known, are traces of these volumes' calls, one after another
+abbrev pub AreVolumes : List (Option (List ℕ)) → List (List Call) → Type 0
+AreVolumes [] [] = Unit {0}
+AreVolumes (source ∷ sources) (calls ∷ volumes) = IfSome source (λ text. IsTrace text calls) × (length calls ≤ call_limit) × AreVolumes sources volumes
+AreVolumes _ _ = ⊥
+
+-- the notes are those on these calls, made from a lawful state on, and this many of them were refused or rejected: the events among them are those of the calls, and the changes among these their custody; the calls keep the promises, and what their custody, its lives and its bars say holds, also of what the machine did unseen
+pub record IsCustodyTold (m : State) (calls : List Call) (count refused : ℕ) (told : List Note) : Type 0 where
   pub counted : count ≡ length calls
-  pub few : length calls ≤ call_limit
   pub exact : told ≡ notes m calls
   pub refused_is : refused ≡ length (filter is_denial (replies_from m calls))
   pub events : events_in told ≡ events m calls
@@ -88,14 +88,14 @@ reported true told = map event.Change (changes_in told)
 abbrev pub page_remarks : Bool → Remarks
 page_remarks unseen = record { refused = true; accesses = not unseen }
 
--- the text is that of the changes of all frames and slots, or of one slot's VM, and of what else is asked for; that of the lives of all VMs, or of one slot's, from those that are under way in this state on, with what was refused at their pages; a picture, which says at its foot of what it is; or a page for a browser, with the first of these texts in it, and what was refused and served
-abbrev pub IsAccount : CustodyForm → Option ℕ → Heading → State → ℕ → ℕ → List Note → List ℕ → Type 0
-IsAccount (Changes remarks) vm heading m count refused told text = text ≡ notes_text_of heading m.config count refused (chosen vm remarks told)
-IsAccount Summary vm heading m count refused told text = text ≡ summary_text_of heading m.config count refused (attempts_in told) (selected_lives vm (lives_from m (reported heading.is_unseen (events_in told))))
-IsAccount Picture vm heading m count refused told text = HasFoot heading text
-IsAccount Html vm heading m count refused told text = text ≡ html_text_of (notes_text_of heading m.config count refused (chosen vm (page_remarks heading.is_unseen) told))
+-- the text is that of the changes of all frames and slots, or of one slot's VM, and of what else is asked for; that of the lives of all VMs, or of one slot's, from those that are under way in this state on, with what was refused at their pages; a picture, which says at its foot of what it is; or a page for a browser, with the first of these texts in it, and what was refused and served. The volumes are those that it names
+abbrev pub IsAccount : CustodyForm → Option ℕ → Heading → State → List VolumeEntry → ℕ → ℕ → List Note → List ℕ → Type 0
+IsAccount (Changes remarks) vm heading m volumes count refused told text = text ≡ notes_text_of heading m.config volumes count refused (chosen vm remarks told)
+IsAccount Summary vm heading m volumes count refused told text = text ≡ summary_text_of heading m.config volumes count refused (attempts_in told) (selected_lives vm (lives_from m (reported heading.is_unseen (events_in told))))
+IsAccount Picture vm heading m volumes count refused told text = HasFoot heading text
+IsAccount Html vm heading m volumes count refused told text = text ≡ html_text_of (notes_text_of heading m.config volumes count refused (chosen vm (page_remarks heading.is_unseen) told))
 
--- whether the trace is named by its digest, and what the calls begin with by its own
+-- whether traces are named by their digests, and what the calls begin with by its own
 abbrev pub names_trace : Named → Bool
 names_trace names.Nothing = false
 names_trace _ = true
@@ -104,22 +104,52 @@ abbrev pub names_start : Named → Bool
 names_start names.Both = true
 names_start _ = false
 
+-- the digest is there if it is asked for, and it is that of the source's text, if that is known
+abbrev pub HasDigest : Bool → Option (List ℕ) → Option (List ℕ) → Type 0
+HasDigest asked source digest = (is_some digest ≡ asked) × IfSome digest (λ d. IfSome source (λ text. d ≡ sha256 text))
+
+-- each volume by the line of its first call, of which the first volume's is this one, by the number of its calls, and by its text's digest, if that is asked for
+abbrev pub AreEntries : Bool → ℕ → List (Option (List ℕ)) → List (List Call) → List VolumeEntry → Type 0
+AreEntries named line [] [] [] = Unit {0}
+AreEntries named line (source ∷ sources) (calls ∷ volumes) (entry ∷ entries) =
+    (entry.line ≡ line) × (entry.calls ≡ length calls) × HasDigest named source entry.digest × AreEntries named (line + length calls) sources volumes entries
+AreEntries named line _ _ _ = ⊥
+
+-- volumes are named on lines of their own if there are several
+abbrev pub listed : List VolumeEntry → List VolumeEntry
+listed (entry ∷ []) = []
+listed entries = entries
+
+-- the one trace, by its digest, if that is asked for
+abbrev pub trace_digest : List VolumeEntry → Option (List ℕ)
+trace_digest (entry ∷ []) = entry.digest
+trace_digest _ = None
+
 -- the digests of the texts that are named
-abbrev pub digests_of : Named → Origin → List ℕ → List ℕ → Option Digests
+abbrev pub digests_of : Named → Origin → List ℕ → Option (List ℕ) → Option Digests
 digests_of names.Nothing origin start trace = None
-digests_of names.Trace origin start trace = Some (record { trace = sha256 trace; start = starts.Default })
-digests_of names.Both origins.Boot start trace = Some (record { trace = sha256 trace; start = starts.Config (sha256 start) })
-digests_of names.Both origins.State start trace = Some (record { trace = sha256 trace; start = starts.State (sha256 start) })
+digests_of names.Trace origin start trace = Some (record { trace = trace; start = starts.Default })
+digests_of names.Both origins.Boot start trace = Some (record { trace = trace; start = starts.Config (sha256 start) })
+digests_of names.Both origins.State start trace = Some (record { trace = trace; start = starts.State (sha256 start) })
 
 -- what the first line says beside the sizes of the core
-abbrev pub heading_of : Scope → Origin → List ℕ → List ℕ → Heading
-heading_of scope origin start trace = record { digests = digests_of scope.named origin start trace; is_unseen = scope.is_unseen }
+abbrev pub heading_of : Scope → Origin → List ℕ → List VolumeEntry → Heading
+heading_of scope origin start entries =
+    record { digests = digests_of scope.named origin start (trace_digest entries); is_unseen = scope.is_unseen; volumes = length (listed entries) }
 
--- the text is made of the notes on the trace from the state on that the first text is of
-abbrev pub IsCustodyText : Origin → CustodyForm → Scope → List ℕ → List ℕ → List ℕ → Type 0
-IsCustodyText origin form scope start_text trace_text text =
-    (m : State) × (count : ℕ) × (refused : ℕ) × (told : List Note) × BeginsIn origin start_text m × IsCustodyTold m (Some trace_text) count refused told
-    × IsAccount form scope.vm (heading_of scope origin start_text trace_text) m count refused told text
+-- the text is made of the notes on all calls of the volumes, as if they were one trace, from the state on that the first text is of
+pub record IsCustodyText (origin : Origin) (form : CustodyForm) (scope : Scope) (start : List ℕ) (traces : List (List ℕ)) (text : List ℕ) : Type 0 where
+  pub first : State
+  pub begins : BeginsIn origin start first
+  pub volumes : List (List Call)
+  pub traced : AreVolumes (map Some traces) volumes
+  pub entries : List VolumeEntry
+  pub named : AreEntries (names_trace scope.named) first_line (map Some traces) volumes entries
+  pub count : ℕ
+  pub refused : ℕ
+  pub told : List Note
+  pub custody : IsCustodyTold first (joined volumes) count refused told
+  pub account : IsAccount form scope.vm (heading_of scope origin start entries) first (listed entries) count refused told text
 
 -- the machine that calls begin on has the slot of this number, or has not
 abbrev pub HasSlot : Origin → List ℕ → ℕ → Type 0

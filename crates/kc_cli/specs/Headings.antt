@@ -1,18 +1,16 @@
 -- How the first line comes of the digests of what was read.
-use Rattle.std.specs.Prelude.{◌≡◌, ℕ, Bool, List, Option, Some, None, IfSome, is_some}
-use Rattle.sha2.specs.Sha256.{sha256}
+use Rattle.std.specs.Prelude.{ℕ, List, length, Option, Some, None}
 use Rattle.kc_trace.specs.declared.custody_writer.StartDigest.{StartDigest}
 use Rattle.kc_trace.specs.declared.custody_writer.StartDigest.TheVariants as starts
 use Rattle.kc_trace.specs.declared.custody_writer.Digests.{Digests}
 use Rattle.kc_trace.specs.declared.custody_writer.Heading.{Heading}
+use Rattle.kc_trace.specs.declared.volume_writer.VolumeEntry.{VolumeEntry}
 use Rattle.kc_faults.specs.declared.origin.Origin.{Origin}
 use Rattle.kc_faults.specs.declared.origin.Origin.TheVariants as origins
+use Rattle.kc_cli.specs.declared.account.Named.{Named}
+use Rattle.kc_cli.specs.declared.account.Named.TheVariants as names
 use Rattle.kc_cli.specs.declared.account.Scope.{Scope}
-use Rattle.kc_cli.specs.Custody.{heading_of}
-
--- the digest is there if it is asked for, and it is that of the source's text, if that is known
-abbrev pub HasDigest : Bool → Option (List ℕ) → Option (List ℕ) → Type 0
-HasDigest asked source digest = (is_some digest ≡ asked) × IfSome digest (λ d. IfSome source (λ text. d ≡ sha256 text))
+use Rattle.kc_cli.specs.Custody.{listed, trace_digest}
 
 -- what the calls begin with, by its digest, if it has one
 abbrev pub start_by : Option (List ℕ) → Origin → StartDigest
@@ -20,13 +18,10 @@ start_by None origin = starts.Default
 start_by (Some digest) origins.Boot = starts.Config digest
 start_by (Some digest) origins.State = starts.State digest
 
-abbrev pub digests_by : Origin → Option (List ℕ) → Option (List ℕ) → Option Digests
-digests_by origin start None = None
-digests_by origin start (Some trace) = Some (record { trace = trace; start = start_by start origin })
+abbrev pub digests_by : Named → Origin → Option (List ℕ) → Option (List ℕ) → Option Digests
+digests_by names.Nothing origin start trace = None
+digests_by named origin start trace = Some (record { trace = trace; start = start_by start origin })
 
-abbrev pub heading_by : Scope → Origin → Option (List ℕ) → Option (List ℕ) → Heading
-heading_by scope origin start trace = record { digests = digests_by origin start trace; is_unseen = scope.is_unseen }
-
--- it is the heading of both texts, if they are known
-abbrev pub IsHeaded : Scope → Origin → Option (List ℕ) → Option (List ℕ) → Heading → Type 0
-IsHeaded scope origin start trace heading = IfSome start (λ start_text. IfSome trace (λ trace_text. heading ≡ heading_of scope origin start_text trace_text))
+abbrev pub heading_by : Scope → Origin → Option (List ℕ) → List VolumeEntry → Heading
+heading_by scope origin start entries =
+    record { digests = digests_by scope.named origin start (trace_digest entries); is_unseen = scope.is_unseen; volumes = length (listed entries) }

@@ -1,23 +1,31 @@
 -- What the engine of custody keeps of the notes on a trace: all of them, or their events, with the attempts at pages of VMs, if these are enough.
-use Rattle.std.specs.Prelude.{◌≡◌, ◌++◌, ℕ, Bool, true, false, List, [], length, take, Option}
+use Rattle.std.specs.Prelude.{◌≡◌, ◌≤◌, ◌+◌, ◌++◌, ℕ, Bool, true, false, List, [], filter, length, take, Option, Result, Ok, Err}
 use Rattle.std.specs.List.{flat_map}
 use Rattle.std.specs.Io.KnownBytes.{Appends}
 use Rattle.kc_types.specs.Configuration.{Configuration}
+use Rattle.kc_types.specs.declared.call.Call.{Call}
 use Rattle.kc_types.specs.declared.custody.Event.{Event}
 use Rattle.kc_remarks.specs.declared.remark.Note.{Note}
 use Rattle.kc_remarks.specs.declared.remark.Note.TheVariants as note
-use Rattle.kc_remarks.specs.Remarks.{events_in}
+use Rattle.kc_remarks.specs.Remarks.{notes, events_in}
+use Rattle.kc_remarks.specs.Denials.{is_denied, Counts}
 use Rattle.kc_remarks.specs.declared.denials.Answered.{Answered}
 use Rattle.kc_remarks.specs.declared.attempt.Attempt.{Attempt}
 use Rattle.kc_remarks.specs.Attempts.{attempts_in}
 use Rattle.kc_model.specs.State.{State}
+use Rattle.kc_model.specs.Next.{replies_from, state_after}
+use Rattle.kc_model.specs.Custody.{first_line}
 use Rattle.kc_model.specs.Lives.{lives, selected_lives}
 use Rattle.kc_model.specs.Before.{events_before}
 use Rattle.kc_model.specs.Events.{changes_in}
 use Rattle.kc_custody.specs.Selected.{selected}
 use Rattle.kc_custody.specs.Chosen.{no_remarks, chosen}
+use Rattle.kc_texts.specs.declared.source.Failed.{Failed}
+use Rattle.kc_faults.specs.declared.fault.TextFault.{TextFault}
+use Rattle.kc_faults.specs.declared.fault.TextFault.TheVariants as texts
 use Rattle.kc_trace.specs.declared.custody_writer.Heading.{Heading}
-use Rattle.kc_trace.specs.CustodyText.{header_line, end_line, custody_text_of}
+use Rattle.kc_trace.specs.declared.volume_writer.VolumeEntry.{VolumeEntry}
+use Rattle.kc_trace.specs.CustodyText.{header_line, volumes_text, placed_text, end_line, custody_text_of}
 use Rattle.kc_trace.specs.SummaryText.{summary_text_of}
 use Rattle.kc_trace.specs.RemarkText.{notes_text_of}
 use Rattle.kc_cli.specs.declared.account.CustodyForm.{CustodyForm}
@@ -25,8 +33,10 @@ use Rattle.kc_cli.specs.declared.account.CustodyForm.TheVariants.{Changes, Summa
 use Rattle.kc_html.specs.Html.{html_text_of}
 use Rattle.kc_svg.specs.Foot.{HasFoot}
 use Rattle.kc_cli.specs.Custody.{page_remarks, reported}
+use Rattle.kc_cli.specs.declared.account.Told.{Told}
 use Rattle.kc_cli.specs.declared.ledger.Ledger.{Ledger}
 use Rattle.kc_cli.specs.declared.ledger.Ledger.TheVariants as kept
+use Rattle.kc_cli.specs.declared.telling.Kept.{Kept}
 
 -- it keeps what this form is written of, for calls that begin in this state, of these notes on them
 abbrev pub Keeps : CustodyForm → State → List Note → Ledger → Type 0
@@ -53,29 +63,48 @@ attempts_kept (kept.Summary events attempts) = attempts.items
 attempts_kept _ = []
 
 -- the text that is given of what it keeps, by the numbers of calls and of those that were refused or rejected; of a picture's bytes only the foot
-abbrev pub IsGiven : Option ℕ → Heading → Configuration → ℕ → ℕ → Ledger → List ℕ → Type 0
-IsGiven vm heading config count refused (kept.Changes events) text = text ≡ custody_text_of heading config count refused (selected vm (changes_in events.items))
-IsGiven vm heading config count refused (kept.Notes wanted notes) text = text ≡ notes_text_of heading config count refused (chosen vm wanted notes.items)
-IsGiven vm heading config count refused (kept.Summary events attempts) text = text ≡ summary_text_of heading config count refused attempts.items (selected_lives vm (lives (reported heading.is_unseen events.items)))
-IsGiven vm heading config count refused (kept.Picture events) text = HasFoot heading text
-IsGiven vm heading config count refused (kept.VmPicture v before notes) text = HasFoot heading text
-IsGiven vm heading config count refused (kept.Html notes) text = text ≡ html_text_of (notes_text_of heading config count refused (chosen vm (page_remarks heading.is_unseen) notes.items))
+abbrev pub IsGiven : Option ℕ → Heading → Configuration → List VolumeEntry → ℕ → ℕ → Ledger → List ℕ → Type 0
+IsGiven vm heading config volumes count refused (kept.Changes events) text = text ≡ custody_text_of heading config volumes count refused (selected vm (changes_in events.items))
+IsGiven vm heading config volumes count refused (kept.Notes wanted notes) text = text ≡ notes_text_of heading config volumes count refused (chosen vm wanted notes.items)
+IsGiven vm heading config volumes count refused (kept.Summary events attempts) text = text ≡ summary_text_of heading config volumes count refused attempts.items (selected_lives vm (lives (reported heading.is_unseen events.items)))
+IsGiven vm heading config volumes count refused (kept.Picture events) text = HasFoot heading text
+IsGiven vm heading config volumes count refused (kept.VmPicture v before notes) text = HasFoot heading text
+IsGiven vm heading config volumes count refused (kept.Html notes) text = text ≡ html_text_of (notes_text_of heading config volumes count refused (chosen vm (page_remarks heading.is_unseen) notes.items))
 
 -- the sink took the text that is given of what was kept
-abbrev pub GivesAccount : Option ℕ → Heading → Configuration → Answered → Ledger → Option (List ℕ) → Option (List ℕ) → Type 0
-GivesAccount vm heading config answered ledger old new =
-    (text : List ℕ) × IsGiven vm heading config answered.calls answered.denials.total ledger text × Appends old new text
+abbrev pub GivesAccount : Option ℕ → Told → Option (List ℕ) → Option (List ℕ) → Type 0
+GivesAccount vm told old new =
+    (text : List ℕ) × IsGiven vm told.heading told.config told.volumes.items told.answered.calls told.answered.denials.total told.ledger text × Appends old new text
 
 -- the same for a beginning of it
-abbrev pub BeginsAccount : Option ℕ → Heading → Configuration → Answered → Ledger → Option (List ℕ) → Option (List ℕ) → Type 0
-BeginsAccount vm heading config answered ledger old new =
-    (text : List ℕ) × (n : ℕ) × IsGiven vm heading config answered.calls answered.denials.total ledger text × Appends old new (take n text)
+abbrev pub BeginsAccount : Option ℕ → Told → Option (List ℕ) → Option (List ℕ) → Type 0
+BeginsAccount vm told old new =
+    (text : List ℕ) × (n : ℕ) × IsGiven vm told.heading told.config told.volumes.items told.answered.calls told.answered.denials.total told.ledger text × Appends old new (take n text)
 
--- the text of custody that has a line for each of these, given the numbers of calls and of those that were refused or rejected
-abbrev pub lined_text : {X : Type 0} → (X → List ℕ) → Heading → Configuration → ℕ → ℕ → List X → List ℕ
-lined_text line heading config calls refused xs = header_line heading config ++ (flat_map line xs ++ end_line calls (length xs) refused)
+-- lines, each with its volume, between what comes before them and what comes after
+abbrev pub framed_text : {X : Type 0} → (X → ℕ) → (X → List ℕ) → List ℕ → List VolumeEntry → List X → List ℕ → List ℕ
+framed_text place line front volumes xs end = front ++ (flat_map (λ x. placed_text volumes (place x) (line x)) xs ++ end)
+
+-- the text of custody that has a line for each of these
+abbrev pub lined_text : {X : Type 0} → (X → ℕ) → (X → List ℕ) → Heading → Configuration → List VolumeEntry → Answered → List X → List ℕ
+lined_text place line heading config volumes answered xs =
+    header_line heading config ++ (volumes_text volumes ++ (flat_map (λ x. placed_text volumes (place x) (line x)) xs ++ end_line answered.calls (length xs) answered.denials.total))
+
+-- the outcome of giving a text to a sink
+abbrev pub written : Result (Unit {0}) Failed → Result (Unit {0}) TextFault
+written (Ok given) = Ok given
+written (Err failed) = Err texts.Write
 
 -- a note that is not an event: of what was refused or served
 abbrev pub is_remark : Note → Bool
 is_remark (note.Event event) = false
 is_remark _ = true
+
+-- what is kept is of these calls, made from this state on, and the core is in the state after them
+pub record HasKept (form : CustodyForm) (m : State) (calls : List Call) (core : State) (kept : Kept) : Type 0 where
+  pub ledger : Keeps form m (notes m calls) kept.ledger
+  pub line : kept.line ≡ first_line + length calls
+  pub left : core ≡ state_after m calls
+  pub denied : kept.denials.total ≡ length (filter is_denied (notes m calls))
+  pub few : kept.denials.total ≤ length calls
+  pub counted : Counts (replies_from m calls) kept.denials

@@ -1,34 +1,29 @@
 //! What is written of what was kept of a trace: every change, an object for each life of a VM, a picture, or a page for
 //! a browser.
-ghost use Rattle.std.specs.Prelude.{◌≡◌, ◌<◌, ◌≤◌, ◌+◌, ◌++◌, ◌⊎◌, All, Some, filter, false, is_err, vec_capacity, IfOk, IfErr, OnOk, OnErr};
-ghost use Rattle.std.specs.List.{flat_map};
-ghost use Rattle.std.specs.Io.KnownBytes.{Appends};
-ghost use Rattle.kc_types.specs.Limits.{call_limit};
+ghost use Rattle.std.specs.Prelude.{◌≡◌, ◌<◌, ◌+◌, ◌^◌, ◌++◌, ◌⊎◌, All, Some, filter, false, IfOk, IfErr, OnOk};
 ghost use Rattle.kc_model.specs.Events.{changes_in};
 ghost use Rattle.kc_model.specs.Lives.{lives, selected_lives};
 ghost use Rattle.kc_custody.specs.Within.{IsWithin};
 ghost use Rattle.kc_custody.specs.Chosen.{chosen};
 ghost use Rattle.kc_remarks.specs.Remarks.{events_in};
+ghost use Rattle.kc_remarks.specs.Attempts.{AreInOrder};
 ghost use Rattle.kc_svg.specs.Foot.{HasFoot};
 ghost use Rattle.kc_picture.specs.Frames.{IsIn};
 ghost use Rattle.kc_vm_picture.specs.Marks.{marks};
-ghost use Rattle.kc_html.specs.Html.{html_text_of};
+ghost use Rattle.kc_trace.specs.CustodyText.{AreInLine};
 ghost use Rattle.kc_trace.specs.SummaryText.{summary_text_of};
-ghost use Rattle.kc_trace.specs.Spelling.{longest_call};
-ghost use Rattle.kc_texts.specs.Written.{AppendsBeginning};
 ghost use Rattle.kc_faults.specs.Outcomes.{TellsSink};
 ghost use Rattle.kc_cli.specs.Custody.{names_trace, names_start, page_remarks, reported};
-ghost use Rattle.kc_remarks.specs.Attempts.{AreInOrder};
-ghost use Rattle.kc_cli.specs.Ledgers.{attempts_kept, events_kept, is_remark, GivesAccount, BeginsAccount, lined_text};
+ghost use Rattle.kc_cli.specs.Ledgers.{attempts_kept, events_kept, is_remark, GivesAccount, BeginsAccount};
 
 use crate::ledger::Ledger;
+use crate::lined::{give_changes, give_html, give_whole};
 use kc_custody::{choose, lives, select, select_lives};
 use kc_faults::TextFault;
-use kc_html::{HEAD, TAIL};
 use kc_picture::{bars, picture};
 use kc_remarks::{Answered, Attempt, Note, Remarks};
-use kc_texts::{Failed, Line, Sink, empty_piece, give_lines, write_whole};
-use kc_trace::{Heading, push_custody_end, push_custody_header, summary_text};
+use kc_texts::Sink;
+use kc_trace::{Heading, VolumeEntry, summary_text};
 use kc_types::{Config, Event, Memory};
 use kc_vm_picture::{Mark, marks_of, picture_of_vm};
 use std::alloc::Global;
@@ -94,145 +89,19 @@ pub struct Scope {
     pub named: Named,
 }
 
-/// What was kept of a trace.
+/// What was kept of all calls.
 #[derive(Drop)]
 pub(crate) struct Told {
     /// What the core was started with.
     pub config: Config,
-    /// How many calls the trace has, and how many of them were refused or rejected.
+    /// How many calls there are, and how many of them were refused or rejected.
     pub answered: Answered,
     /// What the first line says beside the sizes of the core.
     pub heading: Heading,
+    /// The volumes that are named on lines of their own.
+    pub volumes: Vec<VolumeEntry>,
     /// What was kept of the calls.
     pub ledger: Ledger,
-}
-
-/// Gives a sink what the piece holds, then some lines, and then an end: memory does not grow. After an `Err` the sink
-/// has taken a beginning of it.
-fn give_text<K: Sink, L: Line + Drop>(
-    out: &mut K,
-    piece: Vec<u8>,
-    lines: Vec<L>,
-    end: &[u8],
-) -> Result<(), Failed>
-    requires out { K.failed out.old ≡ false }
-    requires room { longest_call ≤ vec_capacity piece }
-    ensures ok { OnOk result
-        (Appends (K.taken out.old) (K.taken out.new) (piece.items ++ (flat_map L.line lines.items ++ end.now))) }
-    ensures begun { OnErr result (AppendsBeginning (K.taken out.old) (K.taken out.new)
-        (piece.items ++ (flat_map L.line lines.items ++ end.now))) }
-    ensures mark { K.failed out.new ≡ is_err result }
-{
-    give_lines(out, piece, lines)?;
-    write_whole(out, end)
-}
-
-/// Gives these lines between the first and the last of custody.
-fn give_changes<K: Sink, L: Line + Drop>(
-    alloc: Global,
-    heading: &Heading,
-    config: &Config,
-    calls: usize,
-    refused: usize,
-    lines: Vec<L>,
-    out: &mut K,
-) -> Result<(), TextFault>
-    requires { K.failed out.old ≡ false }
-    ensures ok { OnOk result (Appends (K.taken out.old) (K.taken out.new)
-        (lined_text L.line heading.now config.now calls refused lines.items)) }
-    ensures sink { TellsSink (K.failed out.new) (AppendsBeginning (K.taken out.old) (K.taken out.new)
-        (lined_text L.line heading.now config.now calls refused lines.items)) (out.new ≡ out.old) result }
-    ensures fault { IfErr result (λ fault. (fault ≡ TextFault.Memory) ⊎ (fault ≡ TextFault.Write)) }
-{
-    // All memory that writing takes is there before the first byte is written.
-    let (Ok(mut piece), Ok(mut end)) = (empty_piece(alloc), empty_piece(alloc)) else {
-        return Err(TextFault::Memory);
-    };
-    push_custody_header(&mut piece, heading, config);
-    push_custody_end(&mut end, calls, lines.len(), refused);
-    match give_text(out, piece, lines, &end) {
-        Ok(()) => Ok(()),
-        Err(_) => Err(TextFault::Write),
-    }
-}
-
-/// Gives a sink the parts of a text. After an `Err` the sink has taken a beginning of it.
-fn give_parts<K: Sink>(out: &mut K, parts: &[&str]) -> Result<(), Failed>
-    requires { K.failed out.old ≡ false }
-    ensures ok { OnOk result
-        (Appends (K.taken out.old) (K.taken out.new) (flat_map (λ part. part.now) parts.now)) }
-    ensures begun { OnErr result
-        (AppendsBeginning (K.taken out.old) (K.taken out.new) (flat_map (λ part. part.now) parts.now)) }
-    ensures mark { K.failed out.new ≡ is_err result }
-{
-    for part in parts {
-        write_whole(out, part.as_bytes())?;
-    }
-    Ok(())
-}
-
-/// Gives a sink the text that `give_text` gives, in a page for a browser. After an `Err` the sink has taken a beginning
-/// of it.
-fn give_page<K: Sink, L: Line + Drop>(
-    out: &mut K,
-    piece: Vec<u8>,
-    lines: Vec<L>,
-    end: &[u8],
-) -> Result<(), Failed>
-    requires out { K.failed out.old ≡ false }
-    requires room { longest_call ≤ vec_capacity piece }
-    ensures ok { OnOk result (Appends (K.taken out.old) (K.taken out.new)
-        (html_text_of (piece.items ++ (flat_map L.line lines.items ++ end.now)))) }
-    ensures begun { OnErr result (AppendsBeginning (K.taken out.old) (K.taken out.new)
-        (html_text_of (piece.items ++ (flat_map L.line lines.items ++ end.now)))) }
-    ensures mark { K.failed out.new ≡ is_err result }
-{
-    write_whole(out, HEAD.as_bytes())?;
-    give_text(out, piece, lines, end)?;
-    give_parts(out, &TAIL)
-}
-
-/// Gives what `give_changes` gives, in a page for a browser.
-fn give_html<K: Sink, L: Line + Drop>(
-    alloc: Global,
-    heading: &Heading,
-    config: &Config,
-    calls: usize,
-    refused: usize,
-    lines: Vec<L>,
-    out: &mut K,
-) -> Result<(), TextFault>
-    requires { K.failed out.old ≡ false }
-    ensures ok { OnOk result (Appends (K.taken out.old) (K.taken out.new)
-        (html_text_of (lined_text L.line heading.now config.now calls refused lines.items))) }
-    ensures sink { TellsSink (K.failed out.new) (AppendsBeginning (K.taken out.old) (K.taken out.new)
-        (html_text_of (lined_text L.line heading.now config.now calls refused lines.items)))
-        (out.new ≡ out.old) result }
-    ensures fault { IfErr result (λ fault. (fault ≡ TextFault.Memory) ⊎ (fault ≡ TextFault.Write)) }
-{
-    let (Ok(mut piece), Ok(mut end)) = (empty_piece(alloc), empty_piece(alloc)) else {
-        return Err(TextFault::Memory);
-    };
-    push_custody_header(&mut piece, heading, config);
-    push_custody_end(&mut end, calls, lines.len(), refused);
-    match give_page(out, piece, lines, &end) {
-        Ok(()) => Ok(()),
-        Err(_) => Err(TextFault::Write),
-    }
-}
-
-/// Gives a text that was made whole.
-fn give_whole<K: Sink>(text: &[u8], out: &mut K) -> Result<(), TextFault>
-    requires { K.failed out.old ≡ false }
-    ensures ok { OnOk result (Appends (K.taken out.old) (K.taken out.new) text.now) }
-    ensures sink { TellsSink (K.failed out.new) (AppendsBeginning (K.taken out.old) (K.taken out.new) text.now)
-        (out.new ≡ out.old) result }
-    ensures fault { IfErr result (λ fault. fault ≡ TextFault.Write) }
-{
-    match write_whole(out, text) {
-        Ok(()) => Ok(()),
-        Err(_) => Err(TextFault::Write),
-    }
 }
 
 /// The events that are reported: the changes alone, if the machine's own accesses are not in the trace.
@@ -251,21 +120,31 @@ fn summary_of(
     alloc: Global,
     heading: &Heading,
     config: &Config,
-    calls: usize,
-    refused: usize,
+    volumes: &[VolumeEntry],
+    answered: &Answered,
     events: Vec<Event>,
     attempts: &[Attempt],
     vm: Option<u32>,
 ) -> Result<Vec<u8>, Memory>
     requires within { All (IsWithin config.now.frames) events.items }
     requires order { AreInOrder attempts.now }
-    ensures { IfOk result (λ text. text.items ≡ summary_text_of heading.now config.now calls refused attempts.now
-        (selected_lives vm (lives (reported heading.now.is_unseen events.items)))) }
+    ensures { IfOk result (λ text. text.items
+        ≡ summary_text_of heading.now config.now volumes.now answered.now.calls answered.now.denials.total
+        attempts.now (selected_lives vm (lives (reported heading.now.is_unseen events.items)))) }
 {
     let events = reported(events, heading.is_unseen);
     let mut lives = lives(alloc, config.frames(), events)?;
     select_lives(&mut lives, vm);
-    summary_text(alloc, heading, config, calls, refused, attempts, &lives)
+    summary_text(
+        alloc,
+        heading,
+        config,
+        volumes,
+        answered.calls,
+        answered.denials.total as usize,
+        attempts,
+        &lives,
+    )
 }
 
 /// The picture of all frames, of some events.
@@ -276,7 +155,7 @@ fn picture_of(
     calls: usize,
     events: &[Event],
 ) -> Result<Vec<u8>, Memory>
-    requires few { calls ≤ call_limit }
+    requires few { calls + 2 < 2 ^ 32 }
     requires within { All (IsIn config.now.frames) (changes_in events.now) }
     ensures { IfOk result (λ text. HasFoot heading.now text.items) }
 {
@@ -339,7 +218,7 @@ fn vm_picture_of(
     notes: Vec<Note>,
     vm: u32,
 ) -> Result<Vec<u8>, Memory>
-    requires few { calls ≤ call_limit }
+    requires few { calls + 2 < 2 ^ 32 }
     requires within { All (IsIn config.now.frames) (changes_in (before.items ++ events_in notes.items)) }
     ensures { IfOk result (λ text. HasFoot heading.now text.items) }
 {
@@ -358,14 +237,13 @@ pub(crate) fn give_told<K: Sink>(
     out: &mut K,
 ) -> Result<(), TextFault>
     requires out { K.failed out.old ≡ false }
-    requires few { told.answered.calls ≤ call_limit }
+    requires few { told.answered.calls + 2 < 2 ^ 32 }
     requires within { All (IsWithin told.config.frames) (events_kept told.ledger) }
     requires changes { All (IsIn told.config.frames) (changes_in (events_kept told.ledger)) }
     requires order { AreInOrder (attempts_kept told.ledger) }
-    ensures ok { OnOk result
-        (GivesAccount vm told.heading told.config told.answered told.ledger (K.taken out.old) (K.taken out.new)) }
-    ensures sink { TellsSink (K.failed out.new)
-        (BeginsAccount vm told.heading told.config told.answered told.ledger (K.taken out.old) (K.taken out.new))
+    requires volumes { AreInLine told.volumes.items }
+    ensures ok { OnOk result (GivesAccount vm told (K.taken out.old) (K.taken out.new)) }
+    ensures sink { TellsSink (K.failed out.new) (BeginsAccount vm told (K.taken out.old) (K.taken out.new))
         (out.new ≡ out.old) result }
     ensures fault { IfErr result (λ fault. (fault ≡ TextFault.Memory) ⊎ (fault ≡ TextFault.Write)) }
 {
@@ -373,22 +251,22 @@ pub(crate) fn give_told<K: Sink>(
         config,
         answered,
         heading,
+        volumes,
         ledger,
     } = told;
-    let calls = answered.calls;
-    let refused = answered.denials.total as usize;
+    let entries = volumes.as_slice();
     match ledger {
         Ledger::Changes(mut events) => {
             select(&mut events, vm);
-            give_changes(alloc, &heading, &config, calls, refused, events, out)
+            give_changes(alloc, &heading, &config, entries, &answered, events, out)
         },
         Ledger::Notes(remarks, mut notes) => {
             choose(&mut notes, vm, remarks);
-            give_changes(alloc, &heading, &config, calls, refused, notes, out)
+            give_changes(alloc, &heading, &config, entries, &answered, notes, out)
         },
         Ledger::Summary(events, attempts) => {
             let made = summary_of(
-                alloc, &heading, &config, calls, refused, events, &attempts, vm,
+                alloc, &heading, &config, entries, &answered, events, &attempts, vm,
             );
             let Ok(text) = made else {
                 return Err(TextFault::Memory);
@@ -397,13 +275,13 @@ pub(crate) fn give_told<K: Sink>(
         },
         Ledger::Picture(events) => {
             let events = reported(events, heading.is_unseen);
-            let Ok(text) = picture_of(alloc, &heading, &config, calls, &events) else {
+            let Ok(text) = picture_of(alloc, &heading, &config, answered.calls, &events) else {
                 return Err(TextFault::Memory);
             };
             give_whole(&text, out)
         },
         Ledger::VmPicture(vm, before, notes) => {
-            let made = vm_picture_of(alloc, &heading, &config, calls, before, notes, vm);
+            let made = vm_picture_of(alloc, &heading, &config, answered.calls, before, notes, vm);
             let Ok(text) = made else {
                 return Err(TextFault::Memory);
             };
@@ -411,7 +289,7 @@ pub(crate) fn give_told<K: Sink>(
         },
         Ledger::Html(mut notes) => {
             choose(&mut notes, vm, page_remarks(heading.is_unseen));
-            give_html(alloc, &heading, &config, calls, refused, notes, out)
+            give_html(alloc, &heading, &config, entries, &answered, notes, out)
         },
     }
 }

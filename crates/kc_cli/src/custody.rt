@@ -1,203 +1,96 @@
 //! The engine that reports what happened to each frame and slot, over any sources and any sink.
-ghost use Rattle.std.specs.Prelude.{◌≡◌, ◌≢◌, ◌<◌, ◌≤◌, ◌+◌, ◌∷◌, ◌⊎◌, [], ℕ, List, All, false, true, Option, Some, None, is_some, IfOk, IfErr, IfSome, OnOk, Err};
+ghost use Rattle.std.specs.Prelude.{◌≡◌, ◌≢◌, ◌<◌, ◌≤◌, ◌++◌, ◌∷◌, ◌⊎◌, [], ℕ, List, Option, Some, None, false, true, IfOk, IfErr, IfSome, OnOk, Ok, Err};
 ghost use Rattle.std.specs.Io.KnownBytes.{IsAtEnd};
-ghost use Rattle.kc_types.specs.Limits.{call_limit};
-ghost use Rattle.kc_types.specs.declared.call.Call.{Call};
 ghost use Rattle.kc_types.specs.Configuration.{slot_count};
+ghost use Rattle.kc_model.specs.State.{State};
 ghost use Rattle.kc_trace.specs.declared.fault.TraceFault.{TraceFault};
 ghost use Rattle.kc_trace.specs.Trace.{IsRefused};
-ghost use Rattle.kc_texts.specs.Ends.{ReadFailed, seen};
-ghost use Rattle.kc_texts.specs.Streamed.{HasRead};
-ghost use Rattle.kc_model.specs.Events.{changes_in};
-ghost use Rattle.kc_model.specs.Lawful.{IsLawful};
-ghost use Rattle.kc_model.specs.State.{State};
-ghost use Rattle.kc_faults.specs.Origins.{BeginsIn};
+ghost use Rattle.kc_texts.specs.Ends.{Seen, ReadFailed, seen};
 ghost use Rattle.kc_texts.specs.Written.{Writes, Begins};
+ghost use Rattle.kc_faults.specs.Origins.{BeginsIn};
 ghost use Rattle.kc_faults.specs.Outcomes.{TellsSources, TellsTexts, TellsSink};
 ghost use Rattle.kc_cli.specs.Engine.{IsReplayFault};
-ghost use Rattle.kc_custody.specs.Within.{IsWithin};
-ghost use Rattle.kc_picture.specs.Frames.{IsIn};
-ghost use Rattle.kc_remarks.specs.declared.remark.Note.{Note};
-ghost use Rattle.kc_cli.specs.Custody.{AreNotesOf, IsCustodyTold, IsCustodyText, TellsCustody, names_trace};
-ghost use Rattle.kc_cli.specs.Answers.{AreAnsweredFrom, AreAnswered};
-ghost use Rattle.kc_cli.specs.Headings.{HasDigest, heading_by, IsHeaded};
-ghost use Rattle.kc_remarks.specs.Attempts.{AreInOrder};
-ghost use Rattle.kc_cli.specs.Ledgers.{Keeps, attempts_kept, events_kept, GivesAccount, BeginsAccount};
+ghost use Rattle.kc_cli.specs.Custody.{IsCustodyText, TellsCustody, HasDigest, names_start, listed, trace_digest};
+ghost use Rattle.kc_cli.specs.Answers.{AreAllAnswered};
+ghost use Rattle.kc_cli.specs.Headings.{start_by, digests_by, heading_by};
+ghost use Rattle.kc_cli.specs.Volumes.{known, HasTold, IsFull};
 
-use crate::account::{CustodyForm, FIRST_LINE, Scope, Told, give_told};
-use crate::ledger::Ledger;
+use crate::account::{CustodyForm, FIRST_LINE, Named, Scope, Told, give_told};
 use crate::starting::{Begun, begin};
+use crate::telling::Kept;
 use kc_core::KCore;
 use kc_digests::Lanes;
 use kc_faults::{Origin, TextFault};
-use kc_remarks::{Answered, Denials};
-use kc_texts::{CallStream, PIECE, Sink, Source};
-use kc_trace::{Digests, Heading, StartDigest};
+use kc_remarks::Answered;
+use kc_texts::{Sink, Source};
+use kc_trace::{Digests, Heading, StartDigest, TraceFault, VolumeEntry};
 use std::alloc::Global;
 use std::thread::Threads;
 
-/// What came of a trace that was read to its end.
-#[derive(Drop)]
-struct Traced {
-    ledger: Ledger,
-    answered: Answered,
-    /// The digest of the trace, if it is named.
-    digest: Option<[u8; 32]>,
+/// How many calls the volumes before another one may have: 1,023 times 65,536, so that all lines have numbers of 32
+/// bits.
+pub const CALLS_BEFORE: u32 = 67_043_328;
+
+/// How what happened is reported.
+#[derive(Clone, Copy)]
+pub struct CustodyOrder {
+    /// What the calls begin with.
+    pub origin: Origin,
+    /// What is written.
+    pub form: CustodyForm,
+    /// How many pages are hashed at once.
+    pub lanes: Lanes,
+    /// What is reported.
+    pub scope: Scope,
 }
 
-/// A stream of calls, whose bytes are hashed if that is asked for.
-fn stream_of(is_hashed: bool) -> CallStream
-    ensures none { (first : Option (List ℕ)) → HasRead result [] [] first first }
-    ensures hashed { is_hashed ≡ true → is_some result.hasher ≡ true }
+/// What calls begin with, by its digest, if it has one.
+fn start_by(digest: Option<[u8; 32]>, origin: Origin) -> StartDigest
+    ensures { result ≡ start_by digest origin }
 {
-    if is_hashed {
-        CallStream::hashing()
-    } else {
-        CallStream::new()
+    match (digest, origin) {
+        (None, _) => StartDigest::Default,
+        (Some(digest), Origin::Boot) => StartDigest::Config(digest),
+        (Some(digest), Origin::State) => StartDigest::State(digest),
     }
 }
 
-/// The digest of a stream that was read to its end, if it is asked for.
-fn digest_of(stream: &CallStream, is_hashed: bool) -> Option<[u8; 32]>
-    requires { is_hashed ≡ true → is_some stream.now.hasher ≡ true }
-    ensures { (bytes : List ℕ) (calls : List Call) (first now : Option (List ℕ))
-        → HasRead stream.now bytes calls first now → IsAtEnd now → HasDigest is_hashed first result }
-{
-    if is_hashed { stream.digest() } else { None }
-}
-
-/// Makes the calls of the trace that a source has left, as it is read, and keeps of them what this form is written of.
-fn tell_source<T: Source>(
-    alloc: Global,
-    core: &mut KCore,
-    trace: &mut T,
-    form: CustodyForm,
-    vm: Option<u32>,
-    is_hashed: bool,
-) -> Result<Traced, TextFault>
-    requires { T.failed trace.old ≡ false }
-    ensures ok { IfOk result (λ kept. (told : List Note)
-        × AreNotesOf core.old (T.left trace.old) kept.answered.calls kept.answered.denials.total told
-        × Keeps form core.old told kept.ledger) }
-    ensures answered { IfOk result
-        (λ kept. IfSome (T.left trace.old) (λ text. AreAnsweredFrom core.old text kept.answered)) }
-    ensures digest { IfOk result (λ kept. HasDigest is_hashed (T.left trace.old) kept.digest) }
-    ensures config { OnOk result (core.new.config ≡ core.old.config) }
-    ensures ended { OnOk result (IsAtEnd (T.left trace.new)) }
-    ensures trace { (fault : TraceFault) → result ≡ Err (TextFault.Trace fault)
-        → IfSome (T.left trace.old) (λ text. IsRefused text fault) × IsAtEnd (T.left trace.new) }
-    ensures read { result ≡ Err TextFault.Read → ReadFailed (T.failed trace.new) (T.left trace.old) (T.left trace.new) }
-    ensures source { T.failed trace.new ≡ true → result ≡ Err TextFault.Read }
-    ensures started { result ≢ Err TextFault.Start }
-    ensures fault { IfErr result IsReplayFault }
-{
-    let mut buffer = [0u8; PIECE];
-    let mut stream = stream_of(is_hashed);
-    let Ok(ledger) = Ledger::new(alloc, core, form, vm) else {
-        return Err(TextFault::Memory);
-    };
-    let mut ledger = ledger;
-    let mut denials = Denials::none();
-    let mut line = FIRST_LINE;
-    loop {
-        let part = stream.next(alloc, trace, &mut buffer)?;
-        let Ok(()) = ledger.note(alloc, core, &part.calls, line, &mut denials) else {
-            return Err(TextFault::Memory);
-        };
-        line += part.calls.len() as u32;
-        if part.is_last {
-            break;
-        }
-    }
-    let digest = digest_of(&stream, is_hashed);
-    match stream.finish() {
-        Ok(()) => Ok(Traced {
-            ledger,
-            answered: Answered {
-                calls: (line - FIRST_LINE) as usize,
-                denials,
-            },
-            digest,
-        }),
-        Err(fault) => Err(TextFault::Trace(fault)),
-    }
-}
-
-/// What the first line says beside the sizes of the core.
-fn heading_by(
-    scope: Scope,
+/// The texts that are named.
+fn digests_by(
+    named: Named,
     origin: Origin,
     start: Option<[u8; 32]>,
     trace: Option<[u8; 32]>,
-) -> Heading
-    ensures { result ≡ heading_by scope origin start trace }
+) -> Option<Digests>
+    ensures { result ≡ digests_by named origin start trace }
 {
-    let digests = match trace {
-        Some(trace) => Some(Digests {
+    match named {
+        Named::Nothing => None,
+        Named::Trace | Named::Both => Some(Digests {
             trace,
-            start: match (start, origin) {
-                (None, _) => StartDigest::Default,
-                (Some(digest), Origin::Boot) => StartDigest::Config(digest),
-                (Some(digest), Origin::State) => StartDigest::State(digest),
-            },
+            start: start_by(start, origin),
         }),
-        None => None,
-    };
-    Heading {
-        digests,
-        is_unseen: scope.is_unseen,
     }
 }
 
-/// Makes the calls of the trace that a source has left, as it is read, on a core, and returns what is kept of them for
-/// the form. The core is wiped before it is dropped, whatever the outcome.
-fn told_source<T: Source>(
-    rt: &(impl Threads + Sync),
-    alloc: Global,
-    begun: Begun,
-    trace: &mut T,
-    order: CustodyOrder,
-) -> Result<Told, TextFault>
-    requires lawful { IsLawful begun.core }
-    requires trace { T.failed trace.old ≡ false }
-    ensures config { IfOk result (λ told. told.config ≡ begun.core.config) }
-    ensures ok { IfOk result (λ kept. (told : List Note)
-        × IsCustodyTold begun.core (T.left trace.old) kept.answered.calls kept.answered.denials.total told
-        × Keeps order.form begun.core told kept.ledger) }
-    ensures answered { IfOk result
-        (λ kept. IfSome (T.left trace.old) (λ text. AreAnsweredFrom begun.core text kept.answered)) }
-    ensures heading { IfOk result (λ kept. (digest : Option (List ℕ))
-        × HasDigest (names_trace order.scope.named) (T.left trace.old) digest
-        × (kept.heading ≡ heading_by order.scope order.origin begun.digest digest)) }
-    ensures ended { OnOk result (IsAtEnd (T.left trace.new)) }
-    ensures trace { (fault : TraceFault) → result ≡ Err (TextFault.Trace fault)
-        → IfSome (T.left trace.old) (λ text. IsRefused text fault) × IsAtEnd (T.left trace.new) }
-    ensures read { result ≡ Err TextFault.Read → ReadFailed (T.failed trace.new) (T.left trace.old) (T.left trace.new) }
-    ensures source { T.failed trace.new ≡ true → result ≡ Err TextFault.Read }
-    ensures started { result ≢ Err TextFault.Start }
-    ensures fault { IfErr result IsReplayFault }
+/// The digest of the one trace, if it is asked for.
+fn trace_digest(entries: &[VolumeEntry]) -> Option<[u8; 32]>
+    ensures { result ≡ trace_digest entries.now }
 {
-    let Begun { core, digest } = begun;
-    let mut core = core;
-    let outcome = tell_source(
-        alloc,
-        &mut core,
-        trace,
-        order.form,
-        order.scope.vm,
-        order.scope.named.names_trace(),
-    );
-    core.wipe(rt);
-    let (config, _parts) = core.into_parts();
-    match outcome {
-        Ok(traced) => Ok(Told {
-            config,
-            answered: traced.answered,
-            heading: heading_by(order.scope, order.origin, digest, traced.digest),
-            ledger: traced.ledger,
-        }),
-        Err(fault) => Err(fault),
+    match entries {
+        [entry] => entry.digest,
+        _ => None,
     }
+}
+
+/// The volumes that are named on lines of their own: none if there is only one.
+fn listed(alloc: Global, entries: Vec<VolumeEntry>) -> Vec<VolumeEntry>
+    ensures { result.items ≡ listed entries.items }
+{
+    if entries.len() == 1 {
+        return Vec::new(alloc);
+    }
+    entries
 }
 
 /// The slot that is named, if the core lacks it.
@@ -213,116 +106,169 @@ fn missing(core: &KCore, vm: Option<u32>) -> Option<u32>
     }
 }
 
-/// Reads what the calls begin with to its end and a trace as its calls are made, and returns what is kept of them for
-/// the form.
-fn told_texts<C: Source, T: Source>(
-    rt: &(impl Threads + Sync),
-    alloc: Global,
-    start: &mut C,
-    trace: &mut T,
+/// An account of what happened to each frame and slot, of a trace, or of the volumes of a life that are read one after
+/// another: what is reported of these is what is reported of one trace with the calls of all.
+#[derive(Drop)]
+pub struct CustodyAccount {
+    /// The core, in the state after the calls so far.
+    core: KCore,
+    kept: Kept,
+    /// A volume for each trace that was read.
+    entries: Vec<VolumeEntry>,
+    /// The digest of what the calls begin with, if that is named.
+    start: Option<[u8; 32]>,
     order: CustodyOrder,
-) -> Result<Told, TextFault>
-    requires start { C.failed start.old ≡ false }
-    requires trace { T.failed trace.old ≡ false }
-    ensures ok { IfOk result (λ kept. (m : State)
-        × IfSome (C.left start.old) (λ text. BeginsIn order.origin text m)
-        × (kept.config ≡ m.config) × (told : List Note)
-        × IsCustodyTold m (T.left trace.old) kept.answered.calls kept.answered.denials.total told
-        × Keeps order.form m told kept.ledger) }
-    ensures answered { IfOk result
-        (λ kept. AreAnswered order.origin (C.left start.old) (T.left trace.old) kept.answered) }
-    ensures heading { IfOk result
-        (λ kept. IsHeaded order.scope order.origin (C.left start.old) (T.left trace.old) kept.heading) }
-    ensures sources { TellsSources
-        (seen C.failed C.left start.old start.new ∷ seen T.failed T.left trace.old trace.new ∷ []) result }
-    ensures texts { TellsTexts order.origin (seen C.failed C.left start.old start.new)
-        (seen T.failed T.left trace.old trace.new) (trace.new ≡ trace.old) result }
-    ensures custody { TellsCustody
-        order.scope.vm order.origin (C.left start.old) (trace.new ≡ trace.old) result }
-    ensures write { result ≢ Err TextFault.Write }
-{
-    let is_hashed = order.scope.named.names_start();
-    let mut begun = begin(rt, alloc, start, order.origin, order.lanes, is_hashed)?;
-    if let Some(slot) = missing(&begun.core, order.scope.vm) {
-        begun.core.wipe(rt);
-        return Err(TextFault::NoSlot(slot));
+}
+
+impl CustodyAccount {
+    /// Begins an account: reads what the calls begin with to its end. A slot that the machine lacks is `NoSlot`.
+    pub fn begin<C: Source>(
+        rt: &(impl Threads + Sync),
+        alloc: Global,
+        start: &mut C,
+        order: CustodyOrder,
+    ) -> Result<CustodyAccount, TextFault>
+        requires { C.failed start.old ≡ false }
+        ensures ok { IfOk result (λ account. (m : State)
+            × IfSome (C.left start.old) (λ text. BeginsIn order.origin text m) × HasTold order account m []) }
+        ensures digest { IfOk result
+            (λ account. HasDigest (names_start order.scope.named) (C.left start.old) account.start) }
+        ensures sources { TellsSources (seen C.failed C.left start.old start.new ∷ []) result }
+        ensures texts { (trace : Seen)
+            → TellsTexts order.origin (seen C.failed C.left start.old start.new) trace (Unit {0}) result }
+        ensures custody { TellsCustody order.scope.vm order.origin (C.left start.old) (Unit {0}) result }
+        ensures mark { OnOk result (C.failed start.new ≡ false) }
+        ensures write { result ≢ Err TextFault.Write }
+    {
+        let is_hashed = order.scope.named.names_start();
+        let begun = begin(rt, alloc, start, order.origin, order.lanes, is_hashed)?;
+        let Begun { core, digest } = begun;
+        let mut core = core;
+        if let Some(slot) = missing(&core, order.scope.vm) {
+            core.wipe(rt);
+            return Err(TextFault::NoSlot(slot));
+        }
+        let Ok(kept) = Kept::new(alloc, &core, order.form, order.scope.vm) else {
+            core.wipe(rt);
+            return Err(TextFault::Memory);
+        };
+        Ok(CustodyAccount {
+            core,
+            kept,
+            entries: Vec::new(alloc),
+            start: digest,
+            order,
+        })
     }
-    told_source(rt, alloc, begun, trace, order)
-}
 
-/// Gives what was kept in its form, of one slot's VM alone if one is named; returns how the calls were answered.
-fn give_answered<K: Sink>(
-    alloc: Global,
-    told: Told,
-    vm: Option<u32>,
-    out: &mut K,
-) -> Result<Answered, TextFault>
-    requires out { K.failed out.old ≡ false }
-    requires few { told.answered.calls ≤ call_limit }
-    requires within { All (IsWithin told.config.frames) (events_kept told.ledger) }
-    requires changes { All (IsIn told.config.frames) (changes_in (events_kept told.ledger)) }
-    requires order { AreInOrder (attempts_kept told.ledger) }
-    ensures answered { IfOk result (λ answered. answered ≡ told.answered) }
-    ensures ok { OnOk result
-        (GivesAccount vm told.heading told.config told.answered told.ledger (K.taken out.old) (K.taken out.new)) }
-    ensures sink { TellsSink (K.failed out.new)
-        (BeginsAccount vm told.heading told.config told.answered told.ledger (K.taken out.old) (K.taken out.new))
-        (out.new ≡ out.old) result }
-    ensures fault { IfErr result (λ fault. (fault ≡ TextFault.Memory) ⊎ (fault ≡ TextFault.Write)) }
-{
-    let answered = told.answered;
-    match give_told(alloc, told, vm, out) {
-        Ok(()) => Ok(answered),
-        Err(fault) => Err(fault),
+    /// Reads a trace to its end, which is the next volume, and makes its calls on one thread as they are read. After an
+    /// `Err` the account is of no use, and is ended. A source that fails, or that has more than 1,073,741,824 bytes, is
+    /// `Read`, even if its bytes so far are refused already. Out of memory comes before a fault of the trace that is
+    /// further on. If the volumes before it have more than 67,043,328 calls, it is not read, and there are too many.
+    pub fn read<T: Source>(&mut self, alloc: Global, trace: &mut T) -> Result<(), TextFault>
+        requires trace { T.failed trace.old ≡ false }
+        requires told { (order : CustodyOrder) × (m : State) × (sources : List (Option (List ℕ)))
+            × HasTold order self.old m sources }
+        ensures ok { OnOk result ((order : CustodyOrder) (m : State) (sources : List (Option (List ℕ)))
+            → HasTold order self.old m sources → HasTold order self.new m (sources ++ T.left trace.old ∷ [])) }
+        ensures same { self.new.start ≡ self.old.start }
+        ensures ended { OnOk result (IsAtEnd (T.left trace.new)) }
+        ensures trace { (fault : TraceFault) → result ≡ Err (TextFault.Trace fault)
+            → (IfSome (T.left trace.old) (λ text. IsRefused text fault) × IsAtEnd (T.left trace.new))
+            ⊎ ((fault ≡ TraceFault.TooManyCalls) × IsFull self.old × (trace.new ≡ trace.old)) }
+        ensures read { result ≡ Err TextFault.Read
+            → ReadFailed (T.failed trace.new) (T.left trace.old) (T.left trace.new) }
+        ensures source { T.failed trace.new ≡ true → result ≡ Err TextFault.Read }
+        ensures started { result ≢ Err TextFault.Start }
+        ensures fault { IfErr result IsReplayFault }
+    {
+        let line = self.kept.line;
+        if line > FIRST_LINE + CALLS_BEFORE {
+            return Err(TextFault::Trace(TraceFault::TooManyCalls));
+        }
+        // (more volumes could not be counted, nor would their list have room)
+        if self.entries.len() >= u32::MAX as usize {
+            return Err(TextFault::Memory);
+        }
+        let is_hashed = self.order.scope.named.names_trace();
+        let digest = self.kept.tell(alloc, &mut self.core, trace, is_hashed)?;
+        let entry = VolumeEntry {
+            line,
+            calls: self.kept.line - line,
+            digest,
+        };
+        match self.entries.push(entry) {
+            Ok(()) => Ok(()),
+            Err(_) => Err(TextFault::Memory),
+        }
     }
-}
 
-/// How what happened is reported.
-#[derive(Clone, Copy)]
-pub struct CustodyOrder {
-    /// What the calls begin with.
-    pub origin: Origin,
-    /// What is written.
-    pub form: CustodyForm,
-    /// How many pages are hashed at once.
-    pub lanes: Lanes,
-    /// What is reported.
-    pub scope: Scope,
-}
+    /// Ends an account of which nothing is written: the core is wiped.
+    pub fn end(self, rt: &(impl Threads + Sync)) {
+        let mut core = self.core;
+        core.wipe(rt);
+    }
 
-/// Reads what the calls begin with and a trace, each to its end, makes the trace's calls on one thread as they are
-/// read, and writes what happened to each frame and slot; the result counts the calls, and those that were refused or
-/// rejected. A slot that the machine lacks is `NoSlot`, before the trace is read.
-///
-/// Nothing is written before the whole trace was read and answered. A source that fails, or that has more than
-/// 1,073,741,824 bytes, is `Read`, even if its bytes so far are refused already. Out of memory comes before a fault of
-/// the trace that is further on.
-pub fn custody_text<C: Source, T: Source, K: Sink>(
-    rt: &(impl Threads + Sync),
-    alloc: Global,
-    start: &mut C,
-    trace: &mut T,
-    out: &mut K,
-    order: CustodyOrder,
-) -> Result<Answered, TextFault>
-    requires start { C.failed start.old ≡ false }
-    requires trace { T.failed trace.old ≡ false }
-    requires out { K.failed out.old ≡ false }
-
-    // What is written is made of the notes on the trace, and the result is counted of its replies.
-    ensures answered { IfOk result
-        (λ answered. AreAnswered order.origin (C.left start.old) (T.left trace.old) answered) }
-    ensures ok { OnOk result (Writes (IsCustodyText order.origin order.form order.scope)
-        (C.left start.old) (T.left trace.old) (K.taken out.old) (K.taken out.new)) }
-    ensures sources { TellsSources
-        (seen C.failed C.left start.old start.new ∷ seen T.failed T.left trace.old trace.new ∷ []) result }
-    ensures texts { TellsTexts order.origin (seen C.failed C.left start.old start.new)
-        (seen T.failed T.left trace.old trace.new) (trace.new ≡ trace.old) result }
-    ensures custody { TellsCustody
-        order.scope.vm order.origin (C.left start.old) (trace.new ≡ trace.old) result }
-    ensures sink { TellsSink (K.failed out.new) (Begins (IsCustodyText order.origin order.form order.scope)
-        (C.left start.old) (T.left trace.old) (K.taken out.old) (K.taken out.new)) (out.new ≡ out.old) result }
-{
-    let told = told_texts(rt, alloc, start, trace, order)?;
-    give_answered(alloc, told, order.scope.vm, out)
+    /// Wipes the core, and writes what happened to each frame and slot, of one slot's VM alone if one is named; the
+    /// result counts the calls, and those that were refused or rejected.
+    pub fn give<K: Sink>(
+        self,
+        rt: &(impl Threads + Sync),
+        alloc: Global,
+        out: &mut K,
+    ) -> Result<Answered, TextFault>
+        requires out { K.failed out.old ≡ false }
+        requires told { (order : CustodyOrder) × (m : State) × (sources : List (Option (List ℕ)))
+            × HasTold order self m sources }
+        ensures answered { (order : CustodyOrder) (m : State) (start : Option (List ℕ))
+            (sources : List (Option (List ℕ))) → HasTold order self m sources
+            → IfSome start (λ text. BeginsIn order.origin text m)
+            → IfOk result (AreAllAnswered order.origin start (known sources)) }
+        ensures ok { (order : CustodyOrder) (m : State) (start : Option (List ℕ))
+            (sources : List (Option (List ℕ))) → HasTold order self m sources
+            → IfSome start (λ text. BeginsIn order.origin text m)
+            → HasDigest (names_start order.scope.named) start self.start
+            → OnOk result (Writes (IsCustodyText order.origin order.form order.scope) start (known sources)
+            (K.taken out.old) (K.taken out.new)) }
+        ensures sink { (order : CustodyOrder) (m : State) (start : Option (List ℕ))
+            (sources : List (Option (List ℕ))) → HasTold order self m sources
+            → IfSome start (λ text. BeginsIn order.origin text m)
+            → HasDigest (names_start order.scope.named) start self.start
+            → TellsSink (K.failed out.new) (Begins (IsCustodyText order.origin order.form order.scope) start
+            (known sources) (K.taken out.old) (K.taken out.new)) (out.new ≡ out.old) result }
+        ensures fault { IfErr result (λ fault. (fault ≡ TextFault.Memory) ⊎ (fault ≡ TextFault.Write)) }
+    {
+        let CustodyAccount {
+            core,
+            kept,
+            entries,
+            start,
+            order,
+        } = self;
+        let mut core = core;
+        core.wipe(rt);
+        let (config, _) = core.into_parts();
+        let trace = trace_digest(entries.as_slice());
+        let volumes = listed(alloc, entries);
+        let heading = Heading {
+            digests: digests_by(order.scope.named, order.origin, start, trace),
+            is_unseen: order.scope.is_unseen,
+            volumes: volumes.len() as u32,
+        };
+        let answered = Answered {
+            calls: (kept.line - FIRST_LINE) as usize,
+            denials: kept.denials,
+        };
+        let told = Told {
+            config,
+            answered,
+            heading,
+            volumes,
+            ledger: kept.ledger,
+        };
+        match give_told(alloc, told, order.scope.vm, out) {
+            Ok(()) => Ok(answered),
+            Err(fault) => Err(fault),
+        }
+    }
 }

@@ -7,12 +7,14 @@ ghost use Rattle.kc_remarks.specs.Remarks.{events_in};
 ghost use Rattle.kc_custody.specs.Selected.{selected};
 ghost use Rattle.kc_custody.specs.Chosen.{no_remarks, chosen};
 ghost use Rattle.kc_trace.specs.declared.custody_writer.Heading.{Heading};
+ghost use Rattle.kc_trace.specs.declared.volume_writer.VolumeEntry.{VolumeEntry};
 ghost use Rattle.kc_trace.specs.CustodyText.{custody_text_of};
 ghost use Rattle.kc_trace.specs.RemarkText.{notes_text_of};
 
 /// If neither denied calls nor accesses are asked for, the text is that of the changes alone.
 pub fn plain()
-    ensures { (heading : Heading) (config : Configuration) (calls refused : ℕ) (vm : Option ℕ) (told : List Note)
-        → notes_text_of heading config calls refused (chosen vm no_remarks told)
-        ≡ custody_text_of heading config calls refused (selected vm (changes_in (events_in told))) }
+    ensures { (heading : Heading) (config : Configuration) (volumes : List VolumeEntry)
+        (calls refused : ℕ) (vm : Option ℕ) (told : List Note)
+        → notes_text_of heading config volumes calls refused (chosen vm no_remarks told)
+        ≡ custody_text_of heading config volumes calls refused (selected vm (changes_in (events_in told))) }
 {}

@@ -3,9 +3,11 @@
 //!
 //! - a trace replayed as it is read: `src/replaying.rt`, `specs/Engine.antt`; what it begins in: `src/starting.rt`;
 //!   what is written of it, and how the state left is compared: `src/giving.rt`
-//! - how custody is written as changes, summary, picture or page: `specs/Custody.antt`, `src/custody.rt`,
-//!   `src/account.rt`; what is kept of the calls until then: `specs/Ledgers.antt`, `src/ledger.rt`; how many were
-//!   refused: `specs/Answers.antt`
+//! - how custody is written as changes, summary, picture or page: `specs/Custody.antt`, `src/account.rt`; its lines and
+//!   the page around them: `src/lined.rt`
+//! - how the account of a trace, or of one volume after another, comes to be: `specs/Volumes.antt`, `src/custody.rt`;
+//!   how a trace is read for it: `src/telling.rt`; what is kept of the calls until it is written:
+//!   `specs/Ledgers.antt`, `src/ledger.rt`; how many were refused: `specs/Answers.antt`
 //! - a live run: `specs/Live.antt`, `src/live.rt`; what it reads: `src/reading.rt`, `specs/Reading.antt`; its history
 //!   replayed: `src/history.rt`
 //! - an audit of a dump: `specs/Audit.antt`, `src/auditing.rt`
@@ -18,15 +20,17 @@ mod giving;
 mod history;
 pub mod laws;
 mod ledger;
+mod lined;
 mod live;
 mod order;
 mod reading;
 mod replaying;
 mod starting;
+mod telling;
 
 pub use account::{CustodyForm, Named, Scope};
 pub use auditing::audit_text;
-pub use custody::{CustodyOrder, custody_text};
+pub use custody::{CustodyAccount, CustodyOrder};
 pub use history::replay_history;
 pub use kc_digests::Lanes;
 pub use kc_faults::{Origin, TextFault, tell};

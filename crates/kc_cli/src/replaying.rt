@@ -255,7 +255,8 @@ pub fn replay_to_text<C: Source, T: Source, S: Source, K: Sink, R: Threads + Wai
     requires out { K.failed out.old ≡ false }
 
     // What is written is the text wanted for what the sources held, and a difference is that of the third one.
-    ensures answered { IfOk result (λ made. AreAnswered order.origin (C.left start.old) (T.left trace.old) made.answered) }
+    ensures answered { IfOk result
+        (λ made. AreAnswered order.origin (C.left start.old) (T.left trace.old) made.answered) }
     ensures ok { OnOk result (Writes (IsReplayText order.origin order.form order.is_blank)
         (C.left start.old) (T.left trace.old) (K.taken out.old) (K.taken out.new)) }
     ensures difference { IfOk result (λ made. DiffersFromLeft order.origin order.is_blank

@@ -11,7 +11,7 @@ ghost use Rattle.kc_texts.specs.Ends.{ReadFailed};
 ghost use Rattle.kc_faults.specs.Origins.{BeginsIn};
 ghost use Rattle.kc_faults.specs.Outcomes.{IsConfigFault, IsStartFault};
 ghost use Rattle.kc_cli.specs.Engine.{IsStateFault};
-ghost use Rattle.kc_cli.specs.Headings.{HasDigest};
+ghost use Rattle.kc_cli.specs.Custody.{HasDigest};
 
 use kc_config_text::read_config;
 use kc_core::KCore;

@@ -4,6 +4,7 @@ use Rattle.kc_config_text.specs.Faults.{config_fault_words}
 use Rattle.kc_trace.specs.Faults.{trace_fault_words}
 use Rattle.kc_config_text.specs.declared.config_text.ConfigTextFault.{ConfigTextFault}
 use Rattle.kc_config_text.specs.declared.config_text.ConfigTextFault.TheVariants as configs
+use Rattle.kc_trace.specs.declared.fault.TraceFault.{TraceFault}
 use Rattle.kc_trace.specs.declared.fault.TraceFault.TheVariants as traces
 use Rattle.kc_dump_text.specs.Faults.{dump_fault_words, dump_fault_end}
 use Rattle.kc_dump_text.specs.declared.fault.DumpFault.{DumpFault}
@@ -107,3 +108,8 @@ fault_finding fault = []
 -- the whole line, with the line feed
 abbrev pub fault_line : TextFault → List ℕ
 fault_line fault = codes "kcore: " ++ fault_words fault ++ numeral_of (fault_number fault) ++ fault_finding fault ++ fault_end fault ++ codes "\n"
+
+-- the whole line of a fault of a trace that is one of several volumes, by its number
+abbrev pub volume_fault_line : ℕ → TraceFault → List ℕ
+volume_fault_line number fault =
+    codes "kcore: volume " ++ decimal number ++ codes ": " ++ fault_words (texts.Trace fault) ++ numeral_of (fault_number (texts.Trace fault)) ++ codes "\n"

@@ -12,4 +12,4 @@ mod telling;
 
 pub use fault::TextFault;
 pub use origin::Origin;
-pub use telling::tell;
+pub use telling::{tell, tell_volume};

@@ -3,7 +3,8 @@ ghost use Rattle.std.specs.Prelude.{◌≡◌, ◌≤◌, ◌++◌, false};
 ghost use Rattle.arrayvec.specs.ArrayString.{array_string_len};
 ghost use Rattle.std.specs.Io.KnownBytes.{Appends};
 ghost use Rattle.kc_texts.specs.Written.{AppendsBeginning};
-ghost use Rattle.kc_faults.specs.Faults.{status_of, fault_number, numeral_of, fault_finding, fault_line};
+ghost use Rattle.kc_faults.specs.declared.fault.TextFault.TheVariants as texts;
+ghost use Rattle.kc_faults.specs.Faults.{status_of, fault_number, numeral_of, fault_finding, fault_line, volume_fault_line};
 
 use crate::TextFault;
 use arrayvec::ArrayString;
@@ -11,6 +12,7 @@ use itoa::Buffer;
 use kc_audit::finding_text;
 use kc_state_text::StateFault;
 use kc_texts::{Sink, write_whole};
+use kc_trace::TraceFault;
 
 /// What follows the text of a fault: a number, what an audit finds, or nothing.
 fn detail(fault: &TextFault) -> ArrayString<160>
@@ -40,6 +42,15 @@ fn line(fault: &TextFault) -> ArrayString<256>
     line
 }
 
+/// Writes a line, of which a sink that fails may have taken a beginning.
+fn say<K: Sink>(line: ArrayString<256>, sink: &mut K)
+    requires { K.failed sink.old ≡ false }
+    ensures line { K.failed sink.new ≡ false → Appends (K.taken sink.old) (K.taken sink.new) line.bytes }
+    ensures begun { AppendsBeginning (K.taken sink.old) (K.taken sink.new) line.bytes }
+{
+    let _ = write_whole(sink, line.as_bytes());
+}
+
 /// Writes the fault's line, and returns the exit status, even if the sink fails. It takes no memory.
 pub fn tell<K: Sink>(fault: &TextFault, sink: &mut K) -> u8
     requires { K.failed sink.old ≡ false }
@@ -48,6 +59,35 @@ pub fn tell<K: Sink>(fault: &TextFault, sink: &mut K) -> u8
     // A sink that fails may have taken a beginning of the line.
     ensures begun { AppendsBeginning (K.taken sink.old) (K.taken sink.new) (fault_line fault.now) }
 {
-    let _ = write_whole(sink, line(fault).as_bytes());
+    say(line(fault), sink);
     fault.status()
+}
+
+/// The line of a fault of a trace that is one of several volumes, with its line feed.
+fn volume_line(volume: usize, fault: TraceFault) -> ArrayString<256>
+    ensures { result.bytes ≡ volume_fault_line volume fault }
+{
+    let fault = TextFault::Trace(fault);
+    let mut line = ArrayString::new();
+    line.push_str("kcore: volume ");
+    line.push_str(Buffer::new().format(volume));
+    line.push_str(": ");
+    line.push_str(fault.words());
+    line.push_str(detail(&fault).as_str());
+    line.push_str("\n");
+    line
+}
+
+/// Writes the line of a fault of a trace that is one of several volumes, by its number from 1, and returns the exit
+/// status, even if the sink fails. It takes no memory.
+pub fn tell_volume<K: Sink>(volume: usize, fault: TraceFault, sink: &mut K) -> u8
+    requires { K.failed sink.old ≡ false }
+    ensures status { result ≡ status_of (texts.Trace fault) }
+    ensures line { K.failed sink.new ≡ false
+        → Appends (K.taken sink.old) (K.taken sink.new) (volume_fault_line volume fault) }
+    // A sink that fails may have taken a beginning of the line.
+    ensures begun { AppendsBeginning (K.taken sink.old) (K.taken sink.new) (volume_fault_line volume fault) }
+{
+    say(volume_line(volume, fault), sink);
+    TextFault::Trace(fault).status()
 }

@@ -15,19 +15,27 @@ function choose(number) {
 
 function textOfAnswer(number, frame, line) {
   const said = answer(number, frame, line);
-  if (said.first === null) return `The machine has frames 0 to ${head.frames - 1}, and the trace lines 1 to ${lastLine}.`;
-  const when = `After line ${line}, frame ${frame}`;
+  if (said.first === null) return `The machine has frames 0 to ${head.frames - 1}, and the trace lines 1 to ${placed(lastLine)}.`;
+  const when = `After line ${placed(line)}, frame ${frame}`;
   if (said.owner === null && said.isIts === false) return `${when} was not vm ${number}'s.`;
-  if (said.owner === null) return `The lines do not say whose frame ${frame} was after line ${line}.`;
-  const owner = vmOf(said.owner), since = said.first === 1 ? "from the beginning" : `since line ${said.first}`;
+  if (said.owner === null) return `The lines do not say whose frame ${frame} was after line ${placed(line)}.`;
+  const owner = vmOf(said.owner), since = said.first === 1 ? "from the beginning" : `since line ${placed(said.first)}`;
   const whose = owner === null ? said.owner === "free" ? "free" : `the ${said.owner}'s` : `vm ${owner}'s, at guest frame ${said.gfn}, ${sharing(said)}`;
-  return `${when} was ${whose}: ${since}, up to line ${said.last}.`;
+  return `${when} was ${whose}: ${since}, up to line ${placed(said.last)}.`;
+}
+
+// The line that the box names: a line of all, or a volume and a line of it, as 3:17; 0 if there is no such line.
+function lineOf(words) {
+  const [first, second] = words.split(":").map(Number);
+  if (second === undefined) return first;
+  const volume = volumes[first - 1];
+  return volume && second >= 1 && second <= volume.calls + 1 ? volume.line + second - 2 : 0;
 }
 
 function ask() {
   const frame = byId("frame"), line = byId("line");
   if (frame.value === "" || line.value === "") return;
-  byId("answer").textContent = textOfAnswer(shown.number, Number(frame.value), Number(line.value));
+  byId("answer").textContent = textOfAnswer(shown.number, Number(frame.value), lineOf(line.value));
 }
 
 // The browser runs a script of this digest alone.
@@ -39,7 +47,8 @@ function scriptDigest() {
 
 function fillDigests() {
   const config = head.config === "default" ? "the default one" : head.config ?? (head.state ? "none: the calls begin in a state's text" : null);
-  const rows = [["kcore", head.kcore], ["SHA-256 of the trace", head.trace], ["of the configuration", config], ["of the state's text", head.state ?? (head.state === null ? "none: the calls begin at boot" : null)], ["of this page's script", scriptDigest()]];
+  const read = volumes.some(it => it.trace) ? volumes.map(it => [`SHA-256 of volume ${it.volume}`, it.trace]) : [[`SHA-256 of the ${volumes.length ? "volumes" : "trace"}`, head.trace]];
+  const rows = [["kcore", head.kcore], ...read, ["of the configuration", config], ["of the state's text", head.state ?? (head.state === null ? "none: the calls begin at boot" : null)], ["of this page's script", scriptDigest()]];
   for (const [name, text] of rows) {
     const term = document.createElement("dt"), said = document.createElement("dd"), code = document.createElement("code");
     term.textContent = name;
@@ -94,7 +103,7 @@ function listen() {
 function start() {
   read(byId("lines").textContent);
   const count = end.refused ?? refusals.length;
-  byId("about").textContent = `${numbered(head.frames, "frame", "frames")} and ${numbered(head.slots, "slot", "slots")}; ${numbered(end.calls, "call", "calls")}, on lines 2 to ${lastLine} of the trace; ${numbered(count, "call was", "calls were")} refused.`;
+  byId("about").textContent = `${numbered(head.frames, "frame", "frames")} and ${numbered(head.slots, "slot", "slots")}; ${numbered(end.calls, "call", "calls")}, on lines 2 to ${placed(lastLine)} of ${volumes.length ? numbered(volumes.length, "volume", "volumes") : "the trace"}; ${numbered(count, "call was", "calls were")} refused.`;
   byId("main").hidden = false;
   fillDigests();
   for (const number of [...vms.keys()].sort((a, b) => a - b)) byId("vm").add(new Option(`vm ${number}`, number));
@@ -102,6 +111,7 @@ function start() {
     byId("vm").add(new Option("none", 0));
     vm(0);
   }
+  if (volumes.length) Object.assign(byId("line"), { type: "text", pattern: "[0-9]+(:[0-9]+)?", placeholder: "or as 3:17", title: "A line of all volumes, or a volume and a line of it, as 3:17" });
   listen();
   from = 1;
   until = lastLine + 1;

@@ -23,14 +23,14 @@ const hatch = (() => {
 })();
 
 const lookOf = it => it.share === 0 ? "private" : it.present ? "reached" : "shared";
-const lines = (first, last) => first === last ? `line ${first}` : `lines ${first} to ${last}`;
+const lines = (first, last) => first === last ? `line ${placed(first)}` : `lines ${placed(first)} to ${placed(last)}`;
 const sharing = it => it.share === 0 ? "private" : `${numbered(it.share, "grant", "grants")}${it.present ? ", reached by the host" : ", not mapped by the host"}`;
 const outcome = told => told.refused !== undefined ? `refused: ${told.refused}` : `rejected: image ${told.rejected} is not approved`;
 const reached = told => `${told.call === "hread" ? "the host read" : "the host wrote"} ${numbered(told.len, "byte", "bytes")} from byte ${told.off} on`;
 
 function textOfRefusal(told) {
   const at = told.frame === null ? "" : `, frame ${told.frame} of ${named(told.owner)}${told.gfn === null ? "" : `, guest frame ${told.gfn}`}`;
-  return `line ${told.line}: ${told.call} ${outcome(told)}${at}`;
+  return `line ${placed(told.line)}: ${told.call} ${outcome(told)}${at}`;
 }
 
 const across = line => GUTTER + (line - from) / (until - from) * (width() - GUTTER - 8);
@@ -96,9 +96,9 @@ function drawBars() {
 }
 
 function textOfLife(it) {
-  const began = it.registered === null ? "began before the first line" : `registered on line ${it.registered}`;
-  const measured = it.active !== null ? `, measured on line ${it.active}` : it.dead !== null ? `, REJECTED on line ${it.dead}` : ", not measured";
-  return began + measured + (it.cleared === null ? "" : `, cleared on line ${it.cleared}`);
+  const began = it.registered === null ? "began before the first line" : `registered on line ${placed(it.registered)}`;
+  const measured = it.active !== null ? `, measured on line ${placed(it.active)}` : it.dead !== null ? `, REJECTED on line ${placed(it.dead)}` : ", not measured";
+  return began + measured + (it.cleared === null ? "" : `, cleared on line ${placed(it.cleared)}`);
 }
 
 // Lives are boxes above the rows, and a boot that was rejected is a line through all of them, with words above.
@@ -115,13 +115,13 @@ function drawLives(high) {
     pen.strokeRect(x + .5, 17.5, wide - 1, 15);
     pen.fillStyle = COLOURS.ink;
     if (it.active !== null && it.active >= from && it.active < until) pen.fillRect(across(it.active) - .5, 28, 2, 5);
-    const said = it.active !== null ? `measured on line ${it.active}` : isDead ? "" : "not measured";
+    const said = it.active !== null ? `measured on line ${placed(it.active)}` : isDead ? "" : "not measured";
     if (wide > pen.measureText(said).width + 10) pen.fillText(said, x + 5, 29);
     if (!isDead || it.dead < from || it.dead >= until) continue;
     const at = across(it.dead + .5);
     pen.fillStyle = COLOURS.refusal;
     pen.fillRect(at - 1.5, 4, 3, high - AXIS - 4);
-    const words = `rejected on line ${it.dead}`, length = pen.measureText(words).width;
+    const words = `rejected on line ${placed(it.dead)}`, length = pen.measureText(words).width;
     const place = at + 5 + length < width() ? at + 5 : at - 5 - length;
     if (place < free) continue;
     pen.fillStyle = "#a00020";
@@ -142,7 +142,7 @@ function drawMarks() {
     pen.fillRect(x - 2.5, y - tall / 2 - 1, 5, tall + 2);
     pen.fillStyle = isRead ? "#fff" : "#000";
     pen.fillRect(x - 1.5, y - tall / 2, 3, tall);
-    marks.push({ x, y, text: () => `line ${told.line}: ${reached(told)} of frame ${told.frame}, guest frame ${told.gfn}` });
+    marks.push({ x, y, text: () => `line ${placed(told.line)}: ${reached(told)} of frame ${told.frame}, guest frame ${told.gfn}` });
   }
   pen.lineJoin = "round";
   for (const told of shown.refusals) {

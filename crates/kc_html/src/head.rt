@@ -5,7 +5,7 @@ pub const HEAD: &str = r##"<!doctype html>
 <html lang="en">
 <head>
 <meta charset="utf-8">
-<meta http-equiv="Content-Security-Policy" content="default-src 'none'; script-src 'sha256-paxOJ+840tMzL3i03/+muykv2tm4v3zI6kL0n+WKgvI='; style-src 'sha256-YmFyrI1sWJL9apNXzCAsIFViM6z1kIbPg/7OvNDnYFw='; base-uri 'none'; form-action 'none'">
+<meta http-equiv="Content-Security-Policy" content="default-src 'none'; script-src 'sha256-o1u+9eJobFxraVj9IO4YXrF1z4ryVQm6YpQD/l6rzko='; style-src 'sha256-tu11GQs5W92bGcK1S2WniB5DRW+8fymuqX745x+owzI='; base-uri 'none'; form-action 'none'">
 <meta name="viewport" content="width=device-width, initial-scale=1">
 <title>Custody of a trace</title>
 <style>
@@ -19,7 +19,7 @@ select, input, button { font: inherit; color: inherit; background: #fff; border:
 button { background: #f0f0f0; cursor: pointer; }
 button:hover { background: #dcdcdc; }
 button.line { border: 0; background: none; padding: 0; color: #0b4f8a; text-decoration: underline; }
-input[type=number] { width: 6.5rem; }
+input:not([type=checkbox]) { width: 6.5rem; }
 :focus-visible { outline: 3px solid #0b4f8a; outline-offset: 2px; }
 .controls { display: flex; flex-wrap: wrap; gap: .5rem 1rem; align-items: center; margin: .8rem 0; }
 .buttons { display: flex; flex-wrap: wrap; gap: .3rem; }

@@ -12,7 +12,7 @@ const named = owner => owner.startsWith("vm") ? `vm ${owner.slice(2)}` : owner;
 
 // What the lines say.
 
-let head, end, lastLine;
+let head, end, lastLine, volumes;
 const changes = new Map(), vms = new Map(), refusals = [];
 // The VMs that every line concerns, of which one may have been chosen by `--vm`; null before the first line.
 let common = null;
@@ -31,6 +31,13 @@ function life(of, registered) {
 }
 const lastLife = of => of.lives.length ? of.lives[of.lives.length - 1] : life(of, null);
 
+// A line as it is shown: if there are volumes, with the volume that it is in and its line there. (Line 1 is the header
+// of the first.)
+function placed(line) {
+  const volume = volumes.findLast(it => it.line <= line) ?? volumes[0];
+  return volume ? `${line} (volume ${volume.volume}, line ${line - volume.line + 2})` : String(line);
+}
+
 function concern(one, other) {
   if (common === null) common = new Set([one, other].filter(it => it !== null));
   else for (const it of common) if (it !== one && it !== other) common.delete(it);
@@ -40,11 +47,12 @@ function read(text) {
   const all = JSON.parse(`[${text.trim().replaceAll("\n", ",")}]`);
   head = all[0];
   end = all[all.length - 1];
-  if (!(head.custody >= 1) || end.calls === undefined || end.lines !== all.length - 2) throw new Error("lines are lacking");
+  volumes = all.slice(1, 1 + (head.volumes ?? 0));
+  const rest = all.slice(1 + volumes.length, -1), areVolumes = volumes.every((it, at) => it.volume === at + 1 && it.calls >= 0);
+  if (!(head.custody >= 1) || !areVolumes || end.calls === undefined || end.lines !== rest.length) throw new Error("lines are lacking");
   lastLine = end.calls + 1;
   const open = new Map();
-  for (let i = 1; i < all.length - 1; i++) {
-    const told = all[i];
+  for (const told of rest) {
     if (told.to !== undefined) readChange(told, open);
     else if (told.phase !== undefined) readPhase(told);
     else if (told.off !== undefined) readAccess(told, open);

@@ -14,7 +14,7 @@ function goTo(line) {
   const it = document.createElement("button");
   it.type = "button";
   it.className = "line";
-  it.textContent = line;
+  it.textContent = placed(line);
   it.onclick = () => {
     const length = Math.min(until - from, 400);
     look(line - length / 2, line + length / 2);
@@ -60,7 +60,7 @@ function fillLives() {
   const columns = [["registered", "number"], ["measured", "number"], ["rejected", "number"], ["cleared", "number"], ["frames", "number"], ["reads", "number"], ["writes", "number"], ["refused", "number"], ["boot images: first guest frame, bytes, SHA-256"]];
   const add = (row, it) => {
     if (it.dead !== null) row.className = "rejected";
-    for (const line of [it.registered ?? "before line 2", it.active ?? "", it.dead ?? "", it.cleared ?? ""]) cell(row, typeof line === "number" ? goTo(line) : line, "number");
+    for (const line of [it.registered ?? `before line ${placed(2)}`, it.active ?? "", it.dead ?? "", it.cleared ?? ""]) cell(row, typeof line === "number" ? goTo(line) : line, "number");
     const unseen = head.accesses === "unseen" ? "not recorded" : null;
     for (const count of [it.frames.size, unseen ?? it.reads, unseen ?? it.writes, it.aimed]) cell(row, count, "number");
     const images = document.createElement("code");

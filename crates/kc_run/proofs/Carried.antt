@@ -20,18 +20,16 @@ use Rattle.kc_faults.proofs.Told.{sources_after, texts_after, replay_after, sour
 use Rattle.kc_cli.proofs.Sources.{sink_ok}
 use Rattle.kc_redact_text.specs.Redacts.{Redacts, BeginsRedaction, IsRedactFault, IsHostRedacted, IsHostRedactFault}
 use Rattle.kc_cli.specs.declared.order.ReplayForm.{ReplayForm}
-use Rattle.kc_cli.specs.declared.account.CustodyForm.{CustodyForm}
-use Rattle.kc_cli.specs.declared.account.Scope.{Scope}
 use Rattle.kc_cli.specs.declared.replaying.Compared.{Compared}
 use Rattle.kc_cli.specs.Engine.{IsReplayText, DiffersFromLeft}
-use Rattle.kc_cli.specs.Custody.{IsCustodyText, TellsCustody}
 use Rattle.kc_cli.specs.Answers.{AreAnswered}
 use Rattle.kc_cli.specs.Live.{IsLiveText, CouldRun, HasBadActor}
 use Rattle.kc_run.specs.declared.ending.Ending.TheVariants as endings
 use Rattle.kc_run.specs.Endings.{done_as, answered_as, compared_by, compared_as, judged_as}
-use Rattle.kc_run.specs.Run.{Ends, IsAnswered, IsCompared, Replays, ReportsCustody, RunsLive, AuditsDump, RedactsTrace, RedactsHost}
+use Rattle.kc_run.specs.Ends.{Ends}
+use Rattle.kc_run.specs.Run.{IsAnswered, IsCompared, Replays, RunsLive, AuditsDump, RedactsTrace, RedactsHost}
 
-sink_err : {A B : Type 0} (failed : Bool) (begun untouched : Type 0) (f : TextFault) → TellsSink {A = A} failed begun untouched (Err f) → TellsSink {A = B} failed begun untouched (Err f)
+pub sink_err : {A B : Type 0} (failed : Bool) (begun untouched : Type 0) (f : TextFault) → TellsSink {A = A} failed begun untouched (Err f) → TellsSink {A = B} failed begun untouched (Err f)
 sink_err {A} {B} failed begun untouched f h = record {
   write = λ e. h.write (let same : f ≡ texts.Write = cc in cc);
   failed_is = λ bad. let e = h.failed_is bad in let same : f ≡ texts.Write = cc in cc;
@@ -41,19 +39,6 @@ sink_err {A} {B} failed begun untouched f h = record {
     kept : untouched ⊎ (◌≡◌ {A = Result A TextFault} (Err f) (Err texts.Write)) → untouched ⊎ (◌≡◌ {A = Result B TextFault} (Err f) (Err texts.Write))
     kept (inl is) = inl is
     kept (inr e) = let same : f ≡ texts.Write = cc in inr cc
-
-custody_ok : {A B : Type 0} (slot : Option ℕ) (origin : Origin) (start : Option (List ℕ)) (unread : Type 0) (x : A) (y : B) → TellsCustody slot origin start unread (Ok x) → TellsCustody slot origin start unread (Ok y)
-custody_ok slot origin start unread x y h = record { named = h.named; lacking = λ n e. absurd cc; workers = λ e. cc; started = λ e. cc; settled = λ e. cc; actor = λ p e. cc }
-
-custody_err : {A B : Type 0} (slot : Option ℕ) (origin : Origin) (start : Option (List ℕ)) (unread : Type 0) (f : TextFault) → TellsCustody {A = A} slot origin start unread (Err f) → TellsCustody {A = B} slot origin start unread (Err f)
-custody_err slot origin start unread f h = record {
-  named = tt;
-  lacking = λ n e. h.lacking n (let same : f ≡ texts.NoSlot n = cc in cc);
-  workers = λ e. h.workers (let same : f ≡ texts.Workers = cc in cc);
-  started = λ e. h.started (let same : f ≡ texts.Start = cc in cc);
-  settled = λ e. h.settled (let same : f ≡ texts.Unsettled = cc in cc);
-  actor = λ p e. h.actor p (let same : f ≡ texts.BadActor p = cc in cc);
-}
 
 pub replays : (origin : Origin) (form : ReplayForm) (blank : Bool) (workers : ℕ) (start : Seen) (ends : Ends) (r : Result Answered TextFault) → ends.refused ≡ None
     → IfOk r (AreAnswered origin start.had ends.input.had)
@@ -114,29 +99,6 @@ compares origin form blank workers start to ends (Err f) opened answered written
   sources = sources_err _ f sources;
   told = texts_err _ _ _ _ f told;
   replay = replay_err _ _ _ f replay;
-  sink = sink_err _ _ _ f sink;
-}
-
-pub reports : (origin : Origin) (form : CustodyForm) (scope : Scope) (start : Seen) (ends : Ends) (r : Result Answered TextFault) → ends.refused ≡ None
-    → IfOk r (AreAnswered origin start.had ends.input.had)
-    → OnOk r (Writes (IsCustodyText origin form scope) start.had ends.input.had ends.out.had ends.out.has) → TellsSources (start ∷ ends.input ∷ []) r → TellsTexts origin start ends.input ends.unread r → TellsCustody scope.vm origin start.had ends.unread r
-    → TellsSink ends.out.failed (Begins (IsCustodyText origin form scope) start.had ends.input.had ends.out.had ends.out.has) ends.untouched r → ReportsCustody origin form scope start ends (answered_as r)
-reports origin form scope start ends (Ok x) opened answered written sources told custody sink = record {
-  opened = opened;
-  written = written;
-  answered = answered;
-  sources = sources_after _ x (Ok (endings.Answered x)) sources tt;
-  told = texts_after _ _ _ _ x (Ok (endings.Answered x)) told tt;
-  custody = custody_ok _ _ _ _ x (endings.Answered x) custody;
-  sink = sink_ok _ _ _ x (endings.Answered x) sink;
-}
-reports origin form scope start ends (Err f) opened answered written sources told custody sink = record {
-  opened = opened;
-  written = tt;
-  answered = tt;
-  sources = sources_err _ f sources;
-  told = texts_err _ _ _ _ f told;
-  custody = custody_err _ _ _ _ f custody;
   sink = sink_err _ _ _ f sink;
 }
 

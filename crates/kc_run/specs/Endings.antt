@@ -5,7 +5,8 @@ use Rattle.kc_remarks.specs.declared.denials.Answered.{Answered}
 use Rattle.kc_remarks.specs.Denials.{is_mostly_outside}
 use Rattle.kc_texts.specs.Written.{AppendsBeginning}
 use Rattle.kc_faults.specs.declared.fault.TextFault.{TextFault}
-use Rattle.kc_faults.specs.Faults.{status_of, fault_line}
+use Rattle.kc_faults.specs.declared.fault.TextFault.TheVariants as texts
+use Rattle.kc_faults.specs.Faults.{status_of, fault_line, volume_fault_line}
 use Rattle.kc_cli.specs.declared.replaying.Compared.{Compared}
 use Rattle.kc_run.specs.declared.ending.Ending.{Ending}
 use Rattle.kc_run.specs.declared.ending.Ending.TheVariants as endings
@@ -41,15 +42,17 @@ abbrev pub answered_as : Result Answered TextFault → Ended
 answered_as (Ok answered) = Ok (endings.Answered answered)
 answered_as (Err fault) = Err fault
 
--- 0 if all is as it was asked, 1 if the state is another one or something is found in the dump, else that of the fault
+-- 0 if all is as it was asked, 1 if the state is another one or something is found in the dump, else that of the fault, or of a volume's
 abbrev pub status_after : Ended → ℕ
 status_after (Ok endings.Done) = 0
 status_after (Ok (endings.Answered answered)) = 0
 status_after (Ok (endings.Another answered line)) = 1
 status_after (Ok endings.Unsound) = 1
+status_after (Ok (endings.Refused volume fault)) = status_of (texts.Trace fault)
 status_after (Err fault) = status_of fault
 
 abbrev pub fault_in : Ended → Option TextFault
+fault_in (Ok (endings.Refused volume fault)) = Some (texts.Trace fault)
 fault_in (Ok ending) = None
 fault_in (Err fault) = Some fault
 
@@ -63,6 +66,11 @@ answered_in _ = None
 abbrev pub difference_in : Ended → Option ℕ
 difference_in (Ok (endings.Another answered line)) = Some line
 difference_in _ = None
+
+-- the number of the volume that is refused, if there are several and one is
+abbrev pub volume_in : Ended → Option ℕ
+volume_in (Ok (endings.Refused volume fault)) = Some volume
+volume_in _ = None
 
 -- a sink as a run found and left it: whether a write to it failed, and the bytes that it had taken before and after, if it reports them
 pub record Took : Type 0 where
@@ -93,10 +101,11 @@ abbrev pub IsWarned : Bool → Took → Type 0 → Type 0
 IsWarned true err untouched = Takes err outside_line
 IsWarned false err untouched = untouched
 
--- the error sink takes the line of a fault, of another state or of this warning, and nothing else
+-- the error sink takes the line of a fault, of a volume that is refused, of another state or of this warning, and nothing else
 abbrev pub IsReported : Ended → Took → Type 0 → Type 0
 IsReported (Ok endings.Done) err untouched = untouched
 IsReported (Ok (endings.Answered answered)) err untouched = IsWarned (is_mostly_outside answered) err untouched
 IsReported (Ok (endings.Another answered line)) err untouched = Takes err (another_text (is_mostly_outside answered))
 IsReported (Ok endings.Unsound) err untouched = untouched
+IsReported (Ok (endings.Refused volume fault)) err untouched = Takes err (volume_fault_line volume fault)
 IsReported (Err fault) err untouched = Takes err (fault_line fault)

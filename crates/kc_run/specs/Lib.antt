@@ -1,3 +1,5 @@
+pub mod Custody
 pub mod Opening
 pub mod Endings
+pub mod Ends
 pub mod Run

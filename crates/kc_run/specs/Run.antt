@@ -18,10 +18,7 @@ use Rattle.kc_faults.specs.Outcomes.{TellsSources, TellsTexts, TellsReplay, Tell
 use Rattle.kc_texts.specs.Written.{Writes, Begins}
 use Rattle.kc_redact_text.specs.Redacts.{Redacts, BeginsRedaction, IsRedactFault, IsHostRedacted, IsHostRedactFault}
 use Rattle.kc_cli.specs.declared.order.ReplayForm.{ReplayForm}
-use Rattle.kc_cli.specs.declared.account.CustodyForm.{CustodyForm}
-use Rattle.kc_cli.specs.declared.account.Scope.{Scope}
 use Rattle.kc_cli.specs.Engine.{IsReplayText, DiffersFromLeft}
-use Rattle.kc_cli.specs.Custody.{IsCustodyText, TellsCustody}
 use Rattle.kc_cli.specs.Answers.{AreAnswered}
 use Rattle.kc_cli.specs.Live.{IsLiveText, CouldRun, HasBadActor}
 use Rattle.kc_args.specs.declared.job.Start.{Start}
@@ -32,19 +29,9 @@ use Rattle.kc_args.specs.Jobs.{Path, path_of, origin_at}
 use Rattle.kc_run.specs.declared.ending.Ending.{Ending}
 use Rattle.kc_run.specs.declared.ending.Ending.TheVariants as endings
 use Rattle.kc_run.specs.Opening.{Held, text_at, IsOpenFault}
-use Rattle.kc_run.specs.Endings.{Ended, Took, status_after, fault_in, answered_in, difference_in, IsReported}
-
--- what a run finds and leaves: what the files hold, the path that could not be opened, if one could not; standard input, and that nothing was read of it; the sink, and that it is as it was
-pub record Ends : Type 1 where
-  pub held : Held
-  pub refused : Option (List ℕ)
-  pub input : Seen
-  pub unread : Type 0
-  pub out : Took
-  pub untouched : Type 0
-
-abbrev pub ends_of : Held → Option (List ℕ) → Seen → Type 0 → Took → Type 0 → Ends
-ends_of held refused input unread out untouched = record { held = held; refused = refused; input = input; unread = unread; out = out; untouched = untouched }
+use Rattle.kc_run.specs.Ends.{Ends, ends_of}
+use Rattle.kc_run.specs.Custody.{ReportsCustody}
+use Rattle.kc_run.specs.Endings.{Ended, Took, status_after, fault_in, answered_in, difference_in, volume_in, IsReported}
 
 -- a file is not open, and so nothing was read of standard input, and nothing written
 pub record IsUnopened (path : Option Path) (ends : Ends) (ended : Ended) : Type 0 where
@@ -87,16 +74,6 @@ abbrev pub ReplaysTo : Origin → ReplayForm → Bool → ℕ → Option Path �
 ReplaysTo origin form blank workers None start ends ended = Replays origin form blank workers start None ends ended
 ReplaysTo origin form blank workers (Some path) start ends ended =
     IsUnopened (Some path) ends ended ⊎ ((to : Seen) × (to.had ≡ ends.held path.now) × Replays origin form blank workers start (Some to) ends ended)
-
--- a report of custody over open sources ended so
-pub record ReportsCustody (origin : Origin) (form : CustodyForm) (scope : Scope) (start : Seen) (ends : Ends) (ended : Ended) : Type 0 where
-  pub opened : ends.refused ≡ None
-  pub written : OnOk ended (Writes (IsCustodyText origin form scope) start.had ends.input.had ends.out.had ends.out.has)
-  pub answered : IfOk ended (IsAnswered origin start.had ends.input.had)
-  pub sources : TellsSources (start ∷ ends.input ∷ []) ended
-  pub told : TellsTexts origin start ends.input ends.unread ended
-  pub custody : TellsCustody scope.vm origin start.had ends.unread ended
-  pub sink : TellsSink ends.out.failed (Begins (IsCustodyText origin form scope) start.had ends.input.had ends.out.had ends.out.has) ends.untouched ended
 
 -- a live run over open sources ended so
 pub record RunsLive (workers : ℕ) (config : Seen) (ends : Ends) (ended : Ended) : Type 0 where
@@ -151,34 +128,35 @@ pub record RedactsHost (origin : Origin) (start : Seen) (ends : Ends) (ended : E
 abbrev pub BeginsAt : Start → (Seen → Ends → Ended → Type 0) → Ends → Ended → Type 0
 BeginsAt start Runs ends ended = IsUnopened (path_of start) ends ended ⊎ ((source : Seen) × (source.had ≡ text_at ends.held (path_of start)) × Runs source ends ended)
 
--- how an action ended
-abbrev pub IsEnding : Action → Ends → Ended → Type 0
-IsEnding (actions.Replay start to form blank workers) ends ended = BeginsAt start (ReplaysTo (origin_at start) form blank workers to) ends ended
-IsEnding (actions.Live config workers) ends ended = BeginsAt (starts.Boot config) (RunsLive workers) ends ended
-IsEnding (actions.Custody start form scope) ends ended = BeginsAt start (ReportsCustody (origin_at start) form scope) ends ended
-IsEnding (actions.Audit all) ends ended = AuditsDump all ends ended
-IsEnding actions.Redact ends ended = RedactsTrace ends ended
-IsEnding (actions.RedactHost start) ends ended = BeginsAt start (RedactsHost (origin_at start)) ends ended
+-- how an action ended; only custody reads the files of volumes after the input
+abbrev pub IsEnding : Action → List Path → Ends → Ended → Type 0
+IsEnding (actions.Replay start to form blank workers) after ends ended = BeginsAt start (ReplaysTo (origin_at start) form blank workers to) ends ended
+IsEnding (actions.Live config workers) after ends ended = BeginsAt (starts.Boot config) (RunsLive workers) ends ended
+IsEnding (actions.Custody start form scope) after ends ended = BeginsAt start (ReportsCustody (origin_at start) form scope after) ends ended
+IsEnding (actions.Audit all) after ends ended = AuditsDump all ends ended
+IsEnding actions.Redact after ends ended = RedactsTrace ends ended
+IsEnding (actions.RedactHost start) after ends ended = BeginsAt start (RedactsHost (origin_at start)) ends ended
 
 -- how an action ended over the file that is named, by all the bytes that it held; `left` and `failed` say of a file what is left of it, and whether a read of it failed. Nothing was read of standard input
-pub record ReadsFile {S : Type 0} (left : S → Option (List ℕ)) (failed : S → Bool) (path : Path) (action : Action) (ends : Ends) (ended : Ended) : Type 0 where
+pub record ReadsFile {S : Type 0} (left : S → Option (List ℕ)) (failed : S → Bool) (path : Path) (action : Action) (after : List Path) (ends : Ends) (ended : Ended) : Type 0 where
   pub old : S
   pub new : S
   pub bytes : left old ≡ ends.held path.now
   pub unread : ends.unread
-  pub ending : IsEnding action (ends_of ends.held ends.refused (seen failed left old new) (new ≡ old) ends.out ends.untouched) ended
+  pub ending : IsEnding action after (ends_of ends.held ends.refused (seen failed left old new) (new ≡ old) ends.out ends.untouched) ended
 
 -- how it ended over the file that is named, or over standard input if none is
-abbrev pub IsEndingOf : {S : Type 0} → (S → Option (List ℕ)) → (S → Bool) → Option Path → Action → Ends → Ended → Type 0
-IsEndingOf left failed None action ends ended = IsEnding action ends ended
-IsEndingOf left failed (Some path) action ends ended = IsUnopened (Some path) ends ended ⊎ ReadsFile left failed path action ends ended
+abbrev pub IsEndingOf : {S : Type 0} → (S → Option (List ℕ)) → (S → Bool) → Option Path → Action → List Path → Ends → Ended → Type 0
+IsEndingOf left failed None action after ends ended = IsEnding action after ends ended
+IsEndingOf left failed (Some path) action after ends ended = IsUnopened (Some path) ends ended ⊎ ReadsFile left failed path action after ends ended
 
--- what a run of a job leaves, and the exit status, the fault, the counts and the line that differs, which it returns: the exit status and the error sink say how the job ended
-pub record IsRun {S : Type 0} (left : S → Option (List ℕ)) (failed : S → Bool) (job : Job) (ends : Ends) (err : Took) (silent : Type 0) (status : ℕ) (fault : Option TextFault) (answered : Option Answered) (difference : Option ℕ) : Type 0 where
+-- what a run of a job leaves, and the exit status, the fault, the counts, the line that differs and the volume that is refused, which it returns: the exit status and the error sink say how the job ended
+pub record IsRun {S : Type 0} (left : S → Option (List ℕ)) (failed : S → Bool) (job : Job) (after : List Path) (ends : Ends) (err : Took) (silent : Type 0) (status : ℕ) (fault : Option TextFault) (answered : Option Answered) (difference volume : Option ℕ) : Type 0 where
   pub ended : Ended
-  pub ending : IsEndingOf left failed job.input job.action ends ended
+  pub ending : IsEndingOf left failed job.input job.action after ends ended
   pub status_is : status ≡ status_after ended
   pub fault_is : fault ≡ fault_in ended
   pub answered_is : answered ≡ answered_in ended
   pub difference_is : difference ≡ difference_in ended
+  pub volume_is : volume ≡ volume_in ended
   pub reported : IsReported ended err silent

@@ -87,7 +87,8 @@ pub(crate) fn begin<F: Files>(
 
 /// Gives back the file, if it is one.
 pub(crate) fn close<F: Files>(files: &mut F, beginning: Beginning<F::File>)
-    ensures { F.refused files.new ≡ F.refused files.old }
+    ensures refused { F.refused files.new ≡ F.refused files.old }
+    ensures same { F.held files.new ≡ F.held files.old }
 {
     if let Beginning::File(file) = beginning {
         files.close(file);

@@ -1,13 +1,15 @@
 //! How the program ends: its exit status, and what it reports on the error sink.
-ghost use Rattle.std.specs.Prelude.{◌≡◌, false, true, None};
+ghost use Rattle.std.specs.Prelude.{◌≡◌, false, true, None, Ok};
 ghost use Rattle.std.specs.Io.KnownBytes.{Appends};
 ghost use Rattle.kc_texts.specs.Written.{AppendsBeginning};
 ghost use Rattle.kc_remarks.specs.Denials.{is_mostly_outside};
 ghost use Rattle.kc_args.specs.Clashes.{clash_text};
-ghost use Rattle.kc_run.specs.Endings.{Takes, took, status_after, fault_in, answered_in, difference_in, another_text, IsWarned, IsReported};
+ghost use Rattle.kc_run.specs.Endings.{Takes, took, status_after, fault_in, answered_in, difference_in, volume_in, another_text, IsWarned, IsReported};
 
 use kc_args::Clash;
 use kc_cli::{Answered, Sink, TextFault, tell, write_whole};
+use kc_faults::tell_volume;
+use kc_trace::TraceFault;
 
 /// How a job ends that meets no fault.
 #[derive(Clone, Copy, Debug, PartialEq, Eq)]
@@ -21,6 +23,8 @@ pub enum Ending {
     Another { answered: Answered, line: usize },
     /// The same, and something is found in the dump.
     Unsound,
+    /// The volume of this number, from 1, is refused, and nothing is written.
+    Refused { volume: usize, fault: TraceFault },
 }
 
 /// How the program ends.
@@ -34,6 +38,8 @@ pub struct Exit {
     pub answered: Option<Answered>,
     /// The number of the first line that differs, in the text that the state was compared with, if one does.
     pub difference: Option<usize>,
+    /// The number of the volume whose fault it is, if it is that of one of several volumes.
+    pub volume: Option<usize>,
 }
 
 impl Exit {
@@ -43,12 +49,14 @@ impl Exit {
         ensures fault { result.fault ≡ None }
         ensures answered { result.answered ≡ None }
         ensures difference { result.difference ≡ None }
+        ensures volume { result.volume ≡ None }
     {
         Exit {
             status,
             fault: None,
             answered: None,
             difference: None,
+            volume: None,
         }
     }
 }
@@ -91,6 +99,42 @@ fn say_another<L: Sink>(answered: &Answered, err: &mut L)
     }
 }
 
+/// Reports the ending of a job that meets no fault, but perhaps a volume that is refused.
+fn end_well<L: Sink>(ending: Ending, err: &mut L) -> Exit
+    requires { L.failed err.old ≡ false }
+    ensures status { result.status ≡ status_after (Ok ending) }
+    ensures fault { result.fault ≡ fault_in (Ok ending) }
+    ensures answered { result.answered ≡ answered_in (Ok ending) }
+    ensures difference { result.difference ≡ difference_in (Ok ending) }
+    ensures volume { result.volume ≡ volume_in (Ok ending) }
+    ensures reported { IsReported (Ok ending) (took L.failed L.taken err.old err.new) (err.new ≡ err.old) }
+{
+    match ending {
+        Ending::Done => Exit::with_status(0),
+        Ending::Answered(answered) => {
+            warn(&answered, err);
+            Exit {
+                answered: Some(answered),
+                ..Exit::with_status(0)
+            }
+        },
+        Ending::Another { answered, line } => {
+            say_another(&answered, err);
+            Exit {
+                answered: Some(answered),
+                difference: Some(line),
+                ..Exit::with_status(1)
+            }
+        },
+        Ending::Unsound => Exit::with_status(1),
+        Ending::Refused { volume, fault } => Exit {
+            fault: Some(TextFault::Trace(fault)),
+            volume: Some(volume),
+            ..Exit::with_status(tell_volume(volume, fault, err))
+        },
+    }
+}
+
 /// Reports how a job ended.
 pub(crate) fn end<L: Sink>(ended: Result<Ending, TextFault>, err: &mut L) -> Exit
     requires { L.failed err.old ≡ false }
@@ -98,37 +142,14 @@ pub(crate) fn end<L: Sink>(ended: Result<Ending, TextFault>, err: &mut L) -> Exi
     ensures fault { result.fault ≡ fault_in ended }
     ensures answered { result.answered ≡ answered_in ended }
     ensures difference { result.difference ≡ difference_in ended }
+    ensures volume { result.volume ≡ volume_in ended }
     ensures reported { IsReported ended (took L.failed L.taken err.old err.new) (err.new ≡ err.old) }
 {
     match ended {
-        Ok(Ending::Done) => Exit::with_status(0),
-        Ok(Ending::Answered(answered)) => {
-            warn(&answered, err);
-            Exit {
-                status: 0,
-                fault: None,
-                answered: Some(answered),
-                difference: None,
-            }
-        },
-        Ok(Ending::Another { answered, line }) => {
-            say_another(&answered, err);
-            Exit {
-                status: 1,
-                fault: None,
-                answered: Some(answered),
-                difference: Some(line),
-            }
-        },
-        Ok(Ending::Unsound) => Exit::with_status(1),
-        Err(fault) => {
-            let status = tell(&fault, err);
-            Exit {
-                status,
-                fault: Some(fault),
-                answered: None,
-                difference: None,
-            }
+        Ok(ending) => end_well(ending, err),
+        Err(fault) => Exit {
+            fault: Some(fault),
+            ..Exit::with_status(tell(&fault, err))
         },
     }
 }

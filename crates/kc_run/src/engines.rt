@@ -4,15 +4,16 @@ ghost use Rattle.kc_texts.specs.Ends.{seen};
 ghost use Rattle.kc_args.specs.Jobs.{origin_at};
 ghost use Rattle.kc_run.specs.Opening.{Held};
 ghost use Rattle.kc_run.specs.Endings.{took, done_as, answered_as, compared_as, ending_of, judged_as};
-ghost use Rattle.kc_run.specs.Run.{ends_of, BeginsAt, ReplaysTo, ReportsCustody, RunsLive, AuditsDump, RedactsTrace, RedactsHost};
+ghost use Rattle.kc_run.specs.Ends.{ends_of};
+ghost use Rattle.kc_run.specs.Run.{BeginsAt, ReplaysTo, RunsLive, AuditsDump, RedactsTrace, RedactsHost};
 
 use crate::beginning::{begin, close, open};
 use crate::ending::Ending;
 use crate::files::Files;
 use kc_args::Start;
 use kc_cli::{
-    Answered, Compared, CustodyOrder, Lanes, ReplayOrder, Sink, Source, TextFault, audit_text,
-    custody_text, live_text, replay_text, replay_to_text,
+    Answered, Compared, Lanes, ReplayOrder, Sink, Source, TextFault, audit_text, live_text,
+    replay_text, replay_to_text,
 };
 use kc_redact_text::{redact_host_text, redact_text};
 use kc_replay::OpenGate;
@@ -40,7 +41,7 @@ fn done(answer: Result<(), TextFault>) -> Result<Ending, TextFault>
 }
 
 /// The ending of an engine that counts how calls were answered.
-fn counted(answer: Result<Answered, TextFault>) -> Result<Ending, TextFault>
+pub(crate) fn counted(answer: Result<Answered, TextFault>) -> Result<Ending, TextFault>
     ensures { result ≡ answered_as answer }
 {
     match answer {
@@ -142,36 +143,6 @@ pub(crate) fn replay<F: Files, T: Source, K: Sink, R: Threads + Wait + Sync>(
     let ended = replay_to(system, files, &mut beginning, input, to, out, order);
     close(files, beginning);
     ended
-}
-
-/// Reports the trace's custody.
-#[inline(never)]
-pub(crate) fn custody<F: Files, T: Source, K: Sink, R: Threads + Wait + Sync>(
-    system: &System<'_, R>,
-    files: &mut F,
-    start: Start<'_>,
-    input: &mut T,
-    out: &mut K,
-    order: CustodyOrder,
-) -> Result<Ending, TextFault>
-    requires files { F.refused files.old ≡ None }
-    requires input { T.failed input.old ≡ false }
-    requires out { K.failed out.old ≡ false }
-    ensures { BeginsAt start.entry (ReportsCustody order.origin order.form order.scope)
-        (ends_of (F.held files.old) (F.refused files.new) (seen T.failed T.left input.old input.new)
-        (input.new ≡ input.old) (took K.failed K.taken out.old out.new) (out.new ≡ out.old)) result }
-{
-    let mut beginning = begin(system.alloc, files, start)?;
-    let answer = custody_text(
-        system.threads,
-        system.alloc,
-        &mut beginning,
-        input,
-        out,
-        order,
-    );
-    close(files, beginning);
-    counted(answer)
 }
 
 /// Runs the trace live.

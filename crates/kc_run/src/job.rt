@@ -2,11 +2,13 @@
 ghost use Rattle.std.specs.Prelude.{◌≡◌, false, None};
 ghost use Rattle.kc_texts.specs.Ends.{seen};
 ghost use Rattle.kc_run.specs.Endings.{took};
-ghost use Rattle.kc_run.specs.Run.{ends_of, IsEnding, IsEndingOf, IsRun};
+ghost use Rattle.kc_run.specs.Ends.{ends_of};
+ghost use Rattle.kc_run.specs.Run.{IsEnding, IsEndingOf, IsRun};
 
 use crate::beginning::open;
+use crate::custody::custody;
 use crate::ending::{Ending, Exit, end};
-use crate::engines::{System, audit, custody, live, redact, redact_host, replay};
+use crate::engines::{System, audit, live, redact, redact_host, replay};
 use crate::files::Files;
 use kc_args::{Action, Job};
 use kc_cli::{CustodyOrder, ReplayOrder, Sink, Source, TextFault};
@@ -19,12 +21,13 @@ fn run_action<F: Files, T: Source, K: Sink, R: Threads + Wait + Sync>(
     files: &mut F,
     action: Action<'_>,
     input: &mut T,
+    after: &[&str],
     out: &mut K,
 ) -> Result<Ending, TextFault>
     requires files { F.refused files.old ≡ None }
     requires input { T.failed input.old ≡ false }
     requires out { K.failed out.old ≡ false }
-    ensures { IsEnding action.entry
+    ensures { IsEnding action.entry after.entry.now
         (ends_of (F.held files.old) (F.refused files.new) (seen T.failed T.left input.old input.new)
         (input.new ≡ input.old) (took K.failed K.taken out.old out.new) (out.new ≡ out.old)) result }
 {
@@ -53,7 +56,7 @@ fn run_action<F: Files, T: Source, K: Sink, R: Threads + Wait + Sync>(
                 lanes: system.lanes,
                 scope,
             };
-            custody(system, files, start, input, out, order)
+            custody(system, files, start, input, after, out, order)
         },
         Action::Audit { all } => audit(system, all, input, out),
         Action::Redact => redact(system.alloc, input, out),
@@ -68,31 +71,34 @@ fn run_over<F: Files, T: Source, K: Sink, R: Threads + Wait + Sync>(
     path: Option<&str>,
     action: Action<'_>,
     input: &mut T,
+    after: &[&str],
     out: &mut K,
 ) -> Result<Ending, TextFault>
     requires files { F.refused files.old ≡ None }
     requires input { T.failed input.old ≡ false }
     requires out { K.failed out.old ≡ false }
-    ensures { IsEndingOf F.File.left F.File.failed path.entry action.entry
+    ensures { IsEndingOf F.File.left F.File.failed path.entry action.entry after.entry.now
         (ends_of (F.held files.old) (F.refused files.new) (seen T.failed T.left input.old input.new)
         (input.new ≡ input.old) (took K.failed K.taken out.old out.new) (out.new ≡ out.old)) result }
 {
     let Some(path) = path else {
-        return run_action(system, files, action, input, out);
+        return run_action(system, files, action, input, after, out);
     };
     let mut file = open(files, path)?;
-    let ended = run_action(system, files, action, &mut file, out);
+    let ended = run_action(system, files, action, &mut file, after, out);
     files.close(file);
     ended
 }
 
 /// Does what a job asks for: opens the files that it names, reads its input, which is one of these or standard input,
-/// writes onto the sink what is asked for, and onto the error sink the line of a fault, of another state, or of a
-/// trace that may be of another machine. Each file that was opened is given back.
+/// and for custody the files of the volumes after it, writes onto the sink what is asked for, and onto the error sink
+/// the line of a fault, of another state, or of a trace that may be of another machine. Each file that was opened is
+/// given back.
 pub fn run_job<F: Files, T: Source, K: Sink, L: Sink, R: Threads + Wait + Sync>(
     system: &System<'_, R>,
     files: &mut F,
     job: Job<'_>,
+    after: &[&str],
     input: &mut T,
     out: &mut K,
     err: &mut L,
@@ -101,12 +107,12 @@ pub fn run_job<F: Files, T: Source, K: Sink, L: Sink, R: Threads + Wait + Sync>(
     requires input { T.failed input.old ≡ false }
     requires out { K.failed out.old ≡ false }
     requires err { L.failed err.old ≡ false }
-    ensures { IsRun F.File.left F.File.failed job.entry
+    ensures { IsRun F.File.left F.File.failed job.entry after.entry.now
         (ends_of (F.held files.old) (F.refused files.new) (seen T.failed T.left input.old input.new)
         (input.new ≡ input.old) (took K.failed K.taken out.old out.new) (out.new ≡ out.old))
         (took L.failed L.taken err.old err.new) (err.new ≡ err.old)
-        result.status result.fault result.answered result.difference }
+        result.status result.fault result.answered result.difference result.volume }
 {
-    let ended = run_over(system, files, job.input, job.action, input, out);
+    let ended = run_over(system, files, job.input, job.action, input, after, out);
     end(ended, err)
 }

@@ -1,5 +1,6 @@
 -- The foot of a picture: the version of kcore, and what the picture is of.
-use Rattle.std.specs.Prelude.{ℕ, ◌≡◌, Bool, true, false, List, [], ◌∷◌, ◌++◌, codes, Option, Some, None}
+use Rattle.std.specs.Prelude.{ℕ, ◌≡◌, ◌==◌, if◌then◌else◌, Bool, true, false, List, [], ◌∷◌, ◌++◌, codes, Option, Some, None}
+use Rattle.std.specs.Fmt.{decimal}
 use Rattle.hex.specs.Hex.{encode_lower}
 use Rattle.kc_trace.specs.declared.custody_writer.StartDigest.{StartDigest}
 use Rattle.kc_trace.specs.declared.custody_writer.StartDigest.TheVariants as start
@@ -13,19 +14,29 @@ start_words start.Default = codes ", default configuration"
 start_words (start.Config digest) = codes ", configuration SHA-256 " ++ encode_lower digest
 start_words (start.State digest) = codes ", state SHA-256 " ++ encode_lower digest
 
+-- a trace, by its digest, if it is named
+abbrev pub trace_words : Option (List ℕ) → List ℕ
+trace_words None = []
+trace_words (Some digest) = codes ", trace SHA-256 " ++ encode_lower digest
+
 -- the texts that were read, if they are named
 abbrev pub digests_words : Option Digests → List ℕ
 digests_words None = []
-digests_words (Some digests) = (codes ", trace SHA-256 " ++ encode_lower digests.trace) ++ start_words digests.start
+digests_words (Some digests) = trace_words digests.trace ++ start_words digests.start
+
+-- how many volumes were read, if there were several
+abbrev pub volumes_words : ℕ → List ℕ
+volumes_words count = if count == 0 then [] else (codes ", " ++ decimal count) ++ codes " volumes"
 
 -- that the machine's own accesses are not in the trace, if they are not
 abbrev pub unseen_words : Bool → List ℕ
 unseen_words false = []
 unseen_words true = codes ", accesses unseen"
 
--- as "kcore 2.0.0, trace SHA-256 .., default configuration": what the first line of custody says, but the sizes of the core
+-- as "kcore 2.0.0, trace SHA-256 .., default configuration" or "kcore 2.0.0, 3 volumes, default configuration": what
+-- the first line of custody says, but the sizes of the core
 abbrev pub foot_words : Heading → List ℕ
-foot_words heading = (codes "kcore " ++ version_text) ++ (digests_words heading.digests ++ unseen_words heading.is_unseen)
+foot_words heading = (codes "kcore " ++ version_text) ++ (volumes_words heading.volumes ++ (digests_words heading.digests ++ unseen_words heading.is_unseen))
 
 -- how a picture ends after the words of its foot
 abbrev pub closing : List ℕ

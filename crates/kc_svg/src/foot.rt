@@ -2,7 +2,7 @@
 ghost use Rattle.std.specs.Prelude.{◌≡◌, ◌++◌};
 ghost use Rattle.hex.specs.Hex.{encode_lower};
 ghost use Rattle.kc_svg.specs.Words.{Puts};
-ghost use Rattle.kc_svg.specs.Foot.{start_words, digests_words, unseen_words, foot_words};
+ghost use Rattle.kc_svg.specs.Foot.{start_words, trace_words, digests_words, volumes_words, unseen_words, foot_words};
 
 use crate::words::Text;
 use kc_trace::{Digests, Heading, StartDigest, VERSION};
@@ -30,13 +30,32 @@ fn put_start(text: &mut Text, alloc: Global, start: &StartDigest)
     }
 }
 
+/// Puts which trace was read, if it is named.
+fn put_trace(text: &mut Text, alloc: Global, digest: &Option<[u8; 32]>)
+    ensures { Puts text.old text.new (trace_words digest.now) }
+{
+    if let Some(digest) = digest {
+        put_digest(text, alloc, ", trace SHA-256 ", digest);
+    }
+}
+
 /// Puts which texts were read, if they are named.
 fn put_digests(text: &mut Text, alloc: Global, digests: &Option<Digests>)
     ensures { Puts text.old text.new (digests_words digests.now) }
 {
     if let Some(digests) = digests {
-        put_digest(text, alloc, ", trace SHA-256 ", &digests.trace);
+        put_trace(text, alloc, &digests.trace);
         put_start(text, alloc, &digests.start);
+    }
+}
+
+/// Puts how many volumes were read, if there were several.
+fn put_volumes(text: &mut Text, count: u32)
+    ensures { Puts text.old text.new (volumes_words count) }
+{
+    if count != 0 {
+        text.put_number(", ", count as u64);
+        text.put(" volumes");
     }
 }
 
@@ -55,6 +74,7 @@ pub(crate) fn put_foot(text: &mut Text, alloc: Global, heading: &Heading)
 {
     text.put("kcore ");
     text.put(VERSION);
+    put_volumes(text, heading.volumes);
     put_digests(text, alloc, &heading.digests);
     put_unseen(text, heading.is_unseen);
 }

@@ -5,20 +5,25 @@
 //!   `src/standard.rt`, `src/mem.rt`
 //! - a trace, as it comes: `src/stream.rt`, `specs/Streamed.antt`; all that a source has: `src/whole.rt`; how a source
 //!   may fail: `specs/Ends.antt`
-//! - how replies, traces and changes are written in pieces: `src/lines.rt`
+//! - what has a line: `src/line.rt`; the number of its volume before it: `src/placed.rt`; how lines are written in
+//!   pieces: `src/lines.rt`
 #![tactic(auto)]
 
+mod line;
 mod lines;
 mod mem;
+mod placed;
 mod source;
 mod standard;
 mod stream;
 mod whole;
 
+pub use line::Line;
 pub use lines::{
-    Line, empty_piece, give_answers, give_lines, give_replies, give_trace, write_whole,
+    empty_piece, give_answers, give_lines, give_placed, give_replies, give_trace, write_whole,
 };
 pub use mem::Mem;
+pub use placed::Placed;
 pub use source::{Failed, PIECE, Sink, Source};
 pub use standard::Std;
 pub use stream::{CallStream, NextCalls, StreamFault, read_calls};

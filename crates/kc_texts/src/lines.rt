@@ -1,21 +1,18 @@
 //! Giving text to a sink: whole, or in lines, a piece at a time.
-ghost use Rattle.std.specs.Prelude.{◌≡◌, ◌≤◌, ◌+◌, ◌++◌, ◌∷◌, [], false, ℕ, List, vec_len, vec_capacity, is_err, IfOk, OnOk, OnErr};
+ghost use Rattle.std.specs.Prelude.{◌≡◌, ◌≤◌, ◌+◌, ◌++◌, [], false, ℕ, List, vec_len, vec_capacity, is_err, IfOk, OnOk, OnErr};
 ghost use Rattle.std.specs.List.{flat_map};
 ghost use Rattle.std.specs.Io.KnownBytes.{Appends};
 ghost use Rattle.kc_trace.specs.AnswerText.{answer_text_of, longest_answer};
-ghost use Rattle.kc_trace.specs.CustodyText.{event_line};
-ghost use Rattle.kc_trace.specs.RemarkText.{note_line};
-ghost use Rattle.kc_trace.specs.ReplyText.{reply_line_of, reply_text_of};
-ghost use Rattle.kc_trace.specs.Spelling.{line_of, trace_of, longest_call};
-ghost use Rattle.kc_texts.specs.Written.{AppendsBeginning};
+ghost use Rattle.kc_trace.specs.CustodyText.{AreInLine, placed_text};
+ghost use Rattle.kc_trace.specs.ReplyText.{reply_text_of};
+ghost use Rattle.kc_trace.specs.Spelling.{trace_of, longest_call};
+ghost use Rattle.kc_texts.specs.Written.{AppendsBeginning, longest_placed};
 
+use crate::line::Line;
+use crate::placed::{LONGEST_PLACED, Placed, push_placed};
 use crate::source::{Failed, PIECE, Sink};
-use kc_remarks::Note;
-use kc_trace::{
-    LONGEST_ANSWER, LONGEST_CALL, push_access, push_answer, push_call, push_change, push_denied,
-    push_header, push_reply, version_of,
-};
-use kc_types::{Call, Event, Memory, Reply};
+use kc_trace::{LONGEST_ANSWER, LONGEST_CALL, VolumeEntry, push_answer, push_header, version_of};
+use kc_types::{Call, Memory, Reply};
 use std::alloc::Global;
 
 /// Gives all bytes to a sink. After an `Err` it has taken a beginning of them.
@@ -37,62 +34,93 @@ pub fn write_whole<S: Sink>(sink: &mut S, bytes: &[u8]) -> Result<(), Failed>
 pub fn empty_piece(alloc: Global) -> Result<Vec<u8>, Memory>
     ensures empty { IfOk result (λ piece. piece.items ≡ []) }
     ensures room { IfOk result (λ piece. longest_call ≤ vec_capacity piece) }
+    ensures placed { IfOk result (λ piece. longest_placed ≤ vec_capacity piece) }
     ensures answers { IfOk result (λ piece. longest_answer ≤ vec_capacity piece) }
 {
     Ok(Vec::with_capacity(alloc, PIECE)?)
 }
 
-/// What is written on a line of its own.
-pub trait Line {
-    /// Its line, with the newline.
-    ghost line: { Self → List ℕ };
+/// How lines are written.
+trait Way<L> {
+    /// What is written of a line.
+    ghost written: { Self → L → List ℕ };
 
-    /// Appends its line, for which there is room: memory does not grow.
-    fn push(&self, text: &mut Vec<u8>)
-        requires { vec_len text.old + longest_call ≤ vec_capacity text.old }
-        ensures line { text.new.items ≡ text.old.items ++ line self.now }
+    /// At least as many bytes as are written of a line.
+    ghost most: { Self → ℕ };
+
+    /// At least as many bytes as are written of a line.
+    fn most(&self) -> usize
+        ensures { result ≡ most self.now };
+
+    /// Appends what is written of a line, for which there is room: memory does not grow.
+    fn push(&self, text: &mut Vec<u8>, line: &L)
+        requires { vec_len text.old + most self.now ≤ vec_capacity text.old }
+        ensures line { text.new.items ≡ text.old.items ++ written self.now line.now }
         ensures capacity { vec_capacity text.old ≤ vec_capacity text.new };
 }
 
-impl Line for Reply {
-    ghost line = { λ reply. reply_line_of reply ++ 10 ∷ [] };
+/// Each line as it is.
+struct Plain;
 
-    fn push(&self, text: &mut Vec<u8>) {
-        push_reply(text, self);
+impl<L: Line> Way<L> for Plain {
+    ghost written = { λ way line. L.line line };
+
+    ghost most = { λ way. longest_call };
+
+    fn most(&self) -> usize {
+        LONGEST_CALL
+    }
+
+    fn push(&self, text: &mut Vec<u8>, line: &L) {
+        line.push(text);
     }
 }
 
-impl Line for Call {
-    ghost line = { λ call. line_of call ++ 10 ∷ [] };
+/// Each line with the number of its volume first, if there are volumes.
+#[derive(Drop)]
+struct InVolumes<'a> {
+    volumes: &'a [VolumeEntry],
+    ghost in_line: { AreInLine volumes.now },
+}
 
-    fn push(&self, text: &mut Vec<u8>) {
-        push_call(text, self);
+impl<'a, L: Placed> Way<L> for InVolumes<'a> {
+    ghost written = { λ way line. placed_text way.volumes.now (L.place line) (L.line line) };
+
+    ghost most = { λ way. longest_placed };
+
+    fn most(&self) -> usize {
+        LONGEST_PLACED
+    }
+
+    fn push(&self, text: &mut Vec<u8>, line: &L) {
+        push_placed(text, line, self.volumes);
     }
 }
 
-/// A change of custody has a line; no other event has one.
-impl Line for Event {
-    ghost line = { λ event. event_line event };
-
-    fn push(&self, text: &mut Vec<u8>) {
-        match self {
-            Event::Change(change) => push_change(text, change),
-            Event::Read { .. } | Event::Write { .. } => (),
+/// Gives a sink what the piece holds and then some lines, each written in this way, in pieces as large as that piece
+/// has room for.
+fn give_by<K: Sink, L: Drop, W: Way<L>>(
+    out: &mut K,
+    mut piece: Vec<u8>,
+    lines: Vec<L>,
+    way: &W,
+) -> Result<(), Failed>
+    requires out { K.failed out.old ≡ false }
+    requires room { W.most way.now ≤ vec_capacity piece }
+    ensures ok { OnOk result
+        (Appends (K.taken out.old) (K.taken out.new) (piece.items ++ flat_map (W.written way.now) lines.items)) }
+    ensures begun { OnErr result
+        (AppendsBeginning (K.taken out.old) (K.taken out.new) (piece.items ++ flat_map (W.written way.now) lines.items)) }
+    ensures mark { K.failed out.new ≡ is_err result }
+{
+    for line in lines {
+        if piece.capacity() - piece.len() < way.most() {
+            write_whole(out, &piece)?;
+            piece.clear();
         }
+        way.push(&mut piece, &line);
     }
-}
-
-/// A denied call and an access have a line, and an event has its own, if it has one.
-impl Line for Note {
-    ghost line = { λ note. note_line note };
-
-    fn push(&self, text: &mut Vec<u8>) {
-        match self {
-            Note::Denied(denied) => push_denied(text, denied),
-            Note::Access(access) => push_access(text, access),
-            Note::Event(event) => event.push(text),
-        }
-    }
+    write_whole(out, &piece)
 }
 
 /// Gives a sink what the piece holds and then some lines, in pieces as large as that piece has room for: memory does
@@ -100,7 +128,7 @@ impl Line for Note {
 /// `Err` the sink has taken a beginning of it.
 pub fn give_lines<K: Sink, L: Line + Drop>(
     out: &mut K,
-    mut piece: Vec<u8>,
+    piece: Vec<u8>,
     lines: Vec<L>,
 ) -> Result<(), Failed>
     requires out { K.failed out.old ≡ false }
@@ -111,14 +139,27 @@ pub fn give_lines<K: Sink, L: Line + Drop>(
         (AppendsBeginning (K.taken out.old) (K.taken out.new) (piece.items ++ flat_map L.line lines.items)) }
     ensures mark { K.failed out.new ≡ is_err result }
 {
-    for line in lines {
-        if piece.capacity() - piece.len() < LONGEST_CALL {
-            write_whole(out, &piece)?;
-            piece.clear();
-        }
-        line.push(&mut piece);
-    }
-    write_whole(out, &piece)
+    give_by(out, piece, lines, &Plain)
+}
+
+/// Gives a sink what `give_lines` gives, but each line with the number of its volume first, if there are volumes. After
+/// an `Err` the sink has taken a beginning of it.
+pub fn give_placed<K: Sink, L: Placed + Drop>(
+    out: &mut K,
+    piece: Vec<u8>,
+    lines: Vec<L>,
+    volumes: &[VolumeEntry],
+) -> Result<(), Failed>
+    requires out { K.failed out.old ≡ false }
+    requires room { longest_placed ≤ vec_capacity piece }
+    requires order { AreInLine volumes.now }
+    ensures ok { OnOk result (Appends (K.taken out.old) (K.taken out.new)
+        (piece.items ++ flat_map (λ x. placed_text volumes.now (L.place x) (L.line x)) lines.items)) }
+    ensures begun { OnErr result (AppendsBeginning (K.taken out.old) (K.taken out.new)
+        (piece.items ++ flat_map (λ x. placed_text volumes.now (L.place x) (L.line x)) lines.items)) }
+    ensures mark { K.failed out.new ≡ is_err result }
+{
+    give_by(out, piece, lines, &InVolumes { volumes })
 }
 
 /// Gives the text of some replies to a sink, in pieces as large as the empty buffer has room for: memory does not

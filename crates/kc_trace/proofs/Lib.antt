@@ -6,3 +6,4 @@ pub mod Redacting
 pub mod Traces
 pub mod Written
 mod Pushed
+mod Volumes

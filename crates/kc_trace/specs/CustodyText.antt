@@ -1,6 +1,7 @@
 -- How changes of custody are spelled: one JSON object (RFC 8259) on each line.
-use Rattle.std.specs.Prelude.{ℕ, Bool, true, false, List, [], ◌∷◌, ◌++◌, codes, length, Option, Some, None}
+use Rattle.std.specs.Prelude.{ℕ, ◌==◌, ◌+◌, if◌then◌else◌, nat_le, Bool, true, false, List, [], ◌∷◌, ◌++◌, codes, filter, length, Option, Some, None}
 use Rattle.std.specs.List.{flat_map}
+use Rattle.std.specs.List.Sorted.{IsNonDecreasingBy}
 use Rattle.std.specs.Fmt.{decimal}
 use Rattle.hex.specs.Hex.{encode_lower}
 use Rattle.kc_types.specs.Configuration.{Configuration, slot_count}
@@ -20,6 +21,7 @@ use Rattle.kc_trace.specs.declared.custody_writer.StartDigest.{StartDigest}
 use Rattle.kc_trace.specs.declared.custody_writer.StartDigest.TheVariants as start
 use Rattle.kc_trace.specs.declared.custody_writer.Digests.{Digests}
 use Rattle.kc_trace.specs.declared.custody_writer.Heading.{Heading}
+use Rattle.kc_trace.specs.declared.volume_writer.VolumeEntry.{VolumeEntry}
 
 abbrev pub owner_text : Owner → List ℕ
 owner_text Core = codes "\"core\""
@@ -82,6 +84,30 @@ abbrev pub event_line : Event → List ℕ
 event_line (event.Change told) = change_line told
 event_line _ = []
 
+-- the line of the call that made a change, in its trace
+abbrev pub line_of_change : Change → ℕ
+line_of_change (change.Frame told) = told.line
+line_of_change (change.Phase told) = told.line
+
+-- the same of an event; 0 if it has no line of its own here
+abbrev pub line_of_event : Event → ℕ
+line_of_event (event.Change told) = line_of_change told
+line_of_event _ = 0
+
+-- no volume begins on a line before that of an earlier one
+abbrev pub AreInLine : List VolumeEntry → Type 0
+AreInLine volumes = IsNonDecreasingBy (λ (volume : VolumeEntry). volume.line) volumes
+
+-- the number of the volume that a line is in: how many of them begin on it or before it
+abbrev pub volume_of : List VolumeEntry → ℕ → ℕ
+volume_of volumes line = length (filter (λ (volume : VolumeEntry). nat_le volume.line line) volumes)
+
+-- a line of custody, with the number of its volume first if there are several
+abbrev pub placed_text : List VolumeEntry → ℕ → List ℕ → List ℕ
+placed_text [] line text = text
+placed_text volumes line [] = []
+placed_text volumes line (_ ∷ rest) = member (codes "{\"volume\":") (volume_of volumes line) ++ (44 ∷ rest)
+
 -- the version of kcore, which `kcore --version` prints too
 abbrev pub version_text : List ℕ
 version_text = codes "2.0.0"
@@ -96,35 +122,63 @@ start_text start.Default = codes ",\"config\":\"default\",\"state\":null"
 start_text (start.Config digest) = codes ",\"config\":" ++ (digest_text digest ++ codes ",\"state\":null")
 start_text (start.State digest) = codes ",\"config\":null,\"state\":" ++ digest_text digest
 
+-- a trace, by its digest, if it is named
+abbrev pub trace_text : Option (List ℕ) → List ℕ
+trace_text None = []
+trace_text (Some digest) = codes ",\"trace\":" ++ digest_text digest
+
 -- what was read, if that is named
 abbrev pub digests_text : Option Digests → List ℕ
 digests_text None = []
-digests_text (Some digests) = codes ",\"trace\":" ++ (digest_text digests.trace ++ start_text digests.start)
+digests_text (Some digests) = trace_text digests.trace ++ start_text digests.start
 
 abbrev pub accesses_text : Bool → List ℕ
 accesses_text false = []
 accesses_text true = codes ",\"accesses\":\"unseen\""
 
+-- how many volumes were read, if there were several
+abbrev pub volume_count_text : ℕ → List ℕ
+volume_count_text count = if count == 0 then [] else member (codes ",\"volumes\":") count
+
 -- the version of the text and of kcore
 abbrev pub versions_text : List ℕ
 versions_text = codes "2,\"kcore\":\"" ++ (version_text ++ codes "\"")
 
--- what the first line says: the versions, what was read, the sizes of the core, and whether the machine's accesses are in the trace
+-- what the first line says: the versions, what was read, the sizes of the core, whether the machine's accesses are in
+-- the trace, and how many volumes it has
 abbrev pub heading_text : Heading → Configuration → List ℕ
 heading_text heading config = versions_text ++ (digests_text heading.digests ++ (member (codes ",\"frames\":") config.frames ++ (member (codes ",\"core\":") config.core
-    ++ (member (codes ",\"host\":") config.host ++ (member (codes ",\"slots\":") (slot_count config) ++ (accesses_text heading.is_unseen ++ (codes "}" ++ 10 ∷ [])))))))
+    ++ (member (codes ",\"host\":") config.host ++ (member (codes ",\"slots\":") (slot_count config) ++ (accesses_text heading.is_unseen ++ (volume_count_text heading.volumes ++ (codes "}" ++ 10 ∷ []))))))))
 
 -- the first line
 abbrev pub header_line : Heading → Configuration → List ℕ
 header_line heading config = codes "{\"custody\":" ++ heading_text heading config
 
--- the last line: how many calls the trace has, how many lines are between the first and this one, and how many calls were refused or rejected
+-- the line of a volume by its number: the line of its first call, how many calls it has, and its digest, if texts are
+-- named
+abbrev pub volume_line : ℕ → VolumeEntry → List ℕ
+volume_line number volume = member (codes "{\"volume\":") number ++ (member (codes ",\"line\":") volume.line ++ (member (codes ",\"calls\":") volume.calls
+    ++ (trace_text volume.digest ++ (codes "}" ++ 10 ∷ []))))
+
+-- the lines of these volumes, by their numbers from this one on
+abbrev pub volumes_from : ℕ → List VolumeEntry → List ℕ
+volumes_from number [] = []
+volumes_from number (volume ∷ volumes) = volume_line number volume ++ volumes_from (number + 1) volumes
+
+-- the lines of all volumes
+abbrev pub volumes_text : List VolumeEntry → List ℕ
+volumes_text volumes = volumes_from 1 volumes
+
+-- the last line: how many calls the trace has, how many lines of changes and notes the text has, and how many calls
+-- were refused or rejected
 abbrev pub end_line : ℕ → ℕ → ℕ → List ℕ
 end_line calls lines refused = member (codes "{\"calls\":") calls ++ (member (codes ",\"lines\":") lines ++ (member (codes ",\"refused\":") refused ++ (codes "}" ++ 10 ∷ [])))
 
--- the text of the changes that a trace makes, given the numbers of its calls and of those that were refused or rejected
-abbrev pub custody_text_of : Heading → Configuration → ℕ → ℕ → List Change → List ℕ
-custody_text_of heading config calls refused changes = header_line heading config ++ (flat_map change_line changes ++ end_line calls (length changes) refused)
+-- the text of the changes that a trace makes, or several volumes of one, given the numbers of its calls and of those
+-- that were refused or rejected
+abbrev pub custody_text_of : Heading → Configuration → List VolumeEntry → ℕ → ℕ → List Change → List ℕ
+custody_text_of heading config volumes calls refused changes = header_line heading config ++ (volumes_text volumes
+    ++ (flat_map (λ change. placed_text volumes (line_of_change change) (change_line change)) changes ++ end_line calls (length changes) refused))
 
 -- upper bounds for the text of a custody, of an image, of four images, and of a change
 abbrev pub longest_custody : ℕ
@@ -139,12 +193,23 @@ longest_images = 550
 abbrev pub longest_change : ℕ
 longest_change = 768
 
--- and for that of a digest in quotation marks, of what calls begin with, and of all that was read
+-- and for that of a digest in quotation marks, of a trace that is named by it, of what calls begin with, and of all
+-- that was read
 abbrev pub longest_digest : ℕ
 longest_digest = 66
+
+abbrev pub longest_trace : ℕ
+longest_trace = 76
 
 abbrev pub longest_start : ℕ
 longest_start = 110
 
 abbrev pub longest_digests : ℕ
 longest_digests = 190
+
+-- and for that of a volume's number with what comes before it, and of a volume's line
+abbrev pub longest_place : ℕ
+longest_place = 30
+
+abbrev pub longest_volume : ℕ
+longest_volume = 256

@@ -13,7 +13,8 @@ use Rattle.kc_remarks.specs.declared.remark.Access.{Access}
 use Rattle.kc_remarks.specs.declared.remark.Note.{Note}
 use Rattle.kc_remarks.specs.declared.remark.Note.TheVariants as note
 use Rattle.kc_trace.specs.declared.custody_writer.Heading.{Heading}
-use Rattle.kc_trace.specs.CustodyText.{owner_text, number_text, member, event_line, header_line, end_line}
+use Rattle.kc_trace.specs.declared.volume_writer.VolumeEntry.{VolumeEntry}
+use Rattle.kc_trace.specs.CustodyText.{owner_text, number_text, member, event_line, line_of_event, placed_text, header_line, volumes_text, end_line}
 
 -- the name of a call, as in traces
 abbrev pub kind_text : CallKind → List ℕ
@@ -67,9 +68,17 @@ note_line (note.Denied told) = denied_line told
 note_line (note.Access told) = access_line told
 note_line (note.Event told) = event_line told
 
--- the text of these notes on a trace, given the numbers of its calls and of those that were refused or rejected
-abbrev pub notes_text_of : Heading → Configuration → ℕ → ℕ → List Note → List ℕ
-notes_text_of heading config calls refused told = header_line heading config ++ (flat_map note_line told ++ end_line calls (length told) refused)
+-- the line of the call that a note is on, in its trace; 0 if the note has no line of its own here
+abbrev pub line_of_note : Note → ℕ
+line_of_note (note.Denied told) = told.line
+line_of_note (note.Access told) = told.line
+line_of_note (note.Event told) = line_of_event told
+
+-- the text of these notes on a trace, or on several volumes of one, given the numbers of its calls and of those that
+-- were refused or rejected
+abbrev pub notes_text_of : Heading → Configuration → List VolumeEntry → ℕ → ℕ → List Note → List ℕ
+notes_text_of heading config volumes calls refused told = header_line heading config ++ (volumes_text volumes
+    ++ (flat_map (λ note. placed_text volumes (line_of_note note) (note_line note)) told ++ end_line calls (length told) refused))
 
 -- upper bounds for the text of a beginning, of a reason, of a slot, of a frame
 abbrev pub longest_head : ℕ

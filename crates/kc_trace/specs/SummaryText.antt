@@ -9,7 +9,8 @@ use Rattle.kc_types.specs.declared.refusal.Refusal.{Refusal}
 use Rattle.kc_remarks.specs.declared.attempt.Attempt.{Attempt}
 use Rattle.kc_remarks.specs.Attempts.{attempts_in_life, count_attempts, refusals}
 use Rattle.kc_trace.specs.declared.custody_writer.Heading.{Heading}
-use Rattle.kc_trace.specs.CustodyText.{member, number_text, images_text, heading_text}
+use Rattle.kc_trace.specs.declared.volume_writer.VolumeEntry.{VolumeEntry}
+use Rattle.kc_trace.specs.CustodyText.{member, number_text, images_text, heading_text, volumes_text}
 
 -- its slot, and the lines of its turns
 abbrev pub turns_text : Life → List ℕ
@@ -71,6 +72,8 @@ summary_header heading config = codes "{\"summary\":" ++ heading_text heading co
 abbrev pub summary_end : ℕ → ℕ → ℕ → List ℕ
 summary_end calls lives refused = member (codes "{\"calls\":") calls ++ (member (codes ",\"lives\":") lives ++ (member (codes ",\"refused\":") refused ++ (codes "}" ++ 10 ∷ [])))
 
--- the text of the lives in a trace, given the numbers of its calls and of those that were refused or rejected, and the attempts at pages of VMs
-abbrev pub summary_text_of : Heading → Configuration → ℕ → ℕ → List Attempt → List Life → List ℕ
-summary_text_of heading config calls refused attempts lives = summary_header heading config ++ (flat_map (life_line heading.is_unseen attempts) lives ++ summary_end calls (length lives) refused)
+-- the text of the lives in a trace, or in several volumes of one, given the numbers of its calls and of those that
+-- were refused or rejected, and the attempts at pages of VMs
+abbrev pub summary_text_of : Heading → Configuration → List VolumeEntry → ℕ → ℕ → List Attempt → List Life → List ℕ
+summary_text_of heading config volumes calls refused attempts lives = summary_header heading config ++ (volumes_text volumes
+    ++ (flat_map (life_line heading.is_unseen attempts) lives ++ summary_end calls (length lives) refused))

@@ -4,7 +4,7 @@ ghost use Rattle.std.specs.List.{flat_map};
 ghost use Rattle.std.specs.Fmt.{decimal};
 ghost use Rattle.kc_types.specs.Limits.{image_limit};
 ghost use Rattle.kc_types.specs.Configuration.{slot_count};
-ghost use Rattle.kc_trace.specs.CustodyText.{owner_text, number_text, flag_text, phase_text, custody_text, frame_line, image_text, more_image_text, images_text, phase_line, change_line, version_text, digest_text, start_text, digests_text, accesses_text, versions_text, heading_text, header_line, end_line, longest_custody, longest_image, longest_images, longest_change, longest_digest, longest_start, longest_digests};
+ghost use Rattle.kc_trace.specs.CustodyText.{owner_text, number_text, flag_text, phase_text, custody_text, frame_line, image_text, more_image_text, images_text, phase_line, change_line, version_text, digest_text, trace_text, start_text, digests_text, accesses_text, volume_count_text, versions_text, heading_text, header_line, end_line, longest_custody, longest_image, longest_images, longest_change, longest_digest, longest_trace, longest_start, longest_digests};
 
 use itoa::Buffer;
 use kc_lines::{push_bytes, push_digits};
@@ -32,7 +32,8 @@ pub enum StartDigest {
 /// The texts that were read, by their SHA-256 digests.
 #[derive(Clone, Copy, Debug, PartialEq, Eq)]
 pub struct Digests {
-    pub trace: [u8; 32],
+    /// That of the trace; `None` if there were several volumes, which have their digests on lines of their own.
+    pub trace: Option<[u8; 32]>,
     pub start: StartDigest,
 }
 
@@ -43,6 +44,8 @@ pub struct Heading {
     pub digests: Option<Digests>,
     /// Whether the machine's own reads and writes are not in the trace.
     pub is_unseen: bool,
+    /// How many volumes were read, if there were several; otherwise 0.
+    pub volumes: u32,
 }
 
 /// Appends some bytes and a number.
@@ -241,6 +244,19 @@ fn push_digest(text: &mut Vec<u8>, digest: &[u8; 32])
     push_bytes(text, b"\"");
 }
 
+/// Appends the digest of a trace, if it is named.
+pub(crate) fn push_trace(text: &mut Vec<u8>, digest: &Option<[u8; 32]>)
+    requires { vec_len text.old + longest_trace ≤ vec_capacity text.old }
+    ensures items { text.new.items ≡ text.old.items ++ trace_text digest.now }
+    ensures len { vec_len text.new ≤ vec_len text.old + longest_trace }
+    ensures capacity { vec_capacity text.old ≤ vec_capacity text.new }
+{
+    if let Some(digest) = digest {
+        push_bytes(text, b",\"trace\":");
+        push_digest(text, digest);
+    }
+}
+
 /// Appends what calls begin with.
 fn push_start(text: &mut Vec<u8>, start: &StartDigest)
     requires { vec_len text.old + longest_start ≤ vec_capacity text.old }
@@ -270,8 +286,7 @@ fn push_digests(text: &mut Vec<u8>, digests: &Option<Digests>)
     ensures capacity { vec_capacity text.old ≤ vec_capacity text.new }
 {
     if let Some(digests) = digests {
-        push_bytes(text, b",\"trace\":");
-        push_digest(text, &digests.trace);
+        push_trace(text, &digests.trace);
         push_start(text, &digests.start);
     }
 }
@@ -299,8 +314,21 @@ fn push_accesses(text: &mut Vec<u8>, is_unseen: bool)
     }
 }
 
+/// Appends how many volumes were read, if there were several.
+fn push_volume_count(text: &mut Vec<u8>, count: u32)
+    requires { vec_len text.old + 31 ≤ vec_capacity text.old }
+    ensures items { text.new.items ≡ text.old.items ++ volume_count_text count }
+    ensures len { vec_len text.new ≤ vec_len text.old + 31 }
+    ensures capacity { vec_capacity text.old ≤ vec_capacity text.new }
+{
+    if count != 0 {
+        push_member(text, b",\"volumes\":", count as usize);
+    }
+}
+
 /// Appends what the first line of custody and of a summary says, with its newline: the versions, what was read, the
-/// sizes of the core, from which the boot state follows, and whether the machine's accesses are in the trace.
+/// sizes of the core, from which the boot state follows, whether the machine's accesses are in the trace, and how many
+/// volumes it has.
 pub(crate) fn push_heading(text: &mut Vec<u8>, heading: &Heading, config: &Config)
     requires { vec_len text.old + 512 ≤ vec_capacity text.old }
     ensures line { text.new.items ≡ text.old.items ++ heading_text heading.now config.now }
@@ -313,6 +341,7 @@ pub(crate) fn push_heading(text: &mut Vec<u8>, heading: &Heading, config: &Confi
     push_member(text, b",\"host\":", config.host() as usize);
     push_member(text, b",\"slots\":", config.slots() as usize);
     push_accesses(text, heading.is_unseen);
+    push_volume_count(text, heading.volumes);
     push_bytes(text, b"}\n");
 }
 
@@ -326,8 +355,8 @@ pub fn push_custody_header(text: &mut Vec<u8>, heading: &Heading, config: &Confi
     push_heading(text, heading, config);
 }
 
-/// Appends the last line, with its newline: how many calls the trace has, how many lines are between the first and this
-/// one, and how many calls were refused or rejected.
+/// Appends the last line, with its newline: how many calls the trace has, how many lines of changes and notes the text
+/// has, and how many calls were refused or rejected.
 pub fn push_custody_end(text: &mut Vec<u8>, calls: usize, lines: usize, refused: usize)
     requires { vec_len text.old + longest_change ≤ vec_capacity text.old }
     ensures line { text.new.items ≡ text.old.items ++ end_line calls lines refused }

@@ -7,6 +7,7 @@
 //!   `src/reply_writer.rt`, `src/answer_writer.rt` (`specs/AnswerText.antt`), `src/custody_writer.rt`
 //!   (`specs/CustodyText.antt`), `src/remark_writer.rt` (`specs/RemarkText.antt`), `src/summary_writer.rt`
 //!   (`specs/SummaryText.antt`)
+//! - the volumes of a chain, and which one a line is in: `src/volume_writer.rt`
 #![tactic(auto)]
 
 mod answer_writer;
@@ -18,6 +19,7 @@ mod reader;
 mod remark_writer;
 mod reply_writer;
 mod summary_writer;
+mod volume_writer;
 mod writer;
 
 pub use answer_writer::{LONGEST_ANSWER, push_answer};
@@ -31,4 +33,5 @@ pub use reader::{TraceReader, read_trace};
 pub use remark_writer::{call_name, push_access, push_denied};
 pub use reply_writer::{LONGEST_REPLY, push_reply, write_replies};
 pub use summary_writer::summary_text;
+pub use volume_writer::{LONGEST_PLACE, VolumeEntry, push_place, push_volumes, volume_of};
 pub use writer::{LONGEST_CALL, push_call, push_header, version_of, write_trace};

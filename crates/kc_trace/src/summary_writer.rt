@@ -8,12 +8,14 @@ use crate::custody_writer::{
     Heading, push_gfn, push_heading, push_images, push_member, push_number,
 };
 use crate::remark_writer::push_refusal;
+use crate::volume_writer::{VolumeEntry, push_volumes};
 use kc_lines::push_bytes;
 use kc_remarks::{Attempt, attempts_in_life, count_attempts, refusals};
 use kc_types::{Config, Life, Memory, Refusal, Sharing};
 use std::alloc::Global;
 
-/// More bytes than each part of a line has: its turns, its images, its counts, and a stretch in which a frame was shared.
+/// More bytes than each part of a line has: its turns, its images, its counts, and a stretch in which a frame was
+/// shared.
 const LONGEST_PART: usize = 768;
 
 /// Appends the slot of a life and the lines of its turns. Here and below, `Memory` if memory cannot be had.
@@ -233,22 +235,24 @@ fn push_summary_end(
     Ok(())
 }
 
-/// Makes the text of the lives in a trace, given the numbers of its calls and of those that were refused or rejected, and the
-/// attempts at pages of VMs.
+/// Makes the text of the lives in a trace, or in several volumes of one, given the numbers of its calls and of those
+/// that were refused or rejected, and the attempts at pages of VMs.
 pub fn summary_text(
     alloc: Global,
     heading: &Heading,
     config: &Config,
+    volumes: &[VolumeEntry],
     calls: usize,
     refused: usize,
     attempts: &[Attempt],
     lives: &[Life],
 ) -> Result<Vec<u8>, Memory>
     requires { AreInOrder attempts.now }
-    ensures { IfOk result (λ text. text.items ≡ summary_text_of heading.now config.now calls refused attempts.now lives.now) }
+    ensures { IfOk result (λ text. text.items ≡ summary_text_of heading.now config.now volumes.now calls refused attempts.now lives.now) }
 {
     let mut text = Vec::new(alloc);
     push_summary_header(&mut text, heading, config)?;
+    push_volumes(&mut text, volumes)?;
     push_lives(alloc, &mut text, heading.is_unseen, attempts, lives)?;
     push_summary_end(&mut text, calls, lives.len(), refused)?;
     Ok(text)

@@ -5,6 +5,8 @@ use kc_args::{Action, Job, Start};
 #[derive(Clone, Copy, Debug, PartialEq, Eq)]
 pub enum Kind {
     Trace,
+    /// A trace that is a volume after the input.
+    Volume,
     Dump,
     Config,
     /// A state in which calls begin.
@@ -17,7 +19,7 @@ impl Kind {
     /// The kind's name.
     pub fn word(self) -> &'static str {
         match self {
-            Kind::Trace => "trace",
+            Kind::Trace | Kind::Volume => "trace",
             Kind::Dump => "dump",
             Kind::Config => "configuration",
             Kind::State | Kind::Compared => "state",
@@ -28,7 +30,7 @@ impl Kind {
     pub fn is_input(self) -> bool {
         match self {
             Kind::Trace | Kind::Dump => true,
-            Kind::Config | Kind::State | Kind::Compared => false,
+            Kind::Volume | Kind::Config | Kind::State | Kind::Compared => false,
         }
     }
 
@@ -36,7 +38,7 @@ impl Kind {
     /// 65,536 frames has about 8 MB.
     pub fn kept(self) -> usize {
         match self {
-            Kind::Trace | Kind::State => 64,
+            Kind::Trace | Kind::Volume | Kind::State => 64,
             Kind::Dump => 16_777_216,
             Kind::Config => 65_536,
             Kind::Compared => 0,
@@ -50,13 +52,15 @@ pub struct Asked<'a> {
     /// What the input is.
     pub kind: Kind,
     input: Option<&'a str>,
+    /// The files of the volumes after the input.
+    after: &'a [&'a str],
     start: Start<'a>,
     pub explain: bool,
 }
 
 impl<'a> Asked<'a> {
-    /// What this job asks for.
-    pub fn of(job: &Job<'a>) -> Asked<'a> {
+    /// What this job asks for, with the files of the volumes after its input.
+    pub fn of(job: &Job<'a>, after: &'a [&'a str]) -> Asked<'a> {
         let (kind, start) = match job.action {
             Action::Replay { start, .. }
             | Action::Custody { start, .. }
@@ -68,6 +72,7 @@ impl<'a> Asked<'a> {
         Asked {
             kind,
             input: job.input,
+            after,
             start,
             explain: job.explain,
         }
@@ -86,6 +91,8 @@ impl<'a> Asked<'a> {
             self.kind
         } else if self.start == Start::State(path) {
             Kind::State
+        } else if self.after.contains(&path) {
+            Kind::Volume
         } else {
             Kind::Compared
         }

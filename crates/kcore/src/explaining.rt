@@ -21,8 +21,10 @@ const TOO_LONG: &str = "it has more than 1073741824 bytes";
 pub struct Reading<'a> {
     /// The files that were given back.
     files: &'a [Named<'a>],
-    /// The trace or dump.
+    /// The trace or dump, or the volume that is refused.
     input: &'a Named<'a>,
+    /// Whether it is one of several volumes.
+    is_volume: bool,
 }
 
 /// Why something can't be read.
@@ -184,14 +186,27 @@ fn explain_trace_line<S: Source + Drop>(rt: &HostRuntime, noted: &Noted<S>, faul
 }
 
 impl<'a> Reading<'a> {
-    /// Gathers the files that were given back, and standard input.
-    pub fn of(files: &'a Folder<'a>, standard: &'a Named<'a>) -> Reading<'a> {
+    /// Gathers the files that were given back, and standard input; the volume of this number is refused, if there are
+    /// several and one is.
+    pub fn of(
+        files: &'a Folder<'a>,
+        standard: &'a Named<'a>,
+        volume: Option<usize>,
+    ) -> Reading<'a> {
         let files = files.read.as_slice();
+        let is_after = volume.unwrap_or(1) > 1;
         let input = files
             .iter()
-            .find(|file| file.kind.is_input())
+            .find(|file| match file.kind {
+                Kind::Volume => is_after,
+                kind => kind.is_input() && !is_after,
+            })
             .unwrap_or(standard);
-        Reading { files, input }
+        Reading {
+            files,
+            input,
+            is_volume: volume.is_some(),
+        }
     }
 
     /// The file of this kind, if one was read.
@@ -264,6 +279,11 @@ impl<'a> Reading<'a> {
             TraceFault::BadLine(_) | TraceFault::NoNewline => match self.again(rt) {
                 Some(noted) => explain_trace_line(rt, &noted, fault),
                 None => explain_trace_line(rt, &self.input.source, fault),
+            },
+            TraceFault::TooManyCalls if self.is_volume => {
+                let _ = eprintln!(rt;
+                    "  a volume has up to 65536 calls, and the volumes of one run have up to 67108864"
+                );
             },
             TraceFault::TooManyCalls => {
                 let _ = eprintln!(rt;

@@ -80,7 +80,8 @@ impl<'a> Source for Named<'a> {
     }
 }
 
-/// The files of the system. Those that were read are kept to explain a fault.
+/// The files of the system. Those that were read are kept to explain a fault, but of the volumes after the input only
+/// the last: there may be more than files may be open.
 #[derive(Drop)]
 pub struct Folder<'a> {
     rt: &'a HostRuntime,
@@ -137,7 +138,7 @@ impl<'a> Folder<'a> {
     ) -> Named<'a>
         ensures { result.source.inner.inner.inner ≡ opened }
     {
-        let is_shown = kind == self.asked.kind
+        let is_shown = (kind == self.asked.kind || kind == Kind::Volume)
             && self.rt.stderr().is_terminal()
             && !self.rt.stdout().is_terminal();
         let progress = if is_shown { Some(self.progress) } else { None };
@@ -146,7 +147,7 @@ impl<'a> Folder<'a> {
         let alloc = self.rt.alloc();
         let source = if !self.asked.explain {
             Noted::with_head(alloc, shown, 0)
-        } else if kind == Kind::Trace && !is_regular {
+        } else if kind.word() == Kind::Trace.word() && !is_regular {
             Noted::with_lines(alloc, shown, kind.kept())
         } else {
             Noted::with_head(alloc, shown, kind.kept())
@@ -190,6 +191,12 @@ impl<'a> Files for Folder<'a> {
     }
 
     fn close(&mut self, file: Named<'a>) {
+        if file.kind == Kind::Volume
+            && let Some(last) = self.read.iter_mut().find(|it| it.kind == Kind::Volume)
+        {
+            *last = file;
+            return;
+        }
         // If memory cannot be had, nothing is kept to explain a fault.
         let _ = self.read.push(file);
     }

@@ -12,7 +12,7 @@ use crate::asked::Asked;
 use crate::denials::{explain_default, explain_denials};
 use crate::explaining::{Reading, explain_arguments, explain_open};
 use crate::folder::{Folder, Named};
-use kc_args::{ArgFault, Job, job_of};
+use kc_args::{ArgFault, Request, request_of};
 use kc_cli::{Answered, Lanes, Std, TextFault, tell};
 use kc_explain::{Erasing, Progress};
 use kc_run::{Exit, System, run_job};
@@ -40,7 +40,7 @@ fn explain_exit(rt: &HostRuntime, files: &Folder<'_>, input: &Named<'_>, exit: &
     let Some(fault) = &exit.fault else { return };
     match &files.refused {
         Some(path) => explain_open(rt, path.as_str(), files.why),
-        None => Reading::of(files, input).explain(rt, fault),
+        None => Reading::of(files, input, exit.volume).explain(rt, fault),
     }
 }
 
@@ -58,10 +58,10 @@ fn explain_answered(rt: &HostRuntime, asked: &Asked<'_>, answered: &Answered) {
 fn run_with<'a, R: Threads + Wait + Sync>(
     rt: &'a HostRuntime,
     threads: &'a R,
-    job: Job<'a>,
+    request: &'a Request<'a>,
     lanes: Lanes,
 ) -> u8 {
-    let mut asked = Asked::of(&job);
+    let mut asked = Asked::of(&request.job, &request.after);
     let is_told = asked.explain;
     asked.explain = asked.explain || rt.stderr().is_terminal();
     let _standing_in = stand_in(rt);
@@ -75,12 +75,20 @@ fn run_with<'a, R: Threads + Wait + Sync>(
         alloc: rt.alloc(),
         lanes,
     };
-    let exit = run_job(&system, &mut files, job, &mut input, &mut out, &mut err);
+    let exit = run_job(
+        &system,
+        &mut files,
+        request.job,
+        &request.after,
+        &mut input,
+        &mut out,
+        &mut err,
+    );
     progress.erase();
     if asked.explain {
         explain_exit(rt, &files, &input, &exit);
         if let Some(line) = exit.difference {
-            Reading::of(&files, &input).explain_difference(rt, line);
+            Reading::of(&files, &input, None).explain_difference(rt, line);
         }
     }
     if let Some(answered) = &exit.answered
@@ -149,8 +157,8 @@ fn run<R: Threads + Wait + Sync>(rt: &HostRuntime, threads: &R) -> u8 {
     else {
         return fail(rt, TextFault::Memory);
     };
-    match job_of(rt.alloc(), texts.as_slice()) {
-        Ok(job) => run_with(rt, threads, job, lanes),
+    match request_of(rt.alloc(), texts.as_slice()) {
+        Ok(request) => run_with(rt, threads, &request, lanes),
         Err(fault) => refuse(rt, texts.as_slice(), fault),
     }
 }

@@ -1,0 +1,230 @@
+-- What is kept of traces that are read one after another is of all their calls, and so is what is written.
+use Rattle.std.proofs.Common.{ℕ, ◌≡◌, ◌≤◌, ◌<◌, ◌+◌, ◌^◌, ◌++◌, All, zero, suc, get_or, Bool, List, [], ◌∷◌, length, length-append, map, take, Option, Some, None, refl, ap, sym, ◌∙◌, subst, arith, append_assoc}
+use Rattle.std.proofs.lemmas.List.{append-nil}
+use Rattle.std.specs.Prelude.{IfSome, option_map}
+use Rattle.std.specs.Io.KnownBytes.{Appends}
+use Rattle.kc_types.specs.Limits.{call_limit}
+use Rattle.kc_types.specs.declared.call.Call.{Call}
+use Rattle.kc_model.specs.State.{State}
+use Rattle.kc_model.specs.Lawful.{IsLawful}
+use Rattle.kc_model.specs.Next.{replies_from}
+use Rattle.kc_model.specs.Custody.{first_line}
+use Rattle.kc_remarks.specs.Remarks.{notes}
+use Rattle.kc_remarks.specs.Denials.{Counts, IsAnsweredBy}
+use Rattle.kc_remarks.specs.declared.denials.Denials.{Denials}
+use Rattle.kc_remarks.specs.declared.denials.Answered.{Answered}
+use Rattle.kc_trace.specs.CustodyText.{AreInLine}
+use Rattle.kc_trace.specs.Trace.{IsTrace}
+use Rattle.kc_trace.specs.declared.volume_writer.VolumeEntry.{VolumeEntry}
+use Rattle.kc_trace.specs.declared.custody_writer.Heading.{Heading}
+use Rattle.kc_faults.specs.declared.origin.Origin.{Origin}
+use Rattle.kc_faults.specs.Origins.{BeginsIn}
+use Rattle.kc_texts.specs.Written.{Writes, Begins}
+use Rattle.kc_cli.specs.declared.account.Told.{Told}
+use Rattle.kc_cli.specs.declared.custody.CustodyOrder.{CustodyOrder}
+use Rattle.kc_cli.specs.declared.custody.CustodyAccount.{CustodyAccount}
+use Rattle.kc_cli.specs.Answers.{AreAllAnswered}
+use Rattle.kc_cli.specs.Custody.{joined, AreVolumes, AreEntries, HasDigest, IsCustodyText, IsAccount, names_trace, names_start, heading_of, listed, trace_digest}
+use Rattle.kc_trace.specs.declared.custody_writer.Digests.{Digests}
+use Rattle.kc_cli.specs.declared.account.Scope.{Scope}
+use Rattle.kc_cli.specs.Headings.{digests_by, heading_by}
+use Rattle.kc_cli.specs.declared.account.CustodyForm.{CustodyForm}
+use Rattle.kc_cli.specs.declared.ledger.Ledger.{Ledger}
+use Rattle.kc_types.specs.declared.custody.Event.{Event}
+use Rattle.kc_custody.specs.Within.{IsWithin}
+use Rattle.kc_custody.proofs.Traced.{before-within, events-within}
+use Rattle.kc_remarks.proofs.Events.{events-of-notes}
+use Rattle.kc_cli.specs.Ledgers.{HasKept, Keeps, events_kept, IsGiven, GivesAccount, BeginsAccount}
+use Rattle.kc_cli.specs.Volumes.{known, HasTold}
+use Rattle.kc_cli.proofs.Counted.{answered_by}
+use Rattle.kc_cli.proofs.Headings.{headed}
+use Rattle.kc_cli.proofs.Ledgers.{account_given, kept_within}
+use Rattle.kc_cli.proofs.Told.{is_told}
+
+-- one volume more
+pub joined_last : (volumes : List (List Call)) (calls : List Call) → joined (volumes ++ calls ∷ []) ≡ joined volumes ++ calls
+joined_last [] calls = append-nil calls
+joined_last (one ∷ volumes) calls = ap (λ (more : List Call). one ++ more) (joined_last volumes calls) ∙ sym (append_assoc one (joined volumes) calls)
+
+pub volumes_last : (sources : List (Option (List ℕ))) (volumes : List (List Call)) (source : Option (List ℕ)) (calls : List Call) → AreVolumes sources volumes → IfSome source (λ text. IsTrace text calls) → length calls ≤ call_limit
+    → AreVolumes (sources ++ source ∷ []) (volumes ++ calls ∷ [])
+volumes_last [] [] source calls are traced few = (traced, few, tt)
+volumes_last [] (one ∷ volumes) source calls are traced few = absurd are
+volumes_last (one ∷ sources) [] source calls are traced few = absurd are
+volumes_last (one ∷ sources) (some ∷ volumes) source calls are traced few = (are.0, are.1, volumes_last sources volumes source calls are.2 traced few)
+
+pub entries_last : (named : Bool) (line : ℕ) (sources : List (Option (List ℕ))) (volumes : List (List Call)) (entries : List VolumeEntry) (source : Option (List ℕ)) (calls : List Call) (entry : VolumeEntry) → AreEntries named line sources volumes entries
+    → entry.line ≡ line + length (joined volumes) → entry.calls ≡ length calls → HasDigest named source entry.digest → AreEntries named line (sources ++ source ∷ []) (volumes ++ calls ∷ []) (entries ++ entry ∷ [])
+entries_last named line [] [] [] source calls entry are at long digest = (let here : entry.line ≡ line = omega (arith, at) in here, long, digest, tt)
+entries_last named line [] [] (e ∷ entries) source calls entry are at long digest = absurd are
+entries_last named line [] (v ∷ volumes) entries source calls entry are at long digest = absurd are
+entries_last named line (s ∷ sources) [] entries source calls entry are at long digest = absurd are
+entries_last named line (s ∷ sources) (v ∷ volumes) [] source calls entry are at long digest = absurd are
+entries_last named line (s ∷ sources) (v ∷ volumes) (e ∷ entries) source calls entry are at long digest =
+    let both = length-append v (joined volumes) in
+    let after : entry.line ≡ (line + length v) + length (joined volumes) = omega (arith, at, both) in
+    (are.0, are.1, are.2, entries_last named (line + length v) sources volumes entries source calls entry are.3 after long digest)
+
+-- one trace more was read
+pub read_more : (order : CustodyOrder) (old new : CustodyAccount) (m : State) (sources : List (Option (List ℕ))) (source : Option (List ℕ)) (calls : List Call) (entry : VolumeEntry) → HasTold order old m sources → new.order ≡ old.order
+    → IfSome source (λ text. IsTrace text calls) → length calls ≤ call_limit → new.kept.line ≡ old.kept.line + length calls
+    → ((before : List Call) → HasKept order.form m before old.core old.kept → HasKept order.form m (before ++ calls) new.core new.kept)
+    → new.entries.items ≡ old.entries.items ++ entry ∷ [] → entry.line ≡ old.kept.line → entry.line + entry.calls ≡ new.kept.line → HasDigest (names_trace order.scope.named) source entry.digest
+    → length old.entries.items + 1 < 2 ^ 32 → HasTold order new m (sources ++ source ∷ [])
+read_more order old new m sources source calls entry h same traced few at more pushed begins ends digest room = record {
+  ordered = same ∙ h.ordered;
+  lawful = h.lawful;
+  volumes = h.volumes ++ calls ∷ [];
+  traced = volumes_last sources h.volumes source calls h.traced traced few;
+  entries = subst (λ (entries : List VolumeEntry). AreEntries (names_trace order.scope.named) first_line (sources ++ source ∷ []) (h.volumes ++ calls ∷ []) entries) (sym pushed)
+      (entries_last (names_trace order.scope.named) first_line sources h.volumes old.entries.items source calls entry h.entries
+      (begins ∙ h.kept.line) (let long : entry.calls ≡ length calls = omega (arith, begins, ends, at) in long) digest);
+  counted = (let long = ap length pushed ∙ length-append old.entries.items (entry ∷ []) in omega (arith, long, room));
+  kept = subst (λ (all : List Call). HasKept order.form m all new.core new.kept) (sym (joined_last h.volumes calls)) (more (joined h.volumes) h.kept);
+}
+
+-- texts that are known are those of the sources
+one_known : (one : List ℕ) (rest : Option (List (List ℕ))) (sources : List (Option (List ℕ))) → ((more : List (List ℕ)) → rest ≡ Some more → sources ≡ map Some more)
+    → (texts : List (List ℕ)) → option_map (λ more. one ∷ more) rest ≡ Some texts → Some one ∷ sources ≡ map Some texts
+one_known one None sources others texts same = absurd cc
+one_known one (Some more) sources others [] same = absurd cc
+one_known one (Some more) sources others (text ∷ texts) same =
+    let first : one ≡ text = cc in
+    let rest : more ≡ texts = cc in
+    rw (first, others more refl, rest) refl
+
+known_are : (sources : List (Option (List ℕ))) (texts : List (List ℕ)) → known sources ≡ Some texts → sources ≡ map Some texts
+known_are [] [] same = refl
+known_are [] (text ∷ texts) same = absurd cc
+known_are (None ∷ sources) texts same = absurd cc
+known_are (Some one ∷ sources) texts same = one_known one (known sources) sources (λ more is. known_are sources more is) texts same
+
+-- no volume begins before the first one
+not_before : (named : Bool) (line : ℕ) (sources : List (Option (List ℕ))) (volumes : List (List Call)) (entries : List VolumeEntry) → AreEntries named line sources volumes entries
+    → (j : ℕ) (d : VolumeEntry) → j < length entries → line ≤ (get_or entries j d).line
+not_before named line [] [] [] are j d lt = absurd (omega (arith, lt))
+not_before named line [] [] (e ∷ entries) are j d lt = absurd are
+not_before named line [] (v ∷ volumes) entries are j d lt = absurd are
+not_before named line (s ∷ sources) [] entries are j d lt = absurd are
+not_before named line (s ∷ sources) (v ∷ volumes) [] are j d lt = absurd are
+not_before named line (s ∷ sources) (v ∷ volumes) (e ∷ entries) are zero d lt = let at = are.0 in omega (arith, at)
+not_before named line (s ∷ sources) (v ∷ volumes) (e ∷ entries) are (suc j) d lt =
+    let rest = not_before named (line + length v) sources volumes entries are.3 j d (omega (arith, lt)) in
+    omega (arith, rest)
+
+-- volumes begin on lines that do not descend
+one_in_line : (e : VolumeEntry) (entries : List VolumeEntry) → ((j : ℕ) (d : VolumeEntry) → j < length entries → e.line ≤ (get_or entries j d).line) → AreInLine entries
+    → (i j : ℕ) (d : VolumeEntry) → i ≤ j → j < length (e ∷ entries) → (get_or (e ∷ entries) i d).line ≤ (get_or (e ∷ entries) j d).line
+one_in_line e entries first rest zero zero d le lt = omega arith
+one_in_line e entries first rest zero (suc j) d le lt = first j d (omega (arith, lt))
+one_in_line e entries first rest (suc i) zero d le lt = absurd (omega (arith, le))
+one_in_line e entries first rest (suc i) (suc j) d le lt = rest i j d (omega (arith, le)) (omega (arith, lt))
+
+pub in_line : (named : Bool) (line : ℕ) (sources : List (Option (List ℕ))) (volumes : List (List Call)) (entries : List VolumeEntry) → AreEntries named line sources volumes entries → AreInLine entries
+in_line named line [] [] [] are = λ i j d le lt. absurd (omega (arith, lt))
+in_line named line [] [] (e ∷ entries) are = absurd are
+in_line named line [] (v ∷ volumes) entries are = absurd are
+in_line named line (s ∷ sources) [] entries are = absurd are
+in_line named line (s ∷ sources) (v ∷ volumes) [] are = absurd are
+in_line named line (s ∷ sources) (v ∷ volumes) (e ∷ entries) are =
+    let after = not_before named (line + length v) sources volumes entries are.3 in
+    let first : (j : ℕ) (d : VolumeEntry) → j < length entries → e.line ≤ (get_or entries j d).line =
+    λ j d lt. (let at = are.0 in let more = after j d lt in omega (arith, at, more)) in
+    one_in_line e entries first (in_line named (line + length v) sources volumes entries are.3)
+
+pub listed_in_line : (entries : List VolumeEntry) → AreInLine entries → AreInLine (listed entries)
+listed_in_line [] is = is
+listed_in_line (e ∷ []) is = λ i j d le lt. absurd (omega (arith, lt))
+listed_in_line (e ∷ f ∷ entries) is = is
+
+-- an account before its first trace
+pub none_told : (order : CustodyOrder) (account : CustodyAccount) → IsLawful account.core → account.order ≡ order → account.entries.items ≡ [] → HasKept order.form account.core [] account.core account.kept → HasTold order account account.core []
+none_told order account lawful ordered none kept = record {
+  ordered = ordered;
+  lawful = lawful;
+  volumes = [];
+  traced = tt;
+  entries = subst (λ (entries : List VolumeEntry). AreEntries (names_trace order.scope.named) first_line [] [] entries) (sym none) tt;
+  counted = (let long = ap length none in omega (arith, long));
+  kept = kept;
+}
+
+-- what is kept is of frames and slots that there are
+pub kept_is_within : (form : CustodyForm) (m : State) (calls : List Call) (ledger : Ledger) → Keeps form m (notes m calls) ledger → All (IsWithin m.config.frames) (events_kept ledger)
+kept_is_within form m calls ledger kept =
+    kept_within m.config.frames form m (notes m calls) ledger kept (before-within m) (subst (λ (events : List Event). All (IsWithin m.config.frames) events) (sym (events-of-notes m calls)) (events-within first_line m calls))
+
+pub listed_short : (entries : List VolumeEntry) → length (listed entries) ≤ length entries
+listed_short [] = omega arith
+listed_short (e ∷ []) = omega arith
+listed_short (e ∷ f ∷ entries) = omega arith
+
+-- the heading is made of its parts
+pub heading_so : (scope : Scope) (origin : Origin) (start : Option (List ℕ)) (entries : List VolumeEntry) (digests : Option Digests) (count : ℕ) → digests ≡ digests_by scope.named origin start (trace_digest entries) → count ≡ length (listed entries)
+    → (◌≡◌ {A = Heading} (record { digests = digests; is_unseen = scope.is_unseen; volumes = count }) (heading_by scope origin start entries))
+heading_so scope origin start entries digests count same long = rw (same, long) refl
+
+-- what was kept of the sources, as it is given
+pub record IsToldOf (account : CustodyAccount) (m : State) (calls : List Call) (told : Told) : Type 0 where
+  pub config : told.config ≡ m.config
+  pub heading : told.heading ≡ heading_by account.order.scope account.order.origin account.start account.entries.items
+  pub listed_are : told.volumes.items ≡ listed account.entries.items
+  pub count : told.answered.calls ≡ length calls
+  pub denials : told.answered.denials ≡ account.kept.denials
+  pub ledger : told.ledger ≡ account.kept.ledger
+
+text_of : (order : CustodyOrder) (account : CustodyAccount) (m : State) (start : List ℕ) (sources : List (Option (List ℕ))) (texts : List (List ℕ)) (told : Told) (text : List ℕ) (h : HasTold order account m sources) → IsToldOf account m (joined h.volumes) told
+    → known sources ≡ Some texts → BeginsIn order.origin start m → HasDigest (names_start order.scope.named) (Some start) account.start → IsGiven order.scope.vm told.heading told.config told.volumes.items told.answered.calls told.answered.denials.total told.ledger text
+    → IsCustodyText order.origin order.form order.scope start texts text
+text_of order account m start sources texts told text h is all begins digest given =
+    let same = known_are sources texts all in
+    let calls = joined h.volumes in
+    let heading = is.heading ∙ ap (λ (o : CustodyOrder). heading_by o.scope o.origin account.start account.entries.items) h.ordered ∙ headed order.scope order.origin start account.start account.entries.items digest in
+    let total = ap (λ (denials : Denials). denials.total) is.denials in
+    record {
+      first = m;
+      begins = begins;
+      volumes = h.volumes;
+      traced = rw same at h.traced;
+      entries = account.entries.items;
+      named = rw same at h.entries;
+      count = told.answered.calls;
+      refused = told.answered.denials.total;
+      told = notes m calls;
+      custody = is_told m calls told.answered.calls told.answered.denials.total h.lawful is.count (total ∙ h.kept.denied);
+      account = account_given order.form order.scope.vm (heading_of order.scope order.origin start account.entries.items) m (listed account.entries.items) told.answered.calls told.answered.denials.total (notes m calls) account.kept.ledger text h.kept.ledger
+          (rw (is.config, heading, is.listed_are, is.ledger) at given);
+    }
+
+-- what the sink took of it is the text of all, if they are known
+pub gives_custody : (order : CustodyOrder) (account : CustodyAccount) (m : State) (start : Option (List ℕ)) (sources : List (Option (List ℕ))) (told : Told) (old new : Option (List ℕ)) (h : HasTold order account m sources) → IsToldOf account m (joined h.volumes) told
+    → IfSome start (λ text. BeginsIn order.origin text m) → HasDigest (names_start order.scope.named) start account.start → GivesAccount account.order.scope.vm told old new → Writes (IsCustodyText order.origin order.form order.scope) start (known sources) old new
+gives_custody order account m None sources told old new h is begins digest given = tt
+gives_custody order account m (Some start) sources told old new h is begins digest given =
+    by_texts (known sources) (λ texts all. text_of order account m start sources texts told given.0 h is all begins digest (subst (λ (o : CustodyOrder). IsGiven o.scope.vm told.heading told.config told.volumes.items told.answered.calls told.answered.denials.total told.ledger given.0) h.ordered given.1))
+  where
+    by_texts : (texts : Option (List (List ℕ))) → ((some : List (List ℕ)) → texts ≡ Some some → IsCustodyText order.origin order.form order.scope start some given.0) → Writes (IsCustodyText order.origin order.form order.scope) (Some start) texts old new
+    by_texts None made = tt
+    by_texts (Some texts) made = (given.0, made texts refl, given.2)
+
+pub begins_custody : (order : CustodyOrder) (account : CustodyAccount) (m : State) (start : Option (List ℕ)) (sources : List (Option (List ℕ))) (told : Told) (old new : Option (List ℕ)) (h : HasTold order account m sources) → IsToldOf account m (joined h.volumes) told
+    → IfSome start (λ text. BeginsIn order.origin text m) → HasDigest (names_start order.scope.named) start account.start → BeginsAccount account.order.scope.vm told old new → Begins (IsCustodyText order.origin order.form order.scope) start (known sources) old new
+begins_custody order account m None sources told old new h is begins digest given = tt
+begins_custody order account m (Some start) sources told old new h is begins digest given =
+    by_texts (known sources) (λ texts all. text_of order account m start sources texts told given.0 h is all begins digest (subst (λ (o : CustodyOrder). IsGiven o.scope.vm told.heading told.config told.volumes.items told.answered.calls told.answered.denials.total told.ledger given.0) h.ordered given.2))
+  where
+    by_texts : (texts : Option (List (List ℕ))) → ((some : List (List ℕ)) → texts ≡ Some some → IsCustodyText order.origin order.form order.scope start some given.0) → Begins (IsCustodyText order.origin order.form order.scope) (Some start) texts old new
+    by_texts None made = tt
+    by_texts (Some texts) made = (given.0, given.1, made texts refl, given.3)
+
+-- the counts are of all calls
+pub all_answered : (order : CustodyOrder) (account : CustodyAccount) (m : State) (start : Option (List ℕ)) (sources : List (Option (List ℕ))) (answered : Answered) (h : HasTold order account m sources) → answered.calls ≡ length (joined h.volumes) → answered.denials ≡ account.kept.denials
+    → IfSome start (λ text. BeginsIn order.origin text m) → AreAllAnswered order.origin start (known sources) answered
+all_answered order account m None sources answered h count denials begins = tt
+all_answered order account m (Some start) sources answered h count denials begins =
+    by_texts (known sources) (λ texts all. rw (known_are sources texts all) at h.traced)
+    (answered_by m (joined h.volumes) answered count (subst (λ (counted : Denials). Counts (replies_from m (joined h.volumes)) counted) (sym denials) h.kept.counted))
+  where
+    by_texts : (texts : Option (List (List ℕ))) → ((some : List (List ℕ)) → texts ≡ Some some → AreVolumes (map Some some) h.volumes) → IsAnsweredBy (replies_from m (joined h.volumes)) answered → AreAllAnswered order.origin (Some start) texts answered
+    by_texts None traced counted = tt
+    by_texts (Some texts) traced counted = (m, begins, h.volumes, traced texts refl, counted)

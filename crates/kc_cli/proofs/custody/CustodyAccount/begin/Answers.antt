@@ -1,0 +1,9 @@
+use Rattle.std.proofs.Common.{Err, ap, refl}
+use Rattle.std.proofs.lemmas.Result.{err_from_is_err_and}
+use Rattle.kc_faults.proofs.Told.{texts_start, texts_ok}
+use Rattle.kc_cli.proofs.custody.CustodyAccount.begin.Goals as goal
+
+pub returns-in_err-begun-clause-texts : goal.returns-in_err-begun-clause-texts
+returns-in_err-begun-clause-texts g c =
+    let made = err_from_is_err_and c.from_residual.result c.from_residual.ensures.1 in
+    λ trace. rw (made.1, made.2) (texts_start _ _ _ _ c.in_err-begun.field-0.0 (λ said same. c.in_err-begun.ensures.config said (ap Err same)) (λ said same. c.in_err-begun.ensures.state said (ap Err same)) c.in_err-begun.ensures.fault tt)

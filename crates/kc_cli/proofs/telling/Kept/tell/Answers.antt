@@ -1,0 +1,95 @@
+use Rattle.std.proofs.Common.{◌≡◌, ◌≤◌, ◌+◌, ◌++◌, [], List, length, length-append, ap, sym, ◌∙◌, subst, rules, arith}
+use Rattle.std.proofs.lemmas.List.{append-nil}
+use Rattle.kc_types.specs.declared.call.Call.{Call}
+use Rattle.kc_cli.specs.Ledgers.{HasKept}
+use Rattle.kc_cli.proofs.Told.{kept_after}
+use Rattle.kc_cli.proofs.telling.Kept.tell.Goals as goal
+
+pub loop-part-init : goal.loop-part-init
+loop-part-init g c = record {
+  read = (
+    [],
+    [],
+    c.stream_of-stream.ensures.none (g.T.Source.left c.args.trace.now),
+    omega arith,
+    omega arith,
+    λ form start before h. subst (λ (calls : List Call). HasKept form start calls c.args.core.now c.args.self.now) (sym (append-nil before)) h,
+  );
+  hashed = c.stream_of-stream.ensures.hashed;
+  few = search rules;
+  mark = c.requires.trace;
+}
+
+pub note-requires-clause-lines : goal.note-requires-clause-lines
+note-requires-clause-lines g c =
+    let before = c.loop-part.invariant.read in
+    let more = c.in_ok-part.ensures.calls before.0 before.1 (g.T.Source.left c.args.trace.now) before.2 in
+    let few = more.1.few in
+    let long = length-append before.1 c.in_ok-part.part.calls.items in
+    let at = before.3 in
+    let same = ap length c.deref.ensures.value in
+    let room = c.requires.lines in
+    omega (arith, few, long, at, same, room)
+
+pub note-requires-clause-counts : goal.note-requires-clause-counts
+note-requires-clause-counts g c =
+    let before = c.loop-part.invariant.read in
+    let more = c.in_ok-part.ensures.calls before.0 before.1 (g.T.Source.left c.args.trace.now) before.2 in
+    let few = more.1.few in
+    let long = length-append before.1 c.in_ok-part.part.calls.items in
+    let denied = before.4 in
+    let same = ap length c.deref.ensures.value in
+    let room = c.requires.lines in
+    let counts = c.requires.counts in
+    omega (arith, few, long, denied, same, room, counts)
+
+pub loop-part-preserved : goal.loop-part-preserved
+loop-part-preserved g c =
+    let before = c.loop-part.invariant.read in
+    let more = c.in_ok-part.ensures.calls before.0 before.1 (g.T.Source.left c.args.trace.now) before.2 in
+    let calls = c.in_ok-part.part.calls.items in
+    let long = length-append before.1 calls in
+    let at = before.3 in
+    let few = before.4 in
+    let same = ap length c.deref.ensures.value in
+    let noted = c.in-Ok.ensures.few in
+    record {
+      read = (
+        before.0 ++ more.0,
+        before.1 ++ calls,
+        more.1,
+        omega (arith, long, at),
+        omega (arith, long, few, same, noted),
+        λ form start first h. kept_after form start first before.1 calls c.loop-part.core _ c.loop-part.self _ (before.5 form start first h) ((rw c.deref.ensures.value at c.in-Ok.ensures.kept) form start)
+            (rw c.deref.ensures.value at c.in-Ok.ensures.state) (rw c.deref.ensures.value at c.in-Ok.ensures.denied) (omega (arith, same, noted)) (rw c.deref.ensures.value at c.in-Ok.ensures.counted) (omega arith),
+      );
+      hashed = λ asked. c.in_ok-part.ensures.hashed ∙ c.loop-part.invariant.hashed asked;
+      few = c.in_ok-part.ensures.few;
+      mark = c.in_ok-part.ensures.mark;
+    }
+
+pub digest_of-digest-requires : goal.digest_of-digest-requires
+digest_of-digest-requires g c = λ asked. c.in_ok-part.ensures.hashed ∙ c.loop-part.invariant.hashed asked
+
+pub returns-in-Ok-finish-clause-digest : goal.returns-in-Ok-finish-clause-digest
+returns-in-Ok-finish-clause-digest g c =
+    let before = c.loop-part.invariant.read in
+    let more = c.in_ok-part.ensures.calls before.0 before.1 (g.T.Source.left c.args.trace.now) before.2 in
+    c.digest_of-digest.ensures _ _ _ _ more.1 (c.in_ok-part.ensures.last c.if-part.true)
+
+pub returns-in-Ok-finish-clause-ok : goal.returns-in-Ok-finish-clause-ok
+returns-in-Ok-finish-clause-ok g c =
+    let before = c.loop-part.invariant.read in
+    let more = c.in_ok-part.ensures.calls before.0 before.1 (g.T.Source.left c.args.trace.now) before.2 in
+    let calls = c.in_ok-part.part.calls.items in
+    let long = length-append before.1 calls in
+    let at = before.3 in
+    let same = ap length c.deref.ensures.value in
+    let noted = c.in-Ok.ensures.few in (
+      before.1 ++ calls,
+      c.in-Ok-finish.ensures.ok _ _ _ _ more.1 (c.in_ok-part.ensures.last c.if-part.true),
+      more.1.few,
+      omega (arith, long, at),
+      λ form start first h. kept_after form start first before.1 calls c.loop-part.core _ c.loop-part.self _ (before.5 form start first h) ((rw c.deref.ensures.value at c.in-Ok.ensures.kept) form start)
+          (rw c.deref.ensures.value at c.in-Ok.ensures.state) (rw c.deref.ensures.value at c.in-Ok.ensures.denied) (omega (arith, same, noted)) (rw c.deref.ensures.value at c.in-Ok.ensures.counted) (omega arith),
+    )

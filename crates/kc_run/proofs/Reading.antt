@@ -1,0 +1,260 @@
+-- How reading goes on over one volume after another.
+use Rattle.std.proofs.Common.{ℕ, suc, get_or, drop, take, ap₂, ◌≡◌, ◌≢◌, ◌<◌, ◌⊎◌, ◌+◌, ◌++◌, ◌∷◌, List, [], length, length-append, map, Option, Some, None, Result, Ok, Err, true, false, inl, inr, refl, ap, sym, ◌∙◌, subst, arith, append_assoc}
+use Rattle.std.specs.Prelude.{is_some, IfErr, IfSome}
+use Rattle.std.proofs.Math.Seq.{take-suc}
+use Rattle.std.proofs.lemmas.List.{map-append, append-nil, drop_more}
+use Rattle.std.specs.List.{AllByRecursion}
+use Rattle.std.specs.Io.KnownBytes.{IsAtEnd}
+use Rattle.kc_model.specs.State.{State}
+use Rattle.kc_trace.specs.declared.fault.TraceFault.{TraceFault}
+use Rattle.kc_trace.specs.declared.fault.TraceFault.TheVariants.{TooManyCalls}
+use Rattle.kc_trace.specs.Trace.{IsRefused}
+use Rattle.kc_texts.specs.Ends.{Seen, ReadFailed, HasFailedRead, HasFailed}
+use Rattle.kc_faults.specs.declared.fault.TextFault.{TextFault}
+use Rattle.kc_faults.specs.declared.fault.TextFault.TheVariants as texts
+use Rattle.kc_cli.specs.declared.custody.CustodyAccount.{CustodyAccount}
+use Rattle.kc_cli.specs.declared.custody.CustodyOrder.{CustodyOrder}
+use Rattle.kc_types.specs.declared.call.Call.{Call}
+use Rattle.kc_cli.specs.Custody.{joined, AreVolumes}
+use Rattle.kc_cli.specs.Engine.{IsReplayFault}
+use Rattle.kc_cli.specs.Volumes.{HasTold, IsFull}
+use Rattle.kc_run.specs.declared.ending.Ending.{Ending}
+use Rattle.kc_run.specs.declared.ending.Ending.TheVariants as endings
+use Rattle.kc_args.specs.Jobs.{Path}
+use Rattle.kc_run.specs.Opening.{Held, IsOpenFault}
+use Rattle.kc_run.specs.Custody.{had_by, held_by, AreAtEnd, IsVolumeRefused, ReadsOn, AreOpened}
+
+-- of two lists of sources
+failed_read_after : (xs ys : List Seen) → HasFailedRead ys → HasFailedRead (xs ++ ys)
+failed_read_after [] ys is = is
+failed_read_after (x ∷ xs) ys is = inr (failed_read_after xs ys is)
+
+failed_before_or_after : (xs ys : List Seen) → HasFailed (xs ++ ys) → HasFailed xs ⊎ HasFailed ys
+failed_before_or_after [] ys is = inr is
+failed_before_or_after (x ∷ xs) ys (inl is) = inl (inl is)
+failed_before_or_after (x ∷ xs) ys (inr is) = elim (failed_before_or_after xs ys is) [
+  | inl one ↦ inl (inr one)
+  | inr other ↦ inr other
+]
+
+at_end_both : (xs ys : List Seen) → AreAtEnd xs → AreAtEnd ys → AreAtEnd (xs ++ ys)
+at_end_both [] ys one other = other
+at_end_both (x ∷ xs) ys one other = (one.0, at_end_both xs ys one.1 other)
+
+pub had_both : (xs ys : List Seen) → had_by (xs ++ ys) ≡ had_by xs ++ had_by ys
+had_both xs ys = map-append (λ source. source.had) xs ys
+
+-- a volume that is refused after others is refused after all of them
+refused_after : (before : List (Option (List ℕ))) (xs ys : List Seen) (fault : TraceFault) → IsVolumeRefused (before ++ had_by xs) ys fault → IsVolumeRefused before (xs ++ ys) fault
+refused_after before xs ys fault is = record {
+  traces = xs ++ is.traces;
+  last = is.last;
+  split = ap (λ (more : List Seen). xs ++ more) is.split ∙ sym (append_assoc xs is.traces (is.last ∷ []));
+  volumes = is.volumes;
+  traced = subst (λ (held : List (Option (List ℕ))). AreVolumes held is.volumes) (append_assoc before (had_by xs) (had_by is.traces) ∙ ap (λ (more : List (Option (List ℕ))). before ++ more) (sym (had_both xs is.traces))) is.traced;
+  fault_is = is.fault_is;
+}
+
+-- reading goes on after what was read
+pub reads_then : (a b c : CustodyAccount) (refused : Option (List ℕ)) (xs ys : List Seen) (n k : ℕ) (r : Result (Option Ending) TextFault) → ReadsOn a b None xs n (Ok None) → ReadsOn b c refused ys k r → k ≡ n + length xs → ReadsOn a c refused (xs ++ ys) n r
+reads_then a b c refused xs ys n k r one more at = record {
+  told = λ e order m before h. subst (λ (held : List (Option (List ℕ))). HasTold order c m held) (append_assoc before (had_by xs) (had_by ys) ∙ ap (λ (rest : List (Option (List ℕ))). before ++ rest) (sym (had_both xs ys)))
+      (more.told e order m (before ++ had_by xs) (one.told refl order m before h));
+  same = λ e. more.same e ∙ one.same refl;
+  ended = λ e. at_end_both xs ys (one.ended refl) (more.ended e);
+  refuses = λ ending e order m before h.
+      (let is = more.refuses ending e order m (before ++ had_by xs) (one.told refl order m before h) in
+      let long = length-append xs ys in
+      let last = is.3 in
+      (is.0, is.1, is.2, omega (arith, long, last, at), refused_after before xs ys is.0 is.4));
+  read = λ e. elim (more.read e) [
+    | inl failed ↦ inl (failed_read_after xs ys failed)
+    | inr none ↦ inr none
+  ];
+  failed = λ bad. elim (failed_before_or_after xs ys bad) [
+    | inl before ↦ (let never = one.failed before in absurd cc)
+    | inr after ↦ more.failed after
+  ];
+  unopened = more.unopened;
+  fault = more.fault;
+  trace = more.trace;
+  started = more.started;
+}
+
+-- a volume is in the account
+pub volume_told : (old new : CustodyAccount) (source : Seen) (number : ℕ) → ((order : CustodyOrder) (m : State) (sources : List (Option (List ℕ))) → HasTold order old m sources → HasTold order new m (sources ++ source.had ∷ []))
+    → new.start ≡ old.start → IsAtEnd source.has → (source.failed ≡ true → ⊥) → ReadsOn old new None (source ∷ []) number (Ok None)
+volume_told old new source number told same ended whole = record {
+  told = λ e order m before h. told order m before h;
+  same = λ e. same;
+  ended = λ e. (ended, tt);
+  refuses = λ ending e. absurd cc;
+  read = λ e. absurd cc;
+  failed = λ bad. elim bad [
+    | inl is ↦ absurd (whole is)
+    | inr never ↦ absurd never
+  ];
+  unopened = λ e. absurd cc;
+  fault = tt;
+  trace = λ said e. cc;
+  started = λ e. cc;
+}
+
+-- a volume is refused
+pub volume_refused : (old new : CustodyAccount) (source : Seen) (number : ℕ) (fault : TraceFault) → (IfSome source.had (λ text. IsRefused text fault) × IsAtEnd source.has) ⊎ ((fault ≡ TooManyCalls) × IsFull old) → (source.failed ≡ true → ⊥)
+    → ReadsOn old new None (source ∷ []) number (Ok (Some (endings.Refused number fault)))
+volume_refused old new source number fault why whole = record {
+  told = λ e. absurd cc;
+  same = λ e. absurd cc;
+  ended = λ e. absurd cc;
+  refuses = λ ending e order m before h. (
+    fault,
+    number,
+    (let same : ending ≡ endings.Refused number fault = cc in same),
+    refl,
+    record {
+      traces = [];
+      last = source;
+      split = refl;
+      volumes = h.volumes;
+      traced = subst (λ (held : List (Option (List ℕ))). AreVolumes held h.volumes) (sym (append-nil before)) h.traced;
+      fault_is = elim why [
+        | inl is ↦ inl is
+        | inr full ↦ inr (full.0, (let line = h.kept.line in let more = full.1 in omega (arith, line, more)))
+      ];
+    },
+  );
+  read = λ e. absurd cc;
+  failed = λ bad. elim bad [
+    | inl is ↦ absurd (whole is)
+    | inr never ↦ absurd never
+  ];
+  unopened = λ e. absurd cc;
+  fault = tt;
+  trace = λ said e. cc;
+  started = λ e. cc;
+}
+
+-- reading it fails
+pub volume_failed : (old new : CustodyAccount) (source : Seen) (number : ℕ) (fault : TextFault) → (fault ≡ texts.Read → ReadFailed source.failed source.had source.has) → (source.failed ≡ true → fault ≡ texts.Read) → IsReplayFault fault
+    → ((said : TraceFault) → fault ≢ texts.Trace said) → fault ≢ texts.Start → ReadsOn old new None (source ∷ []) number (Err fault)
+volume_failed old new source number fault read bad is trace started = record {
+  told = λ e. absurd cc;
+  same = λ e. absurd cc;
+  ended = λ e. absurd cc;
+  refuses = λ ending e. absurd cc;
+  read = λ e. inl (inl (read (let same : fault ≡ texts.Read = cc in same)));
+  failed = λ some. elim some [
+    | inl one ↦ (let same = bad one in cc)
+    | inr never ↦ absurd never
+  ];
+  unopened = λ e. absurd cc;
+  fault = is;
+  trace = λ said e. trace said (let same : fault ≡ texts.Trace said = cc in same);
+  started = λ e. started (let same : fault ≡ texts.Start = cc in same);
+}
+
+-- the fault of a file that was not opened: out of memory, or the system refused this name
+abbrev pub Unopened : List ℕ → Option (List ℕ) → TextFault → Type 0
+Unopened name refused fault = ((fault ≡ texts.Memory) × (refused ≡ None)) ⊎ ((fault ≡ texts.Read) × (refused ≡ Some name))
+
+pub unopened : (path : Path) (refused : Option (List ℕ)) (fault : TextFault) → IsOpenFault (Some path) refused fault → Unopened path.now refused fault
+unopened path refused texts.Read h = inr (refl, h)
+unopened path refused texts.Memory h = inl (refl, h.0)
+unopened path refused texts.Write h = inl (h.1, h.0)
+unopened path refused texts.Start h = inl (h.1, h.0)
+unopened path refused texts.Workers h = inl (h.1, h.0)
+unopened path refused texts.Unsettled h = inl (h.1, h.0)
+unopened path refused (texts.Config said) h = inl (h.1, h.0)
+unopened path refused (texts.Trace said) h = inl (h.1, h.0)
+unopened path refused (texts.Dump said) h = inl (h.1, h.0)
+unopened path refused (texts.State said) h = inl (h.1, h.0)
+unopened path refused (texts.BadActor program) h = inl (h.1, h.0)
+unopened path refused (texts.NoSlot slot) h = inl (h.1, h.0)
+
+-- after those that were read
+pub open_failed : (old account : CustodyAccount) (sources : List Seen) (number : ℕ) (name : List ℕ) (refused : Option (List ℕ)) (fault : TextFault) → ReadsOn old account None sources number (Ok None) → Unopened name refused fault → ReadsOn old account refused sources number (Err fault)
+open_failed old account sources number name refused fault reads (inl is) =
+    let same = is.0 in
+    let none = is.1 in
+    record {
+      told = λ e. absurd cc;
+      same = λ e. absurd cc;
+      ended = λ e. absurd cc;
+      refuses = λ ending e. absurd cc;
+      read = λ e. absurd cc;
+      failed = λ bad. (let e = reads.failed bad in absurd cc);
+      unopened = λ some. (let never = subst (λ (r : Option (List ℕ)). is_some r ≡ true) none some in absurd cc);
+      fault = record { workers = λ e. cc; unsettled = λ e. cc; actor = λ p e. cc; slot = λ n e. cc; write = λ e. cc; config = λ s e. cc; state = λ s e. cc; told = (λ e. cc, λ e. cc, λ e. cc, λ d e. cc) };
+      trace = λ said e. cc;
+      started = λ e. cc;
+    }
+open_failed old account sources number name refused fault reads (inr is) =
+    let same = is.0 in
+    let some = is.1 in
+    record {
+      told = λ e. absurd cc;
+      same = λ e. absurd cc;
+      ended = λ e. absurd cc;
+      refuses = λ ending e. absurd cc;
+      read = λ e. inr (subst (λ (r : Option (List ℕ)). is_some r ≡ true) (sym some) refl);
+      failed = λ bad. (let e = reads.failed bad in absurd cc);
+      unopened = λ none. ap Err same;
+      fault = record { workers = λ e. cc; unsettled = λ e. cc; actor = λ p e. cc; slot = λ n e. cc; write = λ e. cc; config = λ s e. cc; state = λ s e. cc; told = (λ e. cc, λ e. cc, λ e. cc, λ d e. cc) };
+      trace = λ said e. cc;
+      started = λ e. cc;
+    }
+
+-- nothing is read yet
+pub none_read : (account : CustodyAccount) (number : ℕ) → ReadsOn account account None [] number (Ok None)
+none_read account number = record {
+  told = λ e order m before h. subst (λ (held : List (Option (List ℕ))). HasTold order account m held) (sym (append-nil before)) h;
+  same = λ e. refl;
+  ended = λ e. tt;
+  refuses = λ ending e. absurd cc;
+  read = λ e. absurd cc;
+  failed = λ bad. absurd bad;
+  unopened = λ e. absurd cc;
+  fault = tt;
+  trace = λ said e. cc;
+  started = λ e. cc;
+}
+
+-- one file more is opened
+pub opened_more : (held : Held) (paths : List Path) (sources : List Seen) (source : Seen) (n : ℕ) (d : Path) → AreOpened held None paths sources → length sources ≡ n → n < length paths → source.had ≡ held (get_or paths n d).now → AreOpened held None paths (sources ++ source ∷ [])
+opened_more held paths sources source n d opened at lt same =
+    let long : length (sources ++ source ∷ []) ≡ suc n = (let both = length-append sources (source ∷ []) in omega (arith, both, at)) in
+    let more : held_by held (take (suc n) paths) ≡ held_by held (take n paths) ++ held (get_or paths n d).now ∷ [] = ap (held_by held) (take-suc paths n d lt) ∙ map-append (λ (path : Path). held path.now) (take n paths) (get_or paths n d ∷ []) in
+    let so_far : had_by sources ≡ held_by held (take n paths) = opened.are ∙ ap (λ k. held_by held (take k paths)) at in
+    record {
+      are = had_both sources (source ∷ []) ∙ ap₂ (λ (xs ys : List (Option (List ℕ))). xs ++ ys) so_far (ap (λ (one : Option (List ℕ)). one ∷ []) same) ∙ sym more ∙ ap (λ k. held_by held (take k paths)) (sym long);
+      next = tt;
+    }
+
+-- the next one cannot be opened
+pub opened_up_to : (held : Held) (paths : List Path) (sources : List Seen) (n : ℕ) (d : Path) (refused : Option (List ℕ)) (fault : TextFault) → AreOpened held None paths sources → length sources ≡ n → n < length paths → Unopened (get_or paths n d).now refused fault → AreOpened held refused paths sources
+opened_up_to held paths sources n d refused fault opened at lt (inl is) = rw is.1 opened
+opened_up_to held paths sources n d refused fault opened at lt (inr is) = rw is.1 record {
+  are = opened.are;
+  next = (get_or paths n d, drop (n + 1) paths, ap (λ k. drop k paths) at ∙ drop_more paths n d lt, refl);
+}
+
+-- nothing was read, so there were no calls
+no_calls : (volumes : List (List Call)) → AreVolumes [] volumes → length (joined volumes) ≡ 0
+no_calls [] is = refl
+no_calls (calls ∷ volumes) is = absurd is
+
+pub not_full : (order : CustodyOrder) (account : CustodyAccount) (m : State) → HasTold order account m [] → IsFull account → ⊥
+not_full order account m told full =
+    let line = told.kept.line in
+    let none = no_calls told.volumes told.traced in
+    omega (arith, line, none, full)
+
+-- what an account has to be to be read into, and to be given
+pub some_told : (order : CustodyOrder) (account : CustodyAccount) (m : State) (sources : List (Option (List ℕ))) → HasTold order account m sources → (o : CustodyOrder) × (n : State) × (held : List (Option (List ℕ))) × HasTold o account n held
+some_told order account m sources told = (order, m, sources, told)
+
+-- all were read
+pub all_told : (old new : CustodyAccount) (refused : Option (List ℕ)) (sources : List Seen) (number : ℕ) (refusal : Option Ending) (order : CustodyOrder) (m : State) → ReadsOn old new refused sources number (Ok refusal) → refusal ≡ None → HasTold order old m []
+    → (o : CustodyOrder) × (n : State) × (held : List (Option (List ℕ))) × HasTold o new n held
+all_told old new refused sources number refusal order m reads none told = some_told order new m (had_by sources) (reads.told (ap Ok none) order m [] told)

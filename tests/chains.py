@@ -1,0 +1,161 @@
+"""Chains for tests/fuzz: a trace that is cut at any places, whose pieces custody reads one after another in one run.
+
+What is reported has to be what the rules say of the whole trace, with the volumes named; the picture has to be that of the
+whole trace but for its foot; and a volume that is damaged is refused by its number, for what is wrong with it."""
+import hashlib
+import random
+import re
+
+import calls
+from common import run
+from rules import REMARKS, VERSION, Core, Lives, denied_in, noted, rows_of_volumes, warning_of
+from states import state_text
+
+# Into how many volumes a trace is cut at most.
+MOST = 5
+FORMS = [], ["--refused"], ["--accesses"], list(REMARKS), ["--summary"], ["--html"]
+# In how many of these each trace is reported.
+TRIED = 3
+# The text of the state of a core with more frames takes long to be made.
+LARGE = 1024
+PAGE = re.compile(r'^\{"custody".*^\{"calls".*?\n', re.M | re.S)
+# What is no call, even after the second header.
+WRONG = "", "nonsense", "hfault", "hfault 01", "take ", "give -1"
+FOOT = re.compile(r"<text [^>]*>([^<]*)</text>\n</svg>\n$")
+
+
+class Chain:
+    """Volumes with all that custody says of them, from boot or from the state that some calls leave."""
+
+    def __init__(self, rng, program, lines, told, remarks):
+        config, self.core = program.config, Core(program.config)
+        self.path, self.start, self.config, self.state = program.path, ["--config", program.path], None, None
+        first = 0
+        if len(self.core.frames) <= LARGE and rng.random() < 0.4:
+            first = rng.randrange(len(lines) + 1)
+            for line in lines[:first]:
+                self.core.answer(line)
+            self.state = state_text(self.core)
+            self.start = ["--from", program.file("from", self.state)]
+        moved = lambda line: {**line, "line": line["line"] - first}
+        self.told, self.remarks = (
+            [(*more, moved(line)) for *more, line in every if line["line"] - 2 >= first] for every in (told, remarks)
+        )
+        self.lines, self.is_of_ranges = lines[first:], config["calls_on_ranges"]
+        lives, answers = Lives(self.core), []
+        for number, line in enumerate(self.lines, 2):
+            answers.append(self.core.answer(line))
+            lives.note(number, line, answers[-1])
+        self.lives, self.warning = lives.told(), warning_of(answers)
+        places = sorted(rng.randrange(len(self.lines) + 1) for _ in range(rng.randrange(MOST)))
+        self.volumes = [self.lines[at:to] for at, to in zip([0, *places], [*places, len(self.lines)])]
+        # (either header does for calls that both have)
+        self.texts = [calls.trace_of(it, rng.choice([None, True])) for it in self.volumes]
+        self.paths = [self.file(f"volume.{number}", text) for number, text in enumerate(self.texts, 1)]
+
+    def file(self, name, text):
+        path = self.path.with_name(name)
+        path.write_text(text, newline="")
+        return path
+
+    def ran(self, rng, *words):
+        """Runs custody on the volumes, of which the first may be standard input."""
+        is_given = rng.random() < 0.3 and self.paths[0].exists()
+        files = ["-", *self.paths[1:]] if is_given else self.paths
+        return run(["custody", *self.start, *words, *files], self.paths[0].read_text() if is_given else "")
+
+    def some(self, rng, vms, form=()):
+        """Some options: whether texts are named, whether accesses are unseen, and whose VM's lines alone are asked for."""
+        is_named, is_unseen = rng.random() < 0.4, REMARKS[1] not in form and rng.random() < 0.3
+        vm = rng.choice(vms) if rng.random() < 0.3 else None
+        options = ["--digests"] * is_named + ["--unseen"] * is_unseen + ([] if vm is None else ["--vm", str(vm)])
+        return is_named, is_unseen, vm, options
+
+    def named(self):
+        """What the first line says of the texts that were read: a trace in volumes is named on their lines."""
+        trace = {"trace": digest(self.texts[0])} if len(self.texts) == 1 else {}
+        config = {"config": hashlib.sha256(self.path.read_bytes()).hexdigest(), "state": None}
+        return trace | (config if self.state is None else {"config": None, "state": digest(self.state)})
+
+    def report_differs(self, rng, vm):
+        """What differs in one form of custody, or None."""
+        form = rng.choice(FORMS)
+        is_named, is_unseen, vm, options = self.some(rng, [vm], form)
+        said = {"is_unseen": is_unseen, "named": self.named() if is_named else None}
+        if len(self.volumes) > 1:
+            digests = list(map(digest, self.texts)) if is_named else None
+            said["volumes"] = rows_of_volumes(map(len, self.volumes), digests)
+        made = len(self.lines), denied_in(self.remarks)
+        if form == ["--summary"]:
+            text = self.core.summary_text(made, self.lives, vm, **said)
+        else:
+            asked = REMARKS[:1 if is_unseen else 2] if form == ["--html"] else form
+            text = self.core.custody_text(made, noted(self.told, self.remarks, asked), vm, **said)
+        status, out, err = self.ran(rng, *form, *options)
+        if form == ["--html"] and status == 0:
+            out = "".join(PAGE.findall(out))
+        wanted = 0, text, self.warning
+        if vm is not None and vm >= len(self.core.slots):
+            wanted = 2, "", f"kcore: the machine has no slot {vm}\n"
+        return None if (status, out, err) == wanted else " ".join(["custody", *form, *options])
+
+    def foot(self, is_named, is_unseen):
+        """The foot of a picture of several volumes."""
+        foot = f"kcore {VERSION}, {len(self.volumes)} volumes"
+        if is_named:
+            kind, text = ("configuration", self.path.read_text()) if self.state is None else ("state", self.state)
+            foot += f", {kind} SHA-256 {digest(text)}"
+        return foot + ", accesses unseen" * is_unseen
+
+    def picture_differs(self, rng, vm):
+        """What differs in the picture of several volumes from that of the whole trace but for its foot, or None."""
+        if len(self.volumes) == 1:
+            return None
+        is_named, is_unseen, _, options = self.some(rng, [vm % len(self.core.slots)])
+        whole = self.file("whole", calls.trace_of(self.lines, self.is_of_ranges))
+        one = run(["custody", *self.start, "--svg", *options, whole], "")
+        other = self.ran(rng, "--svg", *options)
+        feet = [FOOT.search(out) for _, out, _ in (one, other)]
+        if not all(feet) or other[2] != self.warning or FOOT.sub("", one[1]) != FOOT.sub("", other[1]):
+            return " ".join(["the picture", *options])
+        return None if feet[1][1] == self.foot(is_named, is_unseen) else f"the picture's foot is {feet[1][1]}"
+
+    def fault_differs(self, rng, _):
+        """What differs if one of the volumes is damaged or not there, or None."""
+        at, way = rng.randrange(len(self.volumes)), rng.choice(["line", "line", "header", "end", "file"])
+        lines, text = self.volumes[at], self.texts[at]
+        if way == "line":
+            place = rng.randrange(len(lines) + 1)
+            text = calls.trace_of([*lines[:place], rng.choice(WRONG), *lines[place:]], True)
+            fault = f"bad trace line {place + 2}"
+        elif way == "end" and lines:
+            text, fault = text[:-1], "last trace line has no newline"
+        else:
+            text, fault = text[1:], "no trace header"
+        self.file(f"volume.{at + 1}", text)
+        number = f"volume {at + 1}: " if len(self.volumes) > 1 else ""
+        wanted = 2, "", f"kcore: {number}{fault}\n"
+        if way == "file":
+            self.paths[at].unlink()
+            wanted = 3, "", "kcore: read failed\n"
+        form = rng.choice([*FORMS, ["--svg"]])
+        said = " ".join(["custody", *form, "of volumes with a fault"])
+        return None if self.ran(rng, *form) == wanted else f"{said}: {wanted[2].strip()}"
+
+
+def digest(text):
+    return hashlib.sha256(text.encode()).hexdigest()
+
+
+def difference(case, program, told, remarks):
+    """What differs in a trace, of which custody tells this, that is read in volumes, or None."""
+    config, lines = case
+    rng = random.Random(f"{config['cut_by']} chain")
+    chain = Chain(rng, program, lines, told, remarks)
+    looks = [chain.report_differs] * TRIED + [rng.choice([chain.picture_differs, chain.fault_differs])]
+    for look in looks:
+        differs = look(rng, config["told_of"])
+        if differs:
+            sizes = ", ".join(str(len(it)) for it in chain.volumes)
+            return f"read one after another (volumes of {sizes} calls): {differs}"
+    return None
