@@ -58,7 +58,7 @@ fn explain_answered(rt: &HostRuntime, asked: &Asked<'_>, answered: &Answered) {
 fn run_with<'a, R: Threads + Wait + Sync>(
     rt: &'a HostRuntime,
     threads: &'a R,
-    request: &'a Request<'a>,
+    request: Request<'a>,
     lanes: Lanes,
 ) -> u8 {
     let mut asked = Asked::of(&request.job, &request.after);
@@ -158,7 +158,7 @@ fn run<R: Threads + Wait + Sync>(rt: &HostRuntime, threads: &R) -> u8 {
         return fail(rt, TextFault::Memory);
     };
     match request_of(rt.alloc(), texts.as_slice()) {
-        Ok(request) => run_with(rt, threads, &request, lanes),
+        Ok(request) => run_with(rt, threads, request, lanes),
         Err(fault) => refuse(rt, texts.as_slice(), fault),
     }
 }
