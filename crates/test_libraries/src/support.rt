@@ -19,9 +19,14 @@ pub fn small_config(alloc: Global) -> Option<Config> {
     Config::try_new(8, 1, 4, 1, approved).ok()
 }
 
+/// Reads the calls of a trace.
+fn calls_of_trace(alloc: Global, trace: &[u8]) -> Option<Vec<Call>> {
+    read_trace(alloc, trace).ok()
+}
+
 /// Reads the calls of a trace given without its header.
 pub fn calls_of(alloc: Global, lines: &str) -> Option<Vec<Call>> {
     let mut trace = Vec::from_slice(alloc, b"kcore-trace 1\n").ok()?;
     trace.extend_from_slice(lines.as_bytes()).ok()?;
-    read_trace(alloc, trace.as_slice()).ok()
+    calls_of_trace(alloc, trace.as_slice())
 }

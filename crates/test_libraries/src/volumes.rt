@@ -9,7 +9,6 @@ use kc_replay::{OpenGate, Replayer};
 use kc_types::{Actor, CALL_LIMIT, Call, Reply};
 use std::alloc::Global;
 use std::sync::Wait;
-use std::test::Fail;
 use std::thread::{Threads, join};
 
 /// Boots a VM with its guest frame 0 in frame 1.
@@ -27,11 +26,16 @@ const ROUNDS: usize = 200;
 
 const BETWEEN_TURNS: usize = 301;
 
+/// Appends a copy of a call.
+fn push_copy(calls: &mut Vec<Call>, call: &Call) -> Option<()> {
+    calls.push(call.copy().ok()?).ok()
+}
+
 /// Copies of the calls of some entries.
 fn calls_in(alloc: Global, entries: &[Entry]) -> Option<Vec<Call>> {
     let mut calls = Vec::new(alloc);
     for entry in entries {
-        calls.push(entry.call.copy().ok()?).ok()?;
+        push_copy(&mut calls, &entry.call)?;
     }
     Some(calls)
 }
@@ -50,8 +54,14 @@ fn are_replies_of(entries: &[Entry], replies: &[Reply]) -> bool {
 }
 
 /// Makes some calls from a seat, over and over.
-fn make_calls<R: Wait>(rt: &R, core: &LiveCore, seat: &mut Seat, calls: &[Call]) -> Option<()> {
-    for _ in 0..ROUNDS {
+fn make_calls<R: Wait>(
+    rt: &R,
+    core: &LiveCore,
+    seat: &mut Seat,
+    calls: &[Call],
+    rounds: usize,
+) -> Option<()> {
+    for _ in 0..rounds {
         for call in calls {
             core.call(rt, seat, call.copy().ok()?).ok()?;
         }
@@ -165,11 +175,8 @@ struct Turned {
 
 /// Boots a VM from a seat.
 fn boot<R: Wait>(rt: &R, alloc: Global, core: &LiveCore, host: &mut Seat) -> Option<()> {
-    let mut all_made = true;
-    for call in calls_of(alloc, BOOTS)? {
-        all_made = all_made && core.call(rt, host, call).is_ok();
-    }
-    if all_made { Some(()) } else { None }
+    let calls = calls_of(alloc, BOOTS)?;
+    make_calls(rt, core, host, &calls, 1)
 }
 
 /// Lets host and guest call from a thread each, while the host turns the core over; returns the volumes, with the last
@@ -185,7 +192,7 @@ fn volumes_of<R: Threads + Wait + Sync>(
     let (volumes, made) = join(
         rt,
         || make_and_turn(rt, alloc, core, host, &of_host),
-        || make_calls(rt, core, guest, &of_guest),
+        || make_calls(rt, core, guest, &of_guest, ROUNDS),
     );
     made?;
     let mut volumes = volumes?;
@@ -230,25 +237,33 @@ fn a_core_that_turns_over_is_followed(rt: HostRuntime) {
 
 /// Makes this many calls from one seat, each of which is refused.
 fn call_often<R: Wait>(rt: &R, core: &LiveCore, seat: &mut Seat, count: usize) -> bool {
-    for _ in 0..count {
-        if core.call(rt, seat, Call::HostFault { frame: 0 }).is_err() {
-            return false;
-        }
-    }
-    true
+    make_calls(rt, core, seat, &[Call::HostFault { frame: 0 }], count).is_some()
+}
+
+/// Makes as many calls from one seat as a volume has, and one more; returns whether that one alone was one too many, and
+/// the seat has a receipt for each of the others.
+fn is_filled<R: Wait>(rt: &R, core: &LiveCore, seat: &mut Seat) -> bool {
+    let are_made = call_often(rt, core, seat, CALL_LIMIT);
+    let once_more = core.call(rt, seat, Call::HostFault { frame: 0 });
+    are_made && once_more == Err(LiveFault::HistoryFull) && seat.receipts().len() == CALL_LIMIT
+}
+
+/// Turns the core over, and returns how many calls its volume had.
+fn calls_of_volume<R: Wait>(rt: &R, core: &LiveCore) -> Option<usize> {
+    Some(core.turn(rt).ok()?.entries().len())
+}
+
+/// Fills a volume and turns the core over; returns whether the volume is full, and the next one is begun.
+fn is_begun_anew<R: Wait>(rt: &R, alloc: Global) -> Option<bool> {
+    let core = LiveCore::new(alloc, small_config(alloc)?).ok()?;
+    let mut seat = Seat::new(alloc, Actor::Host);
+    let is_full = is_filled(rt, &core, &mut seat);
+    let calls = calls_of_volume(rt, &core)?;
+    let goes_on = call_often(rt, &core, &mut seat, 1);
+    Some(is_full && calls == CALL_LIMIT && goes_on && core.close().volume().number() == 1)
 }
 
 #[test]
-fn a_volume_has_no_more_than_65_536_calls(rt: HostRuntime) -> Result<(), Fail> {
-    let alloc = rt.alloc();
-    let core = LiveCore::new(alloc, small_config(alloc).ok_or("no configuration")?)?;
-    let mut seat = Seat::new(alloc, Actor::Host);
-    assert!(rt; call_often(&rt, &core, &mut seat, CALL_LIMIT));
-    let once_more = core.call(&rt, &mut seat, Call::HostFault { frame: 0 });
-    assert_eq!(rt; once_more, Err(LiveFault::HistoryFull));
-    assert_eq!(rt; seat.receipts().len(), CALL_LIMIT);
-    assert_eq!(rt; core.turn(&rt)?.entries().len(), CALL_LIMIT);
-    assert!(rt; call_often(&rt, &core, &mut seat, 1));
-    assert_eq!(rt; core.close().volume().number(), 1u64);
-    Ok(())
+fn a_volume_has_no_more_than_65_536_calls(rt: HostRuntime) {
+    assert_eq!(rt; is_begun_anew(&rt, rt.alloc()), Some(true));
 }
