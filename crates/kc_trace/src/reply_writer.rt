@@ -47,6 +47,7 @@ fn push_data(text: &mut Vec<u8>, bytes: &Data)
 }
 
 /// Appends the line of a reply, without its newline, for which there is room too: memory does not grow.
+#[inline(always)]
 pub(crate) fn push_reply_words(text: &mut Vec<u8>, reply: &Reply)
     requires { vec_len text.old + longest_reply ≤ vec_capacity text.old }
     ensures words { text.new.items ≡ text.old.items ++ reply_line_of reply.now }
