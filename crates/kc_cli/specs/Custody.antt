@@ -25,7 +25,7 @@ use Rattle.kc_remarks.specs.declared.remark.Note.{Note}
 use Rattle.kc_remarks.specs.Remarks.{notes, events_in}
 use Rattle.kc_remarks.specs.Attempts.{attempts_in}
 use Rattle.kc_remarks.specs.declared.remark.Remarks.{Remarks}
-use Rattle.kc_remarks.specs.Denials.{is_denied, is_denial}
+use Rattle.kc_remarks.specs.Denials.{is_denial}
 use Rattle.kc_html.specs.Html.{html_text_of}
 use Rattle.kc_svg.specs.Foot.{HasFoot}
 use Rattle.kc_custody.specs.Chosen.{chosen}

@@ -247,6 +247,7 @@ impl CustodyAccount {
         } = self;
         let mut core = core;
         core.wipe(rt);
+        // (its memory is given back before the text is made)
         let (config, _) = core.into_parts();
         let trace = trace_digest(entries.as_slice());
         let volumes = listed(alloc, entries);

@@ -1,8 +1,6 @@
 -- What each call does to the table as a value.
-use Rattle.std.proofs.Common.{ℕ, replicate, inl, inr, ◌≡◌, ◌<◌, ◌/◌, ◌%◌, Bool, true, false, ◌||◌, cond, List, [], ◌∷◌, ◌++◌, length, get_or, set, get_or-set_same, Option, Some, None, is_some, nat_lt, refl, sym, ap, ◌∙◌, arith}
-use Rattle.std.proofs.lemmas.Bool.{cases_lt, ltb-true}
-use Rattle.std.proofs.lemmas.List.{length-replicate, get_or-replicate}
-use Rattle.std.proofs.Math.ListN.{get_or-eq_default}
+use Rattle.std.proofs.Common.{ℕ, ◌≡◌, ◌<◌, ◌/◌, ◌%◌, Bool, true, false, ◌||◌, cond, List, [], ◌∷◌, ◌++◌, length, get_or, set, get_or-set_same, Option, Some, None, is_some, nat_lt, refl, sym, ap, ◌∙◌, arith}
+use Rattle.std.proofs.lemmas.Bool.{ltb-true}
 use Rattle.std.specs.FinMap.{get, insert, remove}
 use Rattle.kc_vms.specs.TablePool.{Pool, with_cell, with_taken_leaf}
 use Rattle.kc_vms.specs.declared.levels.Levels.{Levels}
@@ -73,6 +71,3 @@ fits-by t number g v led kept is there told = rw (← is, ← has_slot-root t (n
 
 pub new-value : (root : List (Option ℕ)) (leaves : List ℕ) (pool : Pool) (capacity : ℕ) → ((s : ℕ) → get_or root s None ≡ None) → leaves ≡ [] → pool.capacity ≡ capacity → ◌≡◌ {A = Table} (record { mapped = mapped_by root pool; leaves = leaves; capacity = pool.capacity }) (table.new_table capacity)
 new-value root leaves pool capacity none empty same = same-table _ _ (mapped-new root pool none) empty same
-
-pub get-nones : (n k : ℕ) → get_or (replicate {A = Option ℕ} n None) k None ≡ None
-get-nones n k = elim (cases_lt k n) [ inl lt ↦ get_or-replicate n k None None lt | inr past ↦ get_or-eq_default (replicate {A = Option ℕ} n None) None (rw (length-replicate {A = Option ℕ} n None) past) ]

@@ -1,12 +1,13 @@
 -- The map and the leaves after each change of the two levels.
-use Rattle.std.proofs.Common.{ℕ, zero, suc, ◌≡◌, ◌==◌, ◌<◌, ◌≤◌, ◌+◌, ◌*◌, ◌/◌, ◌%◌, inl, inr, true, false, List, [], ◌∷◌, ◌++◌, length, length-set, length-append, get_or, set, get_or-set_same, get_or-set_other, eq-eqb, Option, Some, None, refl, sym, ap, ◌∙◌, arith}
+use Rattle.std.proofs.Common.{ℕ, zero, suc, ◌≡◌, ◌==◌, ◌<◌, ◌≤◌, ◌+◌, ◌*◌, ◌-◌, ◌/◌, ◌%◌, inl, inr, true, false, List, [], ◌∷◌, ◌++◌, length, length-set, length-append, get_or, set, get_or-set_same, get_or-set_other, replicate, take, eq-eqb, Option, Some, None, refl, sym, ap, ◌∙◌, arith}
 use Rattle.std.proofs.lemmas.Bool.{cases_eq, cases_lt, ne_eqb}
 use Rattle.std.proofs.Math.Seq.{get_or-append_seam}
-use Rattle.std.proofs.lemmas.List.{get_or_append_left}
+use Rattle.std.proofs.lemmas.List.{get_or_append_left, get_or-replicate, length-replicate, take_all}
+use Rattle.std.proofs.Math.ListN.{get_or-eq_default}
 use Rattle.std.proofs.lemmas.List.Folds.{list_any_at}
 use Rattle.std.specs.Ordering.{nat_cmp}
 use Rattle.std.specs.FinMap.{get, insert, remove, empty, get-empty}
-use Rattle.kc_vms.specs.TablePool.{Pool, IsPool, entry_at, with_cell, with_taken_leaf}
+use Rattle.kc_vms.specs.TablePool.{Pool, IsPool, empty_leaf, entry_at, with_cell, with_taken_leaf}
 use Rattle.kc_vms.specs.Stage2.{has_slot}
 use Rattle.kc_vms.specs.Levels.{IsTable, look_up, entry_under, mapped_by}
 use Rattle.kc_vms.specs.declared.levels.Levels.{Levels}
@@ -56,6 +57,9 @@ mapped-absent root pool g within none = maps-same _ _ 262144
       | inl same ↦ rw same (mapped-get root pool g within ∙ none ∙ sym (removed-same (mapped_by root pool) g))
       | inr other ↦ sym (removed-other (mapped_by root pool) g q other)
     ])
+
+pub get-nones : (n k : ℕ) → get_or (replicate {A = Option ℕ} n None) k None ≡ None
+get-nones n k = elim (cases_lt k n) [ inl lt ↦ get_or-replicate n k None None lt | inr past ↦ get_or-eq_default (replicate {A = Option ℕ} n None) None (rw (length-replicate {A = Option ℕ} n None) past) ]
 
 pub look-none : (root : List (Option ℕ)) (pool : Pool) (g : ℕ) → get_or root (g / 512) None ≡ None → look_up root pool g ≡ None
 look-none root pool g none = rw none refl
@@ -111,13 +115,26 @@ table-led root leaves pool s leaf table none within is kept =
       );
     }
 
+-- the entries of leaves and an empty one, as they are filled up
+pub longer-by-leaf : (es : List (Option ℕ)) {new : List (Option ℕ)} (taken : ℕ) {len : ℕ} → length es ≡ taken * 512 → len ≡ length es → new ≡ take ((taken + 1) * 512) es ++ replicate ((taken + 1) * 512 - len) None → new ≡ es ++ empty_leaf
+unfolding empty_leaf
+longer-by-leaf es taken long is filled =
+    filled ∙ rw (take_all ((taken + 1) * 512) es (omega (arith, long)), is, long, let left : (taken + 1) * 512 - taken * 512 ≡ 512 = omega arith in left) refl
+
+-- a list that is longer by an empty leaf has the same entries
+beyond-none : (es : List (Option ℕ)) (k : ℕ) → get_or (es ++ empty_leaf) k None ≡ get_or es k None
+unfolding empty_leaf
+beyond-none [] k = get-nones 512 k
+beyond-none (e ∷ es) zero = refl
+beyond-none (e ∷ es) (suc k) = beyond-none es k
+
 under-leaf : (v : Option ℕ) (pool : Pool) (at : ℕ) → entry_under v (with_taken_leaf pool) at ≡ entry_under v pool at
 under-leaf None pool at = refl
-under-leaf (Some leaf) pool at = refl
+under-leaf (Some leaf) pool at = beyond-none pool.entries (leaf * 512 + at)
 
 pub look-led : (root : List (Option ℕ)) (leaves : List ℕ) (pool : Pool) (s leaf : ℕ) → IsTable root leaves pool → get_or root s None ≡ None → s < 512 → leaf ≡ pool.taken → (g : ℕ) → look_up (set root s (Some leaf)) (with_taken_leaf pool) g ≡ look_up root pool g
 look-led root leaves pool s leaf table none within is g = elim (cases_eq (g / 512) s) [
-  | inl same ↦ rw (same, get_or-set_same root s (Some leaf) None (let l = table.long in omega (arith, l)), none) (table.whole.rest (leaf * 512 + g % 512) (omega arith))
+  | inl same ↦ rw (same, get_or-set_same root s (Some leaf) None (let l = table.long in omega (arith, l)), none) (beyond-none pool.entries (leaf * 512 + g % 512) ∙ get_or-eq_default pool.entries None (let l = table.whole.long in omega (arith, l)))
   | inr other ↦ under-leaf (get_or (set root s (Some leaf)) (g / 512) None) pool (g % 512) ∙ ap (λ v. entry_under v pool (g % 512)) (get_or-set_other root s (g / 512) (Some leaf) None other)
 ]
 

@@ -5,6 +5,10 @@ use Rattle.std.specs.FinMap as map
 use Rattle.kc_types.specs.Limits.{gfn_limit, leaf_entries}
 use Rattle.kc_vms.specs.TablePool.{Pool, IsPool, entry_at}
 
+-- a root slot after it was emptied
+abbrev pub emptied : Option ℕ → Option ℕ
+emptied slot = None
+
 abbrev pub entry_under : Option ℕ → Pool → ℕ → Option ℕ
 entry_under None pool at = None
 entry_under (Some leaf) pool at = entry_at pool leaf at

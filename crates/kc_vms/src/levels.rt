@@ -1,7 +1,7 @@
 //! The root and the leaves as they are in memory.
 ghost use Rattle.std.specs.Prelude.{◌≡◌, ◌<◌, ◌≤◌, Some, map, replicate, IfOk, slice_index_or, None};
 ghost use Rattle.kc_types.specs.Limits.{leaf_entries, leaf_limit};
-ghost use Rattle.kc_vms.specs.TablePool.{emptied};
+ghost use Rattle.kc_vms.specs.Levels.{emptied};
 ghost use Rattle.kc_vms.specs.Stage2.{new_table};
 ghost use Rattle.kc_vms.specs.TwoLevels.{IsLevels, table_of, Led};
 

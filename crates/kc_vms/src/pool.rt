@@ -1,7 +1,7 @@
 //! The pool of a VM's leaf tables.
-ghost use Rattle.std.specs.Prelude.{◌≡◌, ◌+◌, ◌*◌, ◌<◌, ◌≤◌, Option, Some, None, map, IfOk, MatchOption};
+ghost use Rattle.std.specs.Prelude.{◌≡◌, ◌+◌, ◌*◌, ◌<◌, ◌≤◌, Option, Some, None, IfOk, MatchOption};
 ghost use Rattle.kc_types.specs.Limits.{leaf_entries, leaf_limit};
-ghost use Rattle.kc_vms.specs.TablePool.{Pool, IsPool, new_pool, entry_at, with_cell, with_taken_leaf, emptied};
+ghost use Rattle.kc_vms.specs.TablePool.{Pool, IsPool, new_pool, entry_at, with_cell, with_taken_leaf};
 
 use crate::leaf::LeafNo;
 use kc_types::{FrameNo, LEAF_ENTRIES, Memory};
@@ -11,33 +11,36 @@ use std::marker::Model;
 /// Leaf tables of 512 entries each. They are handed out in order, and come back only all together.
 #[derive(Drop)]
 pub struct TablePool {
+    /// Those of the leaves that are taken, one leaf after another. There is room for all, of which nothing is touched
+    /// before it is taken.
     entries: Vec<Option<FrameNo>>,
     taken: u8,
     capacity: u8,
 }
 
 impl Model for TablePool {
-    ghost use Rattle.std.specs.Prelude.{◌≡◌, ◌*◌, ◌≤◌};
+    ghost use Rattle.std.specs.Prelude.{◌*◌, ◌≤◌, vec_capacity};
+    ghost use Rattle.kc_types.specs.Limits.{leaf_entries};
     ghost use Rattle.kc_vms.specs.TablePool.{Pool, IsPool};
 
     ghost Value = { Pool };
 
     ghost view = { λ p. record { entries = p.entries.items; taken = p.taken; capacity = p.capacity } };
 
-    ghost invariant = { λ p. IsPool (record { entries = p.entries.items; taken = p.taken; capacity = p.capacity }) };
+    ghost invariant = { λ p. IsPool (record { entries = p.entries.items; taken = p.taken; capacity = p.capacity })
+        × (p.capacity * leaf_entries ≤ vec_capacity p.entries) };
 }
 
 impl TablePool {
     /// Makes a pool of this many leaves, none of them taken; `Memory` if memory cannot be had. Nothing else takes
     /// memory.
-    #[tactic(auto, unfolding(crate::specs::TablePool::no_entries))]
     pub fn try_new(alloc: Global, leaves: u8) -> Result<TablePool, Memory>
         requires { leaves ≤ leaf_limit }
         ensures value { IfOk result (λ pool. pool ≡ new_pool leaves) }
         ensures kept { IfOk result IsPool }
     {
         Ok(TablePool {
-            entries: vec![in alloc; None; leaves as usize * LEAF_ENTRIES]?,
+            entries: Vec::with_capacity(alloc, leaves as usize * LEAF_ENTRIES)?,
             taken: 0,
             capacity: leaves,
         })
@@ -61,6 +64,9 @@ impl TablePool {
         }
         let leaf = LeafNo::of(self.taken);
         self.taken += 1;
+        self.entries
+            .resize(self.taken as usize * LEAF_ENTRIES, None)
+            .unwrap();
         Some(leaf)
     }
 
@@ -88,15 +94,7 @@ impl TablePool {
         ensures value { self.new ≡ new_pool self.old.capacity }
         ensures kept { IsPool self.new }
     {
-        make_empty(&mut self.entries);
+        self.entries.clear();
         self.taken = 0;
-    }
-}
-
-fn make_empty(entries: &mut [Option<FrameNo>])
-    ensures { entries.new ≡ map emptied entries.old }
-{
-    for entry in entries.iter_mut() {
-        *entry = None;
     }
 }

@@ -1,7 +1,7 @@
 use Rattle.std.proofs.Common.{◌<◌, None, get_or, length, arith}
 use Rattle.std.proofs.lemmas.List.{get_or_default}
 use Rattle.std.proofs.lemmas.List.Edits.{map_over_more}
-use Rattle.kc_vms.specs.TablePool.{emptied}
+use Rattle.kc_vms.specs.Levels.{emptied}
 use Rattle.kc_vms.proofs.levels.make_empty.Goals as goal
 
 pub loop-slot-preserved : goal.loop-slot-preserved

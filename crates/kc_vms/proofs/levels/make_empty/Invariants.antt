@@ -1,5 +1,5 @@
 use Rattle.std.proofs.Common.{◌≡◌, ◌++◌, map, take, drop}
-use Rattle.kc_vms.specs.TablePool.{emptied}
+use Rattle.kc_vms.specs.Levels.{emptied}
 use Rattle.kc_vms.proofs.levels.make_empty.Given as goal
 
 -- the entries before the index are emptied, and the others are as they were

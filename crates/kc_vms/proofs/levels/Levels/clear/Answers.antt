@@ -1,6 +1,7 @@
 use Rattle.std.proofs.Common.{length, map, arith, sym, ap, ◌∙◌}
 use Rattle.std.proofs.lemmas.List.{length-map}
-use Rattle.kc_vms.specs.TablePool.{Pool, emptied}
+use Rattle.kc_vms.specs.Levels.{emptied}
+use Rattle.kc_vms.specs.TablePool.{Pool}
 use Rattle.kc_vms.proofs.Emptied.{emptied-whole, get-emptied}
 use Rattle.kc_vms.proofs.Tables.{table-new}
 use Rattle.kc_vms.proofs.Changes.{new-value}

@@ -1,8 +1,8 @@
 use Rattle.std.proofs.Common.{ℕ, Option, None, arith, ap}
 use Rattle.std.proofs.lemmas.List.{length-replicate}
 use Rattle.kc_vms.specs.TablePool.{Pool}
-use Rattle.kc_vms.proofs.Tables.{table-new}
-use Rattle.kc_vms.proofs.Changes.{new-value, get-nones}
+use Rattle.kc_vms.proofs.Tables.{get-nones, table-new}
+use Rattle.kc_vms.proofs.Changes.{new-value}
 use Rattle.kc_vms.proofs.levels.Levels.try_new.Goals as goal
 
 pub returns-clause-kept : goal.returns-clause-kept
