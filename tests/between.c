@@ -6,12 +6,15 @@
 #include <fcntl.h>
 #include <malloc.h>
 #include <pthread.h>
+#include <signal.h>
 #include <stdatomic.h>
 #include <stdint.h>
 #include <stdio.h>
 #include <stdlib.h>
 #include <string.h>
+#include <sys/prctl.h>
 #include <sys/syscall.h>
+#include <sys/wait.h>
 #include <time.h>
 #include <unistd.h>
 
@@ -26,10 +29,11 @@ static _Thread_local int own;
 #define WORD(name) #name,
 enum { EACH(ITSELF) COUNT };
 
+static const char *const names[] = {EACH(WORD)};
+static int numbers[COUNT];
+
 /* The number that it gives, 0 for none. It is looked at once, as soon as it is there. */
 static int asked(int which) {
-    static const char *const names[] = {EACH(WORD)};
-    static int numbers[COUNT];
     static atomic_int is_known;
     if (!is_known && environ) {
         for (int each = 0; each < COUNT; each++) numbers[each] = getenv(names[each]) ? atoi(getenv(names[each])) : 0;
@@ -80,12 +84,43 @@ static void digits(const char *text, char *to) {
 static const char *front, *back;
 static char front_digits[128], back_digits[128];
 
-__attribute__((constructor)) static void know_secret(void) {
+static void know_secret(void) {
     if (!getenv("SECRET_FRONT") || !getenv("SECRET_BACK")) return;
     digits(getenv("SECRET_FRONT"), front_digits);
     digits(getenv("SECRET_BACK"), back_digits);
     back = getenv("SECRET_BACK");
     front = getenv("SECRET_FRONT");
+}
+
+/* If COPIES is the number of a socket, the program is not run itself. For each message that comes there, a copy of it is,
+ * which takes less time than a start, and how that ended is the answer. The message is what else is disturbed in the copy:
+ * a name that the environment may give a number to, and the number. */
+static void make_copies(void) {
+    char message[64], name[32];
+    int number, status;
+    if (!getenv("COPIES")) return;
+    int socket = atoi(getenv("COPIES"));
+    for (ssize_t length; (length = syscall(SYS_read, socket, message, sizeof message - 1)) > 0;) {
+        message[length] = 0;
+        pid_t copy = fork();
+        if (copy == 0) {
+            prctl(PR_SET_PDEATHSIG, SIGKILL);
+            close(socket);
+            if (sscanf(message, "%31s %d", name, &number) != 2) abort();
+            for (int each = 0; each < COUNT; each++)
+                if (strcmp(name, names[each]) == 0) numbers[each] = number;
+            return;
+        }
+        if (copy < 0 || waitpid(copy, &status, 0) != copy) abort();
+        syscall(SYS_write, socket, &status, sizeof status);
+    }
+    syscall(SYS_exit_group, 0);
+}
+
+__attribute__((constructor)) static void begin(void) {
+    know_secret();
+    asked(0);
+    make_copies();
 }
 
 /* How often the secret is found between two places, as it is or in digits. Where no call writes both of its halves, they
