@@ -24,7 +24,8 @@ static _Thread_local int own;
 /* What the environment may give a number to. */
 #define EACH(it)                                                                                                       \
     it(REFUSE_GROWTH) it(REFUSE_START) it(FAIL_READ) it(INTERRUPT_READ) it(SHORT_READ) it(FAIL_WRITE)                  \
-        it(INTERRUPT_WRITE) it(SHORT_WRITE) it(MOST_READ) it(MOST_WRITE) it(MARK_SIZE) it(HOLD_UP) it(PASS_DIGITS)
+        it(INTERRUPT_WRITE) it(SHORT_WRITE) it(MOST_READ) it(MOST_WRITE) it(MARK_SIZE) it(HOLD_UP) it(HOLD_START)           \
+        it(PASS_DIGITS)
 #define ITSELF(name) name,
 #define WORD(name) #name,
 enum { EACH(ITSELF) COUNT };
@@ -233,8 +234,27 @@ int clock_gettime(clockid_t clock, struct timespec *time) {
 
 typedef int creation(pthread_t *, const pthread_attr_t *, void *(*)(void *), void *);
 
+/* What the threads do that were started, by their numbers. */
+static struct start { void *(*job)(void *), *given; } started[64];
+static atomic_int ended;
+
+/* The thread that HOLD_START asks for begins once another has ended; it waits for ten seconds at most. */
+static void *begin_thread(void *given) {
+    struct start *it = given;
+    if (it == started + asked(HOLD_START))
+        for (int turn = 0; turn < 10000 && !ended; turn++) usleep(1000);
+    void *result = it->job(it->given);
+    ended = 1;
+    return result;
+}
+
 int pthread_create(pthread_t *thread, const pthread_attr_t *attributes, void *(*job)(void *), void *given) {
-    if (atomic_fetch_add(&starts, 1) + 1 == asked(REFUSE_START)) return EAGAIN;
+    int number = atomic_fetch_add(&starts, 1) + 1;
+    if (number == asked(REFUSE_START)) return EAGAIN;
+    if (asked(HOLD_START) && number < 64) {
+        started[number] = (struct start){job, given};
+        job = begin_thread, given = started + number;
+    }
     return ((creation *)dlsym(RTLD_NEXT, "pthread_create"))(thread, attributes, job, given);
 }
 
