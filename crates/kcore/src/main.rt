@@ -1,131 +1,9 @@
-//! The program: the command line, files and standard streams around the text engines.
+//! The program: `kc_program` over the system.
 #![tactic(auto)]
 
-ghost use Rattle.std.specs.Prelude.{◌≡◌, false};
-
-mod asked;
-mod denials;
-mod explaining;
-mod folder;
-
-use crate::asked::Asked;
-use crate::denials::{explain_default, explain_denials};
-use crate::explaining::{Reading, explain_arguments, explain_open};
-use crate::folder::{Folder, Named};
-use kc_args::{ArgFault, Request, request_of};
-use kc_cli::{Answered, Lanes, Std, TextFault, tell};
-use kc_explain::{Erasing, Progress};
-use kc_run::{Exit, System, run_job};
+use kc_program::{Lanes, run};
 use std::env;
-use std::fs::{File, OpenFile};
-use std::io::{Error, ErrorKind, IsTerminal};
 use std::process::ExitCode;
-use std::sync::Wait;
-use std::thread::Threads;
-
-/// Writes the fault's line on standard error, and returns the exit status.
-fn fail(rt: &HostRuntime, fault: TextFault) -> u8 {
-    tell(&fault, &mut Std::new(rt.stderr()))
-}
-
-/// Opens the root folder: if standard input or output is closed, it takes that number, which the configuration's file
-/// would have otherwise. Nothing can be read from it, and nothing written to it. If it can't be opened, the program
-/// does without.
-fn stand_in(rt: &HostRuntime) -> Option<File> {
-    File::open(rt, "/").ok()
-}
-
-/// Says more about the fault that a job ended with, if it did.
-fn explain_exit(rt: &HostRuntime, files: &Folder<'_>, input: &Named<'_>, exit: &Exit) {
-    let Some(fault) = &exit.fault else { return };
-    match &files.refused {
-        Some(path) => explain_open(rt, path.as_str(), files.why),
-        None => Reading::of(files, input, exit.volume).explain(rt, fault),
-    }
-}
-
-/// Says more of how the calls were answered.
-fn explain_answered(rt: &HostRuntime, asked: &Asked<'_>, answered: &Answered) {
-    explain_denials(rt, answered);
-    if asked.is_default() {
-        explain_default(rt);
-    }
-}
-
-/// Opens standard input and the other streams, runs the job, and returns the exit status. A fault is explained if that
-/// is asked for, and at a terminal; and how the calls were answered, if that is asked for, and at a terminal after a
-/// warning.
-fn run_with<'a, R: Threads + Wait + Sync>(
-    rt: &'a HostRuntime,
-    threads: &'a R,
-    request: Request<'a>,
-    lanes: Lanes,
-) -> u8 {
-    let mut asked = Asked::of(&request.job, &request.after);
-    let is_told = asked.explain;
-    asked.explain = asked.explain || rt.stderr().is_terminal();
-    let _standing_in = stand_in(rt);
-    let progress = Progress::new(rt);
-    let mut files = Folder::new(rt, asked, &progress);
-    let mut input = files.standard_input();
-    let mut out = Std::new(rt.stdout());
-    let mut err = Erasing::new(Std::new(rt.stderr()), &progress);
-    let system = System {
-        threads,
-        alloc: rt.alloc(),
-        lanes,
-    };
-    let exit = run_job(
-        &system,
-        &mut files,
-        request.job,
-        &request.after,
-        &mut input,
-        &mut out,
-        &mut err,
-    );
-    progress.erase();
-    if asked.explain {
-        explain_exit(rt, &files, &input, &exit);
-        if let Some(line) = exit.difference {
-            Reading::of(&files, &input, None).explain_difference(rt, line);
-        }
-    }
-    if let Some(answered) = &exit.answered
-        && (is_told || (asked.explain && answered.is_mostly_outside()))
-    {
-        explain_answered(rt, &asked, answered);
-    }
-    exit.status
-}
-
-/// Reports a command line that asks for no job, and returns the exit status.
-fn refuse(rt: &HostRuntime, arguments: &[&str], fault: ArgFault) -> u8 {
-    match fault {
-        ArgFault::Memory => fail(rt, TextFault::Memory),
-        ArgFault::Clash(clash) => kc_run::refuse(clash, &mut Std::new(rt.stderr())).status,
-        ArgFault::Message(text, 0) => {
-            if rt.print(text).is_err() {
-                return fail(rt, TextFault::Write);
-            }
-            0
-        },
-        ArgFault::Message(text, status) => {
-            let _ = rt.eprint(text);
-            explain_arguments(rt, arguments);
-            status
-        },
-    }
-}
-
-/// Says why the command line can't be read, and returns the exit status.
-fn refuse_arguments(rt: &HostRuntime, error: &Error) -> u8 {
-    if error.kind() == ErrorKind::OutOfMemory {
-        return fail(rt, TextFault::Memory);
-    }
-    let _ = rt.eprint("error: an argument is not UTF-8\n");
-    2
-}
 
 /// How many pages are hashed at once, by the program's own name, since code cannot ask what it is built for: the
 /// program for newer processors (x86-64-v3) is `kcore-x86_64-v3-linux` in `dist/`, or an installed `kcore-v3`. By
@@ -138,31 +16,13 @@ fn lanes_of(name: &str) -> Lanes {
     }
 }
 
-fn run<R: Threads + Wait + Sync>(rt: &HostRuntime, threads: &R) -> u8 {
-    let mut arguments = match env::args(rt) {
-        Ok(arguments) => arguments,
-        Err(error) => return refuse_arguments(rt, &error),
-    };
-    let lanes = match arguments.next() {
+fn main(rt: HostRuntime) -> ExitCode {
+    let name = env::args(&rt)
+        .ok()
+        .and_then(|mut arguments| arguments.next());
+    let lanes = match &name {
         Some(name) => lanes_of(name.as_str()),
         None => Lanes::Four,
     };
-    let Ok(texts) = arguments.collect::<Vec<String>>(rt.alloc()) else {
-        return fail(rt, TextFault::Memory);
-    };
-    let Ok(texts) = texts
-        .iter()
-        .map(String::as_str)
-        .collect::<Vec<&str>>(rt.alloc())
-    else {
-        return fail(rt, TextFault::Memory);
-    };
-    match request_of(rt.alloc(), texts.as_slice()) {
-        Ok(request) => run_with(rt, threads, request, lanes),
-        Err(fault) => refuse(rt, texts.as_slice(), fault),
-    }
-}
-
-fn main(rt: HostRuntime) -> ExitCode {
-    ExitCode::from(run(&rt, &rt))
+    ExitCode::from(run(&rt, &rt, lanes))
 }

@@ -1,6 +1,6 @@
 //! Standard input and the files of the system, as a job opens them.
 ghost use Rattle.std.specs.Prelude.{◌≡◌, false, None, option_map, string_bytes};
-ghost use Rattle.kcore.specs.Opened.{has_failed};
+ghost use Rattle.kc_program.specs.Opened.{has_failed};
 
 use crate::asked::{Asked, Kind};
 use kc_cli::{Failed, Source, Std};

@@ -1,7 +1,7 @@
 -- What was opened to be read.
 use Rattle.std.specs.Prelude.{Bool}
-use Rattle.kcore.specs.declared.folder.Opened.{Opened}
-use Rattle.kcore.specs.declared.folder.Opened.TheVariants as opened
+use Rattle.kc_program.specs.declared.folder.Opened.{Opened}
+use Rattle.kc_program.specs.declared.folder.Opened.TheVariants as opened
 
 -- whether a read of it failed
 abbrev pub has_failed : Opened → Bool
