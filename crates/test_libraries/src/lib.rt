@@ -1,7 +1,6 @@
 //! Tests of what no file can show through the program: gates, threads, how faults are shown, and volumes.
 //!
-//! - replays by workers: `src/replays.rt`, `src/segments.rt`; live runs: `src/live.rt`, `src/live_texts.rt`,
-//!   `src/volumes.rt`
+//! - replays by workers: `src/replays.rt`, `src/segments.rt`; live runs: `src/live.rt`, `src/volumes.rt`
 //! - how each fault is shown: `src/telling.rt`
 #![tactic(auto)]
 
@@ -9,8 +8,6 @@
 mod gates;
 #[cfg(test)]
 mod live;
-#[cfg(test)]
-mod live_texts;
 #[cfg(test)]
 mod replays;
 #[cfg(test)]

@@ -1,7 +1,7 @@
 //! How each fault is shown: the line that reports it, without its beginning and its end.
-use kc_cli::TextFault;
 use kc_config_text::ConfigTextFault;
 use kc_dump_text::DumpFault;
+use kc_faults::TextFault;
 use kc_trace::TraceFault;
 use kc_types::ConfigFault;
 use std::alloc::Global;
