@@ -1,6 +1,4 @@
 //! A run of the program, from its command line to its exit status.
-ghost use Rattle.std.specs.Prelude.{◌≡◌, false};
-
 use crate::asked::Asked;
 use crate::denials::{explain_default, explain_denials};
 use crate::explaining::{Reading, explain_arguments, explain_open};
