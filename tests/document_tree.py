@@ -119,7 +119,7 @@ class Code:
     defined: dict = dataclasses.field(default_factory=dict)
 
     def named(self, path):
-        """The functions of a path: a name alone, or behind its type or the file that it stands in."""
+        """The functions of a path: a name alone, or after its type or the file that it is in."""
         owner, _, name = path.rpartition("::")
         return [function for function in self.functions if function.name == name and owner in ("", *function.owners)]
 

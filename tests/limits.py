@@ -61,7 +61,7 @@ def left_by(program, config=None):
 
 
 def booted(*images, frame=1):
-    """Calls that boot VM 0 from images of these lengths, all of them zero, one behind the other from guest frame 0."""
+    """Calls that boot VM 0 from images of these lengths, all of them zero, one after the other from guest frame 0."""
     calls, base = ["regvm 0", "regvcpu 0 0"], 0
     for image, length in enumerate(images):
         pages = -(-length // PAGE)

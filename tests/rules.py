@@ -122,7 +122,7 @@ class Life:
         self.told["refused"] = {it: counts[it] for it in REASONS if it in counts}
 
     def look(self, line, table):
-        """Looks at the frames that it has behind the call on this line."""
+        """Looks at the frames that it has after the call on this line."""
         now = set(table.values())
         self.ever |= now
         self.told |= {"frames": len(self.ever), "most": max(self.told["most"], len(now)), "left": len(now)}
@@ -528,12 +528,12 @@ class Core:
         lines += [f"vm {v} {slot.phase} {ends(slot.list)}" for v, slot in slots]
         lines += [f"leaf {v} {n} {root}" for v, slot in slots for n, root in enumerate(slot.leaves)]
         lines += [f"entry {v} {g} {slot.table[g]}" for v, slot in slots for g in sorted(slot.table)]
-        before, behind = {}, {}
+        before, after = {}, {}
         for frames in [self.free] + [slot.list for slot in self.slots]:
             before.update(zip(frames[1:], frames))
-            behind.update(zip(frames, frames[1:]))
+            after.update(zip(frames, frames[1:]))
         for f, frame in enumerate(self.frames):
-            links = dash(before.get(f)), dash(behind.get(f))
+            links = dash(before.get(f)), dash(after.get(f))
             words = [f, frame.owner, frame.share, dash(frame.gfn), int(frame.present), *links, digest_of_page(frame.page)]
             lines.append(" ".join(map(str, ["frame", *words])))
         return "\n".join(lines) + "\n"

@@ -13,7 +13,7 @@ PHASES, OWNERS = ("empty", "booting", "active", "dead"), ("core", "host", "free"
 
 
 class Faulty(Exception):
-    """Why a text is no state's, as it is said behind 'kcore: '."""
+    """Why a text is no state's, as it is said after 'kcore: '."""
 
 
 def state_text(core):
@@ -52,7 +52,7 @@ def numbers_of(words, limit=2 ** 32):
     return None if None in numbers else numbers
 
 
-# Lines. Each takes the words behind the line's name, and gives what they say, or None where no line says so.
+# Lines. Each takes the words after the line's name, and gives what they say, or None where no line says so.
 
 
 def sizes_of(words):
@@ -84,7 +84,7 @@ def page_of(words):
 
 
 class Lines:
-    """The lines of a text from the front on; behind the last newline there is none."""
+    """The lines of a text from the front on; after the last newline there is none."""
 
     def __init__(self, text):
         *self.lines, self.rest = text.split("\n")
@@ -185,11 +185,11 @@ class Told:
         if len(words) != 8 or number_of(words[0], self.size) is None or words[4] not in ("0", "1") or digest_of(words[7:]) is None:
             return None
         owner = words[1] if words[1] in OWNERS else number_of(words[1], len(self.vms))
-        share, before, behind = number_of(words[2], SHARES + 1), self.frame_or_dash(words[5]), self.frame_or_dash(words[6])
+        share, before, after = number_of(words[2], SHARES + 1), self.frame_or_dash(words[5]), self.frame_or_dash(words[6])
         gfn = [None] if words[3] == "-" else [number_of(words[3], GUEST_FRAMES)]
-        if owner is None or share is None or before is None or behind is None or (gfn[0] is None and words[3] != "-"):
+        if owner is None or share is None or before is None or after is None or (gfn[0] is None and words[3] != "-"):
             return None
-        return int(words[0]), (owner, share, gfn[0], words[4] == "1", before[0], behind[0], words[7])
+        return int(words[0]), (owner, share, gfn[0], words[4] == "1", before[0], after[0], words[7])
 
     def take_frame(self, lines, f):
         """The line of this frame; that of another, or no more text, is told as that."""

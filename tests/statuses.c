@@ -160,7 +160,7 @@ int main(void) {
     is(ask(&core, "give 5", sizeof out), KCORE_HISTORY_FULL, "a call more than there may be");
     is(ask(&core, "nonsense", sizeof out), KCORE_BAD_LINE, "no call, where the history is full");
     is(line(&core, 65536, sizeof out), KCORE_DONE, "the last call");
-    is(line(&core, 65537, sizeof out), KCORE_NO_SUCH_LINE, "the line behind it");
+    is(line(&core, 65537, sizeof out), KCORE_NO_SUCH_LINE, "the line after it");
     is(kcore_turn(&core), KCORE_DONE, "the next volume");
     is(line(&core, 0, sizeof out), KCORE_DONE, "its header");
     is(used == 14 && memcmp(out, "kcore-trace 2\n", 14) == 0 ? 0 : 1, 0, "which is the same");
@@ -169,13 +169,13 @@ int main(void) {
     is(used == 8 && memcmp(out, "frame 6\n", 8) == 0 ? 0 : 1, 0, "the frame before the one that was given back");
     is(kcore_turn(&core), KCORE_DONE, "one more volume, before this one is full");
     is(ask(&core, "take", sizeof out), KCORE_DONE, "the first call there");
-    is(used == 8 && memcmp(out, "frame 7\n", 8) == 0 ? 0 : 1, 0, "the frame behind it, since the core goes on");
+    is(used == 8 && memcmp(out, "frame 7\n", 8) == 0 ? 0 : 1, 0, "the frame after it, since the core goes on");
     is(line(&core, 1, sizeof out), KCORE_DONE, "the only call of this volume");
-    is(line(&core, 2, sizeof out), KCORE_NO_SUCH_LINE, "the line behind that");
+    is(line(&core, 2, sizeof out), KCORE_NO_SUCH_LINE, "the line after that");
     is(kcore_end(&core), KCORE_DONE, "the end");
     holds(!core.is_open, "a session that has ended is open");
     is(kcore_end(&core), KCORE_CLOSED, "a second end");
-    is(ask(&core, "take", sizeof out), KCORE_CLOSED, "a call behind the end");
+    is(ask(&core, "take", sizeof out), KCORE_CLOSED, "a call after the end");
     is(boot(&core, "{\"frames\":8,\"core\":1,\"host\":4,\"leaves\":1,\"approved\":[]}"), KCORE_DONE, "once more");
     is(line(&core, 1, sizeof out), KCORE_NO_SUCH_LINE, "a session that has answered nothing");
     is(kcore_end(&core), KCORE_DONE, "its end");

@@ -39,8 +39,8 @@ class Volume:
         self.custody = [([], core.custody_text(calls, told))]
         self.custody.append((list(REMARKS), core.custody_text(calls, noted(told, remarks, REMARKS))))
         self.custody.append((["--summary"], core.summary_text(calls, lives.told())))
-        self.behind = state_text(core)
-        self.dump = self.behind[self.behind.index("kcore-dump "):]
+        self.after = state_text(core)
+        self.dump = self.after[self.after.index("kcore-dump "):]
 
 
 def volumes_of(rng, core, lines, told, remarks):
@@ -54,7 +54,7 @@ def volumes_of(rng, core, lines, told, remarks):
         moved = lambda line: {**line, "line": line["line"] - first}
         own = [[(*more, moved(line)) for *more, line in every if is_own(line)] for every in (told, remarks)]
         volumes.append(Volume(core, lines[first:last], *own, text))
-        text = volumes[-1].behind
+        text = volumes[-1].after
     return volumes
 
 
@@ -78,7 +78,7 @@ def one_of_four(rng, items, other):
 
 
 def sections_of(text):
-    """The lines of a text, each with its newline, those behind one another of one name together."""
+    """The lines of a text, each with its newline, those after one another of one name together."""
     sections = []
     for line in re.findall("[^\n]*\n", text):
         name = line.split(" ")[0]
@@ -177,9 +177,9 @@ def volume_differs(rng, program, volume):
         form, wanted = rng.choice(volume.custody)
         same = program.ran(volume.lines, "custody", *form, *start) == (0, wanted, volume.warning)
         return None if same else "its custody"
-    forms = ([], volume.replies), (["--lines"], volume.answered), (["--state"], volume.behind), (["--dump"], volume.dump)
+    forms = ([], volume.replies), (["--lines"], volume.answered), (["--state"], volume.after), (["--dump"], volume.dump)
     form, wanted = rng.choice(forms)
-    words, workers = [*start, "--to", program.file("to", volume.behind)], str(rng.choice(WORKERS))
+    words, workers = [*start, "--to", program.file("to", volume.after)], str(rng.choice(WORKERS))
     if program.ran(volume.lines, "replay", *form, *words, "--workers", workers) != (0, wanted, volume.warning):
         return f"{form[0] if form else 'its replies'} with {workers} workers"
     return None
@@ -187,7 +187,7 @@ def volume_differs(rng, program, volume):
 
 def blank_differs(rng, program, volume):
     """What differs in a volume without secrets, redacted and between the texts of blank states, or None."""
-    made, left = list(map(calls.redacted, volume.lines)), blanked(volume.behind)
+    made, left = list(map(calls.redacted, volume.lines)), blanked(volume.after)
     if program.ran(volume.lines, "redact") != (0, program.trace_of(made), ""):
         return "redacted"
     start = ["--from", program.file("from", blanked(volume.before))]
@@ -210,20 +210,20 @@ def host_differs(rng, program, volume):
     form, wanted = rng.choice(volume.custody)
     if program.ran(volume.hidden, "custody", *form, *starts[rng.randrange(2)]) != (0, wanted, volume.warning):
         return "its custody, redacted with --host"
-    words = [*starts[1], "--blank", "--to", program.file("to", blanked(volume.behind))]
+    words = [*starts[1], "--blank", "--to", program.file("to", blanked(volume.after))]
     is_left = program.ran(volume.hidden, "replay", *words)[::2] == (0, volume.warning)
     return None if is_left else "the blank state that it leaves, redacted with --host"
 
 
 def end_differs(rng, program, volume):
     """What differs where a volume is compared with another text than that of the state it leaves, or None."""
-    other = volume.before if volume.before != volume.behind and rng.random() < 0.3 else damaged(rng, volume.behind)
+    other = volume.before if volume.before != volume.after and rng.random() < 0.3 else damaged(rng, volume.after)
     words = ["replay", "--from", program.file("from", volume.before), "--to", program.file("to", other)]
     said = volume.warning + ANOTHER
     if program.ran(volume.lines, *words) != (1, volume.replies, said):
         return "compared with another text"
     status, _, more = program.ran(volume.lines, *words, "--explain")
-    first = other[: len(os.path.commonprefix([other, volume.behind]))].count("\n") + 1
+    first = other[: len(os.path.commonprefix([other, volume.after]))].count("\n") + 1
     is_named = more.startswith(said) and f": line {first} is the first that differs\n" in more
     return None if (status, is_named) == (1, True) else f"compared with another text, whose line {first} is the first that differs"
 
@@ -247,7 +247,7 @@ def difference(case, program, told, remarks):
     volumes = volumes_of(rng, Core(config), lines, told, remarks)
     words = ["replay", "--config", program.path, "--state", "--workers", str(rng.choice(WORKERS))]
     answers = [reply for volume in volumes for reply in volume.replies.splitlines()]
-    if program.ran(lines, *words) != (0, volumes[-1].behind, warning_of(answers)):
+    if program.ran(lines, *words) != (0, volumes[-1].after, warning_of(answers)):
         return "the text of the state"
     order, sizes = list(enumerate(volumes, 1)), ", ".join(str(len(it.lines)) for it in volumes)
     rng.shuffle(order)

@@ -13,7 +13,7 @@ class BadEdit(Exception):
 
 @dataclasses.dataclass(frozen=True)
 class Edit:
-    """A wrong body as it is written: its name, the file of the crate that it turns, and the lines behind its name."""
+    """A wrong body as it is written: its name, the file of the crate that it turns, and the lines after its name."""
 
     crate: pathlib.Path
     name: str

@@ -122,7 +122,7 @@ def main(words):
     if len(words) != 1 + shows:
         sys.exit(__doc__.rpartition("\n\n")[2].strip())
     with Session(pathlib.Path(words[-1]).read_bytes()) as session:
-        # (behind the header)
+        # (after the header)
         for line in sys.stdin.buffer.read().split(b"\n")[1:-1]:
             reply = session.call(line)
             for it in session.changes() if shows else []:

@@ -23,10 +23,10 @@ def painted(picture, plot, rows, columns):
         # A mark of a rejected boot goes through all rows.
         if it.kind == "text" or not colour or colour in ("none", DEAD):
             continue
-        for x, y, behind, below in boxes:
+        for x, y, after, below in boxes:
             if y >= bottom or below <= top:
                 continue
-            mine = range(max(0, round((x - left) / width)), min(columns, round((behind - left) / width)))
+            mine = range(max(0, round((x - left) / width)), min(columns, round((after - left) / width)))
             for row in range(max(0, int((y - top) / height)), min(rows, int((below - top) / height) + 1)):
                 for part, place in enumerate((0.35, 1 - 0.1)):
                     if y <= top + height * (row + place) <= below:
@@ -101,8 +101,8 @@ class Cells(Case):
             if it.kind == "path" and it.title and top <= it.box[1] <= bottom:
                 ((begin, y, end),) = levels_of(it.element.get("d"))
                 row = int((y - top) * rows / (bottom - top))
-                first, behind = (round((x - left) * columns / (right - left)) for x in (begin, end))
-                mine = range(first, behind)
+                first, after = (round((x - left) * columns / (right - left)) for x in (begin, end))
+                mine = range(first, after)
                 titled.update((row, column) for column in mine)
                 want(it.title == self.title_of_cells(row, mine), f"cells {row}, {mine} say '{it.title}'")
                 want(len({self.whose(row, column) for column in mine}) == 1, f"'{it.title}' is of several")

@@ -166,10 +166,10 @@ class Lanes(Case):
         drawn = {}
         for path in paths:
             for begin, y, end in levels_of(path.element.get("d")):
-                first, behind = ((x - LEFT) * columns / PLOT for x in (begin, end))
-                is_whole = abs(first - round(first)) + abs(behind - round(behind)) < 0.05
+                first, after = ((x - LEFT) * columns / PLOT for x in (begin, end))
+                is_whole = abs(first - round(first)) + abs(after - round(after)) < 0.05
                 want(is_whole, f"a path has a level from {begin} to {end}")
-                for column in range(round(first), round(behind)):
+                for column in range(round(first), round(after)):
                     want(column not in drawn, f"a path goes over column {column} twice")
                     drawn[column] = y
         return drawn

@@ -108,20 +108,20 @@ enough_kept k d vs ds many (inr both) = inr (many, omega (arith, put_more k d ds
 
 -- a digest before others, if each is one
 abbrev digest_first : Option (List ℕ) → Option (List (List ℕ)) → Option (List (List ℕ))
-digest_first first behind = option_and_then (λ digest. option_map (λ digests. digest ∷ digests) behind) first
+digest_first first after = option_and_then (λ digest. option_map (λ digests. digest ∷ digests) after) first
 
 -- the digests of some values, before those of the values that follow
 abbrev pub digests_before : List Value → Option (List (List ℕ)) → Option (List (List ℕ))
-digests_before [] behind = behind
-digests_before (v ∷ vs) behind = digest_first (digest_of_value (view v)) (digests_before vs behind)
+digests_before [] after = after
+digests_before (v ∷ vs) after = digest_first (digest_of_value (view v)) (digests_before vs after)
 
 pub digests_before-items : (vs : List Value) → digests_before vs (Some []) ≡ digests_in (items_view vs)
 digests_before-items [] = refl
 digests_before-items (v ∷ vs) = ap (digest_first (digest_of_value (view v))) (digests_before-items vs)
 
-pub digests_before-append : (vs ws : List Value) (behind : Option (List (List ℕ))) → digests_before (vs ++ ws) behind ≡ digests_before vs (digests_before ws behind)
-digests_before-append [] ws behind = refl
-digests_before-append (v ∷ vs) ws behind = ap (digest_first (digest_of_value (view v))) (digests_before-append vs ws behind)
+pub digests_before-append : (vs ws : List Value) (after : Option (List (List ℕ))) → digests_before (vs ++ ws) after ≡ digests_before vs (digests_before ws after)
+digests_before-append [] ws after = refl
+digests_before-append (v ∷ vs) ws after = ap (digest_first (digest_of_value (view v))) (digests_before-append vs ws after)
 
 none_first : (o : Option (List ℕ)) → digest_first o None ≡ None
 none_first None = refl
@@ -132,7 +132,7 @@ digests_before-none [] = refl
 digests_before-none (v ∷ vs) = ap (digest_first (digest_of_value (view v))) (digests_before-none vs) ∙ none_first (digest_of_value (view v))
 
 abbrev pub FindsNone : List Value → Type 0
-FindsNone found = (behind : Option (List (List ℕ))) → digests_before found behind ≡ None
+FindsNone found = (after : Option (List (List ℕ))) → digests_before found after ≡ None
 
 -- All items are those that were read and then those that are left, and what was found has the digests of those read. If
 -- not all of them are digests, nothing that follows matters.
@@ -164,8 +164,8 @@ module _ (found : List Value) (are_digests : Bool) (all left more : Option (Item
     read = read_on;
     digests = λ rest. digests_before-append found (v ∷ []) (digests_in rest)
         ∙ ap (λ digest. digests_before found (digest_first digest (digests_in rest))) same ∙ so_far.digests (item d rest);
-    none = λ other behind. digests_before-append found (v ∷ []) behind
-        ∙ ap (λ digest. digests_before found (digest_first digest behind)) (same ∙ none other) ∙ digests_before-none found;
+    none = λ other after. digests_before-append found (v ∷ []) after
+        ∙ ap (λ digest. digests_before found (digest_first digest after)) (same ∙ none other) ∙ digests_before-none found;
   }
 
   -- an item is passed over after one that is not a digest

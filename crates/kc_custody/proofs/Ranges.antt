@@ -32,8 +32,8 @@ fails-at p f held absent has = elim (cases_Bool (p f)) [
 ]
 
 -- a number above the first of a list, and in the list, is after it
-behind : (x : ℕ) (xs : List ℕ) (f : ℕ) → x < f → is_in (x ∷ xs) f ≡ true → is_in xs f ≡ true
-behind x xs f above held = elim (or_cases (nat_eq x f) (is_in xs f) held) [
+in-rest : (x : ℕ) (xs : List ℕ) (f : ℕ) → x < f → is_in (x ∷ xs) f ≡ true → is_in xs f ≡ true
+in-rest x xs f above held = elim (or_cases (nat_eq x f) (is_in xs f) held) [
   | inl here ↦ let is = eqb-true x f here in absurd (omega (arith, is, above))
   | inr there ↦ there
 ]
@@ -59,7 +59,7 @@ filter-range p low (suc n) (x ∷ xs) rising has = elim (cases_eq x low) [
       let rest : filter p (range_with_len (low + 1) n) ≡ filter p xs = filter-range p (low + 1) n xs up (λ f le passes.
       let h = has f (omega (arith, le)) passes in
       let lt = h.0 in
-      (omega (arith, lt), behind x xs f (omega (arith, le, same)) h.1)) in
+      (omega (arith, lt), in-rest x xs f (omega (arith, le, same)) h.1)) in
       rw (same, rest) refl
   | inr differs ↦
       let first = rising.0 in

@@ -6,4 +6,4 @@ pub mod Tally
 pub mod Tallies
 pub mod Ends
 pub mod Within
-pub mod Behind
+pub mod Gathered

@@ -20,12 +20,7 @@ fn custody_at_boot(config: &Config, frame: u32) -> Custody
     requires { frame < config.now.frames }
     ensures { result ≡ custody_at (boot config.now) frame }
 {
-    Custody {
-        owner: config.owner_at_boot(frame),
-        gfn: None,
-        share: 0,
-        present: false,
-    }
+    Custody::untouched(config.owner_at_boot(frame))
 }
 
 /// A slot that comes to be in a phase, before the first call.

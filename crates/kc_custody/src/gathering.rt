@@ -3,7 +3,7 @@ ghost use Rattle.std.specs.Prelude.{◌≡◌, All, IfOk};
 ghost use Rattle.kc_model.specs.Lives.{lives};
 ghost use Rattle.kc_custody.specs.Within.{IsWithin};
 
-use crate::behind::Behind;
+use crate::gathered::Gathered;
 use kc_types::{Event, Life, Memory};
 use std::alloc::Global;
 
@@ -14,9 +14,9 @@ pub fn lives(alloc: Global, frames: u32, mut events: Vec<Event>) -> Result<Vec<L
     // No clause can rule out that memory runs out: examples of the program make some.
     ensures { IfOk result (λ told. told.items ≡ lives events.items) }
 {
-    let mut behind = Behind::none(alloc, frames)?;
+    let mut gathered = Gathered::none(alloc, frames)?;
     while let Some(event) = events.pop() {
-        behind.note(alloc, event)?;
+        gathered.note(alloc, event)?;
     }
-    Ok(behind.into_lives())
+    Ok(gathered.into_lives())
 }

@@ -10,14 +10,14 @@
 //! - calls made, and noted or summarized: `src/noting.rt`; the frame that a call names: `src/naming.rt`; which notes are written:
 //!   `specs/Chosen.antt`, `src/chosen.rt`
 //! - how lives are counted, from the last event to the first: what the events after a point say of a slot, of a frame
-//!   and of all: `specs/Tally.antt`, `specs/Ends.antt`, `specs/Behind.antt`; the loop: `src/gathering.rt`
+//!   and of all: `specs/Tally.antt`, `specs/Ends.antt`, `specs/Gathered.antt`; the loop: `src/gathering.rt`
 #![tactic(auto)]
 
 mod before;
-mod behind;
 mod chosen;
 mod different;
 mod ends;
+mod gathered;
 mod gathering;
 mod look_ups;
 mod movable;

@@ -33,12 +33,7 @@ pub fn custody_at(core: &KCore, frame: u32) -> Custody
         None => {
             // What follows from a core's state being lawful, as this clause says.
             let _config = core.config();
-            Custody {
-                owner: Owner::Core,
-                gfn: None,
-                share: 0,
-                present: false,
-            }
+            Custody::untouched(Owner::Core)
         },
     }
 }

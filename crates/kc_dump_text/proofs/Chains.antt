@@ -15,12 +15,12 @@ use Rattle.kc_dump_text.specs.declared.place.Place.{Place}
 use Rattle.kc_dump_text.specs.declared.dump_line.DumpLine.{DumpLine}
 use Rattle.kc_dump_text.specs.declared.dump_line.DumpLine.TheVariants.{SizeOf, LeafOf, EntryOf, FrameOf}
 use Rattle.kc_dump_text.specs.DumpText.{made, gather, vm_of, leaves_of, entries_of, rest_of, dump_lines}
-use Rattle.kc_dump_text.specs.Places.{is_size, in_range, section, comes, may, behind, start, chain, end}
+use Rattle.kc_dump_text.specs.Places.{is_size, in_range, section, comes, may, place_after, start, chain, end}
 use Rattle.kc_dump_text.proofs.Limits.{few-frames}
 
 pub end-both : (place : Place) (xs ys : List DumpLine) → end place (xs ++ ys) ≡ end (end place xs) ys
 end-both place [] ys = refl
-end-both place (x ∷ xs) ys = end-both (behind place x) xs ys
+end-both place (x ∷ xs) ys = end-both (place_after place x) xs ys
 
 module _ (version : Version) (n : ℕ) where
   -- what is true of a line that may come
@@ -40,15 +40,15 @@ module _ (version : Version) (n : ℕ) where
 
   pub chain-both : (place : Place) (xs ys : List DumpLine) → chain version n place xs ≡ true → chain version n (end place xs) ys ≡ true → chain version n place (xs ++ ys) ≡ true
   chain-both place [] ys a b = b
-  chain-both place (x ∷ xs) ys a b = let p = and_parts (may version n place x) _ a in and_from _ _ p.0 (chain-both (behind place x) xs ys p.1 b)
+  chain-both place (x ∷ xs) ys a b = let p = and_parts (may version n place x) _ a in and_from _ _ p.0 (chain-both (place_after place x) xs ys p.1 b)
 
-  pub chain-behind : (place : Place) (xs ys : List DumpLine) → chain version n place (xs ++ ys) ≡ true → chain version n (end place xs) ys ≡ true
-  chain-behind place [] ys e = e
-  chain-behind place (x ∷ xs) ys e = chain-behind (behind place x) xs ys (and_parts (may version n place x) _ e).1
+  pub chain-after : (place : Place) (xs ys : List DumpLine) → chain version n place (xs ++ ys) ≡ true → chain version n (end place xs) ys ≡ true
+  chain-after place [] ys e = e
+  chain-after place (x ∷ xs) ys e = chain-after (place_after place x) xs ys (and_parts (may version n place x) _ e).1
 
   pub chain-range : (place : Place) (lines : List DumpLine) → chain version n place lines ≡ true → list_all (in_range version n) lines ≡ true
   chain-range place [] e = refl
-  chain-range place (l ∷ lines) e = let p = and_parts (may version n place l) _ e in and_from _ _ (may-parts place l p.0).range (chain-range (behind place l) lines p.1)
+  chain-range place (l ∷ lines) e = let p = and_parts (may version n place l) _ e in and_from _ _ (may-parts place l p.0).range (chain-range (place_after place l) lines p.1)
 
   -- ---- a dump's lines are a chain
 
@@ -56,14 +56,14 @@ module _ (version : Version) (n : ℕ) where
   frames-chain f place [] order all here few each = refl
   frames-chain f place (x ∷ xs) order all here few each =
       and_from _ _ (may-from place (FrameOf f x) order (and_from _ _ (eq-eqb _ _ all) (eq-eqb _ _ (sym here))) (and_from _ _ (lt-ltb f n (omega (arith, few))) (each 0 (omega arith))))
-      (frames-chain (f + 1) (behind place (FrameOf f x)) xs (omega arith) all refl (omega (arith, few)) (λ k low. each (suc k) (omega (arith, low))))
+      (frames-chain (f + 1) (place_after place (FrameOf f x)) xs (omega arith) all refl (omega (arith, few)) (λ k low. each (suc k) (omega (arith, low))))
 
   pub vms-chain : (place : Place) (xs : List SlotDump) (r : List DumpLine) → place.section ≡ 0 → place.vm + length xs ≤ slots_of version → ((k : ℕ) → k < length xs → are_ends n (get_or xs k empty_dump).list ≡ true)
       → chain version n (record place { vm = place.vm + length xs }) r ≡ true → chain version n place (made vm_of place.vm xs ++ r) ≡ true
   vms-chain place [] r order few each next = subst (λ v. chain version n (record place { vm = v }) r ≡ true) (let e : place.vm + 0 ≡ place.vm = omega arith in e) next
   vms-chain place (x ∷ xs) r order few each next =
       and_from _ _ (may-from place (vm_of place.vm x) (omega (arith, order)) (eq-eqb _ _ refl) (and_from _ _ (lt-ltb place.vm (slots_of version) (omega (arith, few))) (each 0 (omega arith))))
-      (vms-chain (behind place (vm_of place.vm x)) xs r order (omega (arith, few)) (λ k low. each (suc k) (omega (arith, low))) (subst (λ v. chain version n (record place { vm = v }) r ≡ true) (let e : place.vm + suc (length xs) ≡ place.vm + 1 + length xs = omega arith in e) next))
+      (vms-chain (place_after place (vm_of place.vm x)) xs r order (omega (arith, few)) (λ k low. each (suc k) (omega (arith, low))) (subst (λ v. chain version n (record place { vm = v }) r ≡ true) (let e : place.vm + suc (length xs) ≡ place.vm + 1 + length xs = omega arith in e) next))
 
   -- the lines of each slot, where those of one slot may come after those of the slots before it
   gather-chain : {X : Type 0} (pick : SlotDump → List X) (make : ℕ → ℕ → X → DumpLine) (Ready : ℕ → Place → Type 0) (Slot : ℕ → SlotDump → Type 0)
@@ -98,7 +98,7 @@ module _ (version : Version) (n : ℕ) where
   entry-run v i place (x ∷ xs) r each rising ready ahead next =
       let above : nat_lt place.entry.0 v || ((v == place.entry.0) && nat_le place.entry.1 x.0) ≡ true = elim ahead [ inl h ↦ or_left _ _ (lt-ltb place.entry.0 v h) | inr h ↦ or_right _ _ (and_from _ _ (eq-eqb v place.entry.0 (sym h.0)) (le-leb place.entry.1 x.0 (h.1 (omega arith)))) ] in
       and_from _ _ (may-from place (EntryOf v x) ready.0 (and_from _ _ (eq-eqb place.vm (slots_of version) ready.1) above) (each 0 (omega arith)))
-      (entry-run v (i + 1) (behind place (EntryOf v x)) xs r (λ j l. each (suc j) (omega (arith, l))) (λ j l. rising (suc j) (omega (arith, l))) (omega arith, ready.1, ready.2) (inr (refl, λ some. (let a = rising 0 (omega (arith, some)) in omega (arith, a)))) next)
+      (entry-run v (i + 1) (place_after place (EntryOf v x)) xs r (λ j l. each (suc j) (omega (arith, l))) (λ j l. rising (suc j) (omega (arith, l))) (omega arith, ready.1, ready.2) (inr (refl, λ some. (let a = rising 0 (omega (arith, some)) in omega (arith, a)))) next)
 
   -- ---- and lines that are a chain are in range
 
@@ -107,22 +107,22 @@ module _ (version : Version) (n : ℕ) where
   run-rising v i place [] r e k low = absurd (omega (arith, low))
   run-rising v i place (x ∷ []) r e k low = absurd (omega (arith, low))
   run-rising v i place (x ∷ y ∷ xs) r e zero low =
-      let p = and_parts (may version n (behind place (EntryOf v x)) (EntryOf v y)) _ (and_parts (may version n place (EntryOf v x)) _ e).1 in
-      elim (or_cases (nat_lt v v) ((v == v) && nat_le (x.0 + 1) y.0) (and_parts (place.vm == slots_of version) _ (may-parts (behind place (EntryOf v x)) (EntryOf v y) p.0).next).1) [ inl h ↦ let a = ltb-true v v h in absurd (omega (arith, a)) | inr h ↦ let a = leb-true (x.0 + 1) y.0 (and_parts (v == v) (nat_le (x.0 + 1) y.0) h).1 in omega (arith, a) ]
-  run-rising v i place (x ∷ y ∷ xs) r e (suc k) low = run-rising v (i + 1) (behind place (EntryOf v x)) (y ∷ xs) r (and_parts (may version n place (EntryOf v x)) _ e).1 k (omega (arith, low))
+      let p = and_parts (may version n (place_after place (EntryOf v x)) (EntryOf v y)) _ (and_parts (may version n place (EntryOf v x)) _ e).1 in
+      elim (or_cases (nat_lt v v) ((v == v) && nat_le (x.0 + 1) y.0) (and_parts (place.vm == slots_of version) _ (may-parts (place_after place (EntryOf v x)) (EntryOf v y) p.0).next).1) [ inl h ↦ let a = ltb-true v v h in absurd (omega (arith, a)) | inr h ↦ let a = leb-true (x.0 + 1) y.0 (and_parts (v == v) (nat_le (x.0 + 1) y.0) h).1 in omega (arith, a) ]
+  run-rising v i place (x ∷ y ∷ xs) r e (suc k) low = run-rising v (i + 1) (place_after place (EntryOf v x)) (y ∷ xs) r (and_parts (may version n place (EntryOf v x)) _ e).1 k (omega (arith, low))
 
   rising : (v : ℕ) (place : Place) (slots : List SlotDump) (r : List DumpLine) → chain version n place (entries_of v slots ++ r) ≡ true → (s k : ℕ) → s < length slots → suc k < length (get_or slots s empty_dump).entries
       → (get_or (get_or slots s empty_dump).entries k (0, 0)).0 < (get_or (get_or slots s empty_dump).entries (suc k) (0, 0)).0
   rising v place [] r e s k low l = absurd (omega (arith, low))
   rising v place (slot ∷ slots) r e zero k low l = run-rising v 0 place slot.entries (entries_of (v + 1) slots ++ r) (rw append_assoc at e) k l
-  rising v place (slot ∷ slots) r e (suc s) k low l = rising (v + 1) _ slots r (chain-behind place (made (λ i e. EntryOf v e) 0 slot.entries) (entries_of (v + 1) slots ++ r) (rw append_assoc at e)) s k (omega (arith, low)) l
+  rising v place (slot ∷ slots) r e (suc s) k low l = rising (v + 1) _ slots r (chain-after place (made (λ i e. EntryOf v e) 0 slot.entries) (entries_of (v + 1) slots ++ r) (rw append_assoc at e)) s k (omega (arith, low)) l
 
 -- the two parts of a list
 pub all-front : (p : DumpLine → Bool) (xs ys : List DumpLine) → list_all p (xs ++ ys) ≡ true → list_all p xs ≡ true
 all-front p xs ys e = (and_parts (list_all p xs) (list_all p ys) (sym (list_all-append p xs ys) ∙ e)).0
 
-pub all-behind : (p : DumpLine → Bool) (xs ys : List DumpLine) → list_all p (xs ++ ys) ≡ true → list_all p ys ≡ true
-all-behind p xs ys e = (and_parts (list_all p xs) (list_all p ys) (sym (list_all-append p xs ys) ∙ e)).1
+pub all-after : (p : DumpLine → Bool) (xs ys : List DumpLine) → list_all p (xs ++ ys) ≡ true → list_all p ys ≡ true
+all-after p xs ys e = (and_parts (list_all p xs) (list_all p ys) (sym (list_all-append p xs ys) ∙ e)).1
 
 made-each : {X : Type 0} (p : DumpLine → Bool) (make : ℕ → X → DumpLine) (i : ℕ) (xs : List X) (d : X) (r : List DumpLine) → list_all p (made make i xs ++ r) ≡ true → (k : ℕ) → k < length xs → p (make (i + k) (get_or xs k d)) ≡ true
 made-each p make i [] d r e k low = absurd (omega (arith, low))
@@ -136,7 +136,7 @@ gather-each p pick make v (slot ∷ slots) d r e zero i low l =
     subst (λ w. p (make w (0 + i) (get_or (pick slot) i d)) ≡ true) (let a : v ≡ v + 0 = omega arith in a) (made-each p (make v) 0 (pick slot) d (gather pick make (v + 1) slots ++ r) (rw append_assoc at e) i l)
 gather-each p pick make v (slot ∷ slots) d r e (suc s) i low l =
     subst (λ w. p (make w (0 + i) (get_or (pick (get_or slots s empty_dump)) i d)) ≡ true) (let a : v + 1 + s ≡ v + suc s = omega arith in a)
-    (gather-each p pick make (v + 1) slots d r (all-behind p (made (make v) 0 (pick slot)) (gather pick make (v + 1) slots ++ r) (rw append_assoc at e)) s i (omega (arith, low)) l)
+    (gather-each p pick make (v + 1) slots d r (all-after p (made (make v) 0 (pick slot)) (gather pick make (v + 1) slots ++ r) (rw append_assoc at e)) s i (omega (arith, low)) l)
 
 places-below : (xs : List ℕ) → ((i : ℕ) → i < length xs → 0 + i < byte_limit) → length xs ≤ byte_limit
 places-below [] low = omega arith
@@ -201,8 +201,8 @@ chained d size free slots e =
     let vms = made vm_of 0 d.slots in
     let frames = made FrameOf 0 d.frames in
     let each = chain-range version n start (rest_of d) e in
-    let tables = all-behind range vms _ each in
-    let entries = all-behind range (leaves_of 0 d.slots) _ tables in
+    let tables = all-after range vms _ each in
+    let entries = all-after range (leaves_of 0 d.slots) _ tables in
     let root = λ (v i : ℕ) (low : v < length d.slots) (l : i < length (get_or d.slots v empty_dump).leaves).
     and_parts (nat_lt (0 + v) (slots_of version) && nat_lt (0 + i) byte_limit) (nat_lt (get_or (get_or d.slots v empty_dump).leaves i 0) leaf_entries) (gather-each range (λ (s : SlotDump). s.leaves) LeafOf 0 d.slots 0 _ tables v i low l) in
     record {
@@ -217,8 +217,8 @@ chained d size free slots e =
       leaves = λ v. elim (cases_Bool (nat_lt v (length d.slots))) [ inl h ↦ places-below (get_or d.slots v empty_dump).leaves (λ i l. ltb-true (0 + i) byte_limit (and_parts (nat_lt (0 + v) (slots_of version)) (nat_lt (0 + i) byte_limit) (root v i (ltb-true v (length d.slots) h) l).0).1) | inr h ↦ rw (get_or_past d.slots v empty_dump (ltb-false v (length d.slots) h)) (omega arith) ];
       roots = λ v i low l. ltb-true _ leaf_entries (root v i low l).1;
       entries = λ v i low l. subst (λ w. is_entry version n w (get_or (get_or d.slots v empty_dump).entries i (0, 0)) ≡ true) (let a : 0 + v ≡ v = omega arith in a) (gather-each range (λ (s : SlotDump). s.entries) (λ v i e. EntryOf v e) 0 d.slots (0, 0) frames entries v i low l);
-      rising = rising version n 0 _ d.slots frames (chain-behind version n _ (leaves_of 0 d.slots) _ (chain-behind version n start vms _ e));
-      frames = λ f low. (and_parts (nat_lt (0 + f) n) _ (made-each range FrameOf 0 d.frames absent_line [] (rw append-nil (all-behind range (entries_of 0 d.slots) frames entries)) f low)).1;
+      rising = rising version n 0 _ d.slots frames (chain-after version n _ (leaves_of 0 d.slots) _ (chain-after version n start vms _ e));
+      frames = λ f low. (and_parts (nat_lt (0 + f) n) _ (made-each range FrameOf 0 d.frames absent_line [] (rw append-nil (all-after range (entries_of 0 d.slots) frames entries)) f low)).1;
     }
 
 pub is-dump : (version : Version) (n : ℕ) (d : Dumped) → d.version ≡ version → length d.frames ≡ n → Chained d version n

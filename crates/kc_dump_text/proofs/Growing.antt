@@ -12,7 +12,7 @@ use Rattle.kc_dump_text.specs.declared.place.Place.{Place}
 use Rattle.kc_dump_text.specs.declared.dump_line.DumpLine.{DumpLine}
 use Rattle.kc_dump_text.specs.declared.dump_line.DumpLine.TheVariants.{SizeOf, FreeOf, VmOf, LeafOf, EntryOf, FrameOf}
 use Rattle.kc_dump_text.specs.DumpText.{spell, made, gather, vm_of, leaves_of, entries_of, rest_of}
-use Rattle.kc_dump_text.specs.Places.{may, behind, start, chain, end}
+use Rattle.kc_dump_text.specs.Places.{may, place_after, start, chain, end}
 use Rattle.kc_dump_text.specs.Begun.{with_line, HasSlot, NoLeaves, NoEntries, IsPlace, IsAt, begun_lines, ReadsOn, IsBegun}
 use Rattle.kc_dump_text.proofs.Chains.{end-both, May, may-parts, chain-both}
 
@@ -83,7 +83,7 @@ module _ (version : Version) (n : ℕ) where
   not-early : {A : Type 0} (place : Place) (b : Bool) → (place.vm == slots_of version && b) ≡ true → place.vm < slots_of version → A
   not-early place b next low = let all = eqb-true place.vm (slots_of version) (and_parts _ b next).0 in absurd (omega (arith, all, low))
 
-  place-more : (place : Place) (l : DumpLine) → IsPlace version n place → May version n place l → IsPlace version n (behind place l)
+  place-more : (place : Place) (l : DumpLine) → IsPlace version n place → May version n place l → IsPlace version n (place_after place l)
   place-more place (SizeOf f c k) right m = right
   place-more place (FreeOf ends) right m = right
   place-more place (VmOf v p ends) right m = record { order = right.order; slots = omega (arith, ltb-true v (slots_of version) (and_parts _ _ m.range).0); frames = right.frames; early = λ l. omega (arith, m.order) }
@@ -91,7 +91,7 @@ module _ (version : Version) (n : ℕ) where
   place-more place (EntryOf v x) right m = record { order = omega arith; slots = right.slots; frames = right.frames; early = not-early place _ m.next }
   place-more place (FrameOf f line) right m = record { order = omega arith; slots = right.slots; frames = omega (arith, ltb-true f n (and_parts _ _ m.range).0); early = not-early place _ m.next }
 
-  added : (d : Dumped) (place : Place) (l : DumpLine) → IsAt d place → may version n place l ≡ true → IsAt (with_line d l) (behind place l) × (rest_of (with_line d l) ≡ rest_of d ++ l ∷ [])
+  added : (d : Dumped) (place : Place) (l : DumpLine) → IsAt d place → may version n place l ≡ true → IsAt (with_line d l) (place_after place l) × (rest_of (with_line d l) ≡ rest_of d ++ l ∷ [])
   added d place (SizeOf f c k) here is = (let e = (may-parts version n place (SizeOf f c k) is).next in absurd cc)
   added d place (FreeOf ends) here is = (let e = (may-parts version n place (FreeOf ends) is).next in absurd cc)
   added d place (VmOf v p ends) here is =
@@ -146,12 +146,12 @@ module _ (version : Version) (n : ℕ) where
         rw (made-push FrameOf 0 d.frames line, let e : 0 + length d.frames ≡ f = omega (arith, at) in e) (simp append_assoc),
       )
 
-  pub begun-more : (d : Dumped) (place : Place) (l : DumpLine) → IsBegun version n d place → may version n place l ≡ true → IsBegun version n (with_line d l) (behind place l) × (begun_lines n (with_line d l) ≡ begun_lines n d ++ l ∷ [])
+  pub begun-more : (d : Dumped) (place : Place) (l : DumpLine) → IsBegun version n d place → may version n place l ≡ true → IsBegun version n (with_line d l) (place_after place l) × (begun_lines n (with_line d l) ≡ begun_lines n d ++ l ∷ [])
   begun-more d place l b is =
       let a = added d place l b.here is in
-      let chain : chain version n start (rest_of (with_line d l)) ≡ true = rw a.1 (chain-both version n start (rest_of d) (l ∷ []) b.chain (and_from _ _ (rw b.behind is) refl)) in
-      let end_place = ap (end start) a.1 ∙ end-both start (rest_of d) (l ∷ []) ∙ ap (λ p. behind p l) b.behind in
-      (record { same = b.same; sizes = b.sizes; free = b.free; chain = chain; behind = end_place; right = place-more place l b.right (may-parts version n place l is); here = a.0 }, ap (λ (ls : List DumpLine). SizeOf n d.core d.leaves ∷ FreeOf d.free ∷ ls) a.1)
+      let chain : chain version n start (rest_of (with_line d l)) ≡ true = rw a.1 (chain-both version n start (rest_of d) (l ∷ []) b.chain (and_from _ _ (rw b.reached is) refl)) in
+      let end_place = ap (end start) a.1 ∙ end-both start (rest_of d) (l ∷ []) ∙ ap (λ p. place_after p l) b.reached in
+      (record { same = b.same; sizes = b.sizes; free = b.free; chain = chain; reached = end_place; right = place-more place l b.right (may-parts version n place l is); here = a.0 }, ap (λ (ls : List DumpLine). SizeOf n d.core d.leaves ∷ FreeOf d.free ∷ ls) a.1)
 
 -- one more line of the text
 pub reads-more : (n : ℕ) (d0 d e : Dumped) (l : DumpLine) (text rest more : List ℕ) → begun_lines n e ≡ begun_lines n d ++ l ∷ [] → ReadsOn n d0 text d rest → rest ≡ spell l ++ more → ReadsOn n d0 text e more

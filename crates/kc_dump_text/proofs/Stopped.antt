@@ -18,11 +18,11 @@ use Rattle.kc_dump_text.specs.declared.dump_line.DumpLine.{DumpLine}
 use Rattle.kc_dump_text.specs.declared.dump_line.DumpLine.TheVariants.{SizeOf, FreeOf, VmOf, FrameOf}
 use Rattle.kc_dump_text.specs.declared.fault.DumpFault.TheVariants.{BadLine, Frame}
 use Rattle.kc_dump_text.specs.DumpText.{spell, dump_lines, rest_of}
-use Rattle.kc_dump_text.specs.Places.{is_size, is_free, in_range, is_other, may, behind, start, chain, end}
+use Rattle.kc_dump_text.specs.Places.{is_size, is_free, in_range, is_other, may, place_after, start, chain, end}
 use Rattle.kc_dump_text.specs.Refused.{GoesOn, Starts, DumpStopsAt, DumpStopsFor, LacksFrame}
 use Rattle.kc_dump_text.specs.Begun.{first_line, newlines, begins, HasNone, HasOther, nothing, with_line, begun_lines, IsPlace, IsAt, IsBegun, IsTextOf}
 use Rattle.kc_dump_text.proofs.ReadLines.{first-spelled, line-newlines}
-use Rattle.kc_dump_text.proofs.Chains.{may-parts, may-from, chain-range, chain-behind, all-behind, few-of, dump-range, dump-chain, is-dump}
+use Rattle.kc_dump_text.proofs.Chains.{may-parts, may-from, chain-range, chain-after, all-after, few-of, dump-range, dump-chain, is-dump}
 use Rattle.kc_dump_text.proofs.Growing.{begun-more}
 use Rattle.kc_dump_text.proofs.Followed.{frame, frames-picked}
 
@@ -37,7 +37,7 @@ module _ (version : Version) (n : ℕ) where
   Goes lines = (d : Dumped) × (next : List DumpLine) × GoesOn version lines d next
 
   -- one more line, and what follows it
-  more : (d : Dumped) (place : Place) (l : DumpLine) → IsBegun version n d place → may version n place l ≡ true → (IsBegun version n (with_line d l) (behind place l) → Goes (begun_lines n (with_line d l))) → (e : Dumped) × (next : List DumpLine) × GoesOn version (begun_lines n d) e (l ∷ next)
+  more : (d : Dumped) (place : Place) (l : DumpLine) → IsBegun version n d place → may version n place l ≡ true → (IsBegun version n (with_line d l) (place_after place l) → Goes (begun_lines n (with_line d l))) → (e : Dumped) × (next : List DumpLine) × GoesOn version (begun_lines n d) e (l ∷ next)
   more d place l b is rest =
       let a = begun-more version n d place l b is in
       let g = rest a.0 in
@@ -57,13 +57,13 @@ module _ (version : Version) (n : ℕ) where
         let l : DumpLine = VmOf place.vm Empty no_ends in
         let low = ltb-true place.vm (slots_of version) h in
         let order = b.right.early low in
-        let g = more d place l b (may-from version n place l (omega (arith, order)) (eq-eqb _ _ refl) (and_from _ _ h (le-leb 0 n (omega arith)))) (λ c. goes k (with_line d l) (behind place l) c (omega (arith, left, low))) in
+        let g = more d place l b (may-from version n place l (omega (arith, order)) (eq-eqb _ _ refl) (and_from _ _ h (le-leb 0 n (omega arith)))) (λ c. goes k (with_line d l) (place_after place l) c (omega (arith, left, low))) in
         (g.0, l ∷ g.1, g.2)
     | inr h ↦
         let l : DumpLine = FrameOf place.frame zero-frame in
         let all : place.vm ≡ slots_of version = (let few = b.right.slots in let a = ltb-false place.vm (slots_of version) h in omega (arith, a, few)) in
         let low : place.frame < n = omega (arith, all, left) in
-        let g = more d place l b (zero-may d place b all low) (λ c. goes k (with_line d l) (behind place l) c (omega (arith, left, low))) in
+        let g = more d place l b (zero-may d place b all low) (λ c. goes k (with_line d l) (place_after place l) c (omega (arith, left, low))) in
         (g.0, l ∷ g.1, g.2)
   ]
 
@@ -84,7 +84,7 @@ module _ (version : Version) (text : List ℕ) where
       | inl h ↦ h.1 (subst (Starts rest) h.0 s)
       | inr h ↦
           let t = subst (Starts rest) h.2 s in
-          none-such is rest h.0 none (ap first_line t.1 ∙ first-spelled d.version (length d.frames) h.0 t.0 (few-of d on.range) (and_parts (in_range d.version (length d.frames) h.0) _ (all-behind _ lines (h.0 ∷ h.1) (subst (λ ls. list_all (in_range d.version (length d.frames)) ls ≡ true) (on.spelled ∙ ap (λ (ls : List DumpLine). lines ++ ls) h.2) (dump-range d on.range)))).0) h.3
+          none-such is rest h.0 none (ap first_line t.1 ∙ first-spelled d.version (length d.frames) h.0 t.0 (few-of d on.range) (and_parts (in_range d.version (length d.frames) h.0) _ (all-after _ lines (h.0 ∷ h.1) (subst (λ ls. list_all (in_range d.version (length d.frames)) ls ≡ true) (on.spelled ∙ ap (λ (ls : List DumpLine). lines ++ ls) h.2) (dump-range d on.range)))).0) h.3
     ];
   }
 
@@ -94,7 +94,7 @@ module _ (version : Version) (text : List ℕ) where
   begun-none n core leaves ends size free =
       let right : IsPlace version n start = record { order = omega arith; slots = omega arith; frames = omega arith; early = λ l. refl } in
       let here : IsAt (nothing version core leaves ends) start = record { slots = refl; leaves = λ k l. refl; count = refl; entries = λ k l. refl; frames = refl; before_leaves = λ s k l. refl; before_entries = λ s k l. refl; before_frames = λ s. refl } in
-      record { same = refl; sizes = size; free = free; chain = refl; behind = refl; right = right; here = here }
+      record { same = refl; sizes = size; free = free; chain = refl; reached = refl; right = right; here = here }
 
   bare-goes : (n core leaves : ℕ) → is_size version (SizeOf n core leaves) ≡ true → Goes version n (begun_lines n (nothing version core leaves no_ends))
   bare-goes n core leaves size = goes version n _ (nothing version core leaves no_ends) start (begun-none n core leaves no_ends size (le-leb 0 n (omega arith))) refl
@@ -128,7 +128,7 @@ module _ (version : Version) (text : List ℕ) where
         let long : length d.frames ≡ n = cc in
         let lines : rest_of d ≡ rest_of p ++ next = cc in
         let all : chain version n start (rest_of d) ≡ true = subst (λ w. chain w n start (rest_of d) ≡ true) on.same (subst (λ m. chain d.version m start (rest_of d) ≡ true) long (dump-chain d on.range)) in
-        (long, lines, rw b.behind at (chain-behind version n start (rest_of p) next (subst (λ ls. chain version n start ls ≡ true) lines all)))
+        (long, lines, rw b.reached at (chain-after version n start (rest_of p) next (subst (λ ls. chain version n start ls ≡ true) lines all)))
 
     -- a dump that ends there has no further slot and no further frame
     ended : (d : Dumped) → GoesOn version (begun_lines n p) d [] → (place.vm ≡ slots_of version) × (place.frame ≡ n)
@@ -152,7 +152,7 @@ module _ (version : Version) (text : List ℕ) where
       pub frame-missing : place.vm ≡ slots_of version → place.frame < n → (rest ≡ []) ⊎ HasOther version n place.frame rest → DumpStopsFor version text (Frame place.frame)
       frame-missing all low why =
           let f = place.frame in
-          let next = more version n p place (FrameOf f zero-frame) b (zero-may version n p place b all low) (λ c. goes version n _ (with_line p (FrameOf f zero-frame)) (behind place (FrameOf f zero-frame)) c refl) in
+          let next = more version n p place (FrameOf f zero-frame) b (zero-may version n p place b all low) (λ c. goes version n _ (with_line p (FrameOf f zero-frame)) (place_after place (FrameOf f zero-frame)) c refl) in
           let size = (goes-on next.0 (FrameOf f zero-frame ∷ next.1) next.2).0 in
           let why : (rest ≡ []) ⊎ ((other : ℕ) × (line : FrameLine) × (more : List ℕ) × (rest ≡ spell (FrameOf other line) ++ more) × (other < length next.0.frames) × (is_frame version (length next.0.frames) line ≡ true) × (other ≡ f → ⊥)) = elim why [
             | inl end ↦ inl end
@@ -206,5 +206,5 @@ module _ (version : Version) (text : List ℕ) where
         }
 
 -- the first two lines of a text
-pub two-lines : (size free text behind more : List ℕ) → text ≡ size ++ behind → behind ≡ free ++ more → text ≡ (size ++ (free ++ [])) ++ more
-two-lines size free text behind more a b = a ∙ ap (λ (s : List ℕ). size ++ s) b ∙ simp (append_assoc, append-nil)
+pub two-lines : (size free text after more : List ℕ) → text ≡ size ++ after → after ≡ free ++ more → text ≡ (size ++ (free ++ [])) ++ more
+two-lines size free text after more a b = a ∙ ap (λ (s : List ℕ). size ++ s) b ∙ simp (append_assoc, append-nil)

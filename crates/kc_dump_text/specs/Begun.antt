@@ -108,7 +108,7 @@ pub record IsBegun (version : Version) (n : ℕ) (d : Dumped) (place : Place) : 
   pub sizes : is_size version (SizeOf n d.core d.leaves) ≡ true
   pub free : are_ends n d.free ≡ true
   pub chain : chain version n start (rest_of d) ≡ true
-  pub behind : end start (rest_of d) ≡ place
+  pub reached : end start (rest_of d) ≡ place
   pub right : IsPlace version n place
   pub here : IsAt d place
 

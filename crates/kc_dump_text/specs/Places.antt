@@ -48,12 +48,12 @@ abbrev pub may : Version → ℕ → Place → DumpLine → Bool
 may version frames place l = nat_le place.section (section l) && comes version place l && in_range version frames l
 
 -- the place after a line
-abbrev pub behind : Place → DumpLine → Place
-behind place (VmOf v phase ends) = record place { vm = v + 1 }
-behind place (LeafOf v n root) = record place { section = 1; leaf = (v, n + 1) }
-behind place (EntryOf v entry) = record place { section = 2; entry = (v, entry.0 + 1) }
-behind place (FrameOf f frame) = record place { section = 3; frame = f + 1 }
-behind place _ = place
+abbrev pub place_after : Place → DumpLine → Place
+place_after place (VmOf v phase ends) = record place { vm = v + 1 }
+place_after place (LeafOf v n root) = record place { section = 1; leaf = (v, n + 1) }
+place_after place (EntryOf v entry) = record place { section = 2; entry = (v, entry.0 + 1) }
+place_after place (FrameOf f frame) = record place { section = 3; frame = f + 1 }
+place_after place _ = place
 
 -- the place before all slots
 abbrev pub start : Place
@@ -62,12 +62,12 @@ start = record { section = 0; vm = 0; leaf = (0, 0); entry = (0, 0); frame = 0 }
 -- the lines may follow one another from this place on
 abbrev pub chain : Version → ℕ → Place → List DumpLine → Bool
 chain version frames place [] = true
-chain version frames place (l ∷ lines) = may version frames place l && chain version frames (behind place l) lines
+chain version frames place (l ∷ lines) = may version frames place l && chain version frames (place_after place l) lines
 
 -- the place after them
 abbrev pub end : Place → List DumpLine → Place
 end place [] = place
-end place (l ∷ lines) = end (behind place l) lines
+end place (l ∷ lines) = end (place_after place l) lines
 
 -- a frame in range with another number
 abbrev pub is_other : Version → ℕ → ℕ → DumpLine → Bool

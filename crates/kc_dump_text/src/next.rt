@@ -2,7 +2,7 @@
 ghost use Rattle.std.specs.Prelude.{◌≡◌, ◌++◌, true, None, Some, IfOk, MatchOption};
 ghost use Rattle.kc_dump.specs.Ranges.{are_ends};
 ghost use Rattle.kc_dump_text.specs.DumpText.{spell};
-ghost use Rattle.kc_dump_text.specs.Places.{is_size, is_free, is_other, start, may, behind};
+ghost use Rattle.kc_dump_text.specs.Places.{is_size, is_free, is_other, start, may, place_after};
 ghost use Rattle.kc_dump_text.specs.Begun.{first_line, HasNone, ReadsOn, IsBegun};
 ghost use Rattle.kc_dump_text.specs.declared.dump_line.DumpLine.TheVariants.{SizeOf, FreeOf, FrameOf};
 
@@ -71,12 +71,12 @@ pub fn next_free(frames: u32, text: &[u8]) -> Option<(Ends, &[u8])>
 /// The line that may come at this place, and the place after it.
 fn next_at(sizes: Sizes, place: Place, text: &[u8]) -> Option<(DumpLine, Place, &[u8])>
     ensures { MatchOption result (HasNone (may sizes.version sizes.frames place) text.now)
-        (λ cut. (text.now ≡ spell cut.0 ++ cut.2.now) × (may sizes.version sizes.frames place cut.0 ≡ true) × (cut.1 ≡ behind place cut.0)) }
+        (λ cut. (text.now ≡ spell cut.0 ++ cut.2.now) × (may sizes.version sizes.frames place cut.0 ≡ true) × (cut.1 ≡ place_after place cut.0)) }
 {
     let Some((line, rest)) = next_line(text) else {
         return None;
     };
-    let Some(next) = place.behind(sizes, &line) else {
+    let Some(next) = place.after(sizes, &line) else {
         return None;
     };
     Some((line, next, rest))

@@ -1,6 +1,6 @@
 //! A place in a dump's text, and which line may come there.
 ghost use Rattle.std.specs.Prelude.{◌≡◌, true, false, MatchOption};
-ghost use Rattle.kc_dump_text.specs.Places.{start, section, in_range, comes, may, behind};
+ghost use Rattle.kc_dump_text.specs.Places.{start, section, in_range, comes, may, place_after};
 
 use crate::dump_line::DumpLine;
 use crate::ranges::{are_ends, are_sizes, is_entry, is_frame};
@@ -105,8 +105,8 @@ impl Place {
     }
 
     /// The place after a line, if the line may come at this one.
-    pub fn behind(self, sizes: Sizes, line: &DumpLine) -> Option<Place>
-        ensures { MatchOption result (may sizes.version sizes.frames self line.now ≡ false) (λ next. (may sizes.version sizes.frames self line.now ≡ true) × (next ≡ behind self line.now)) }
+    pub fn after(self, sizes: Sizes, line: &DumpLine) -> Option<Place>
+        ensures { MatchOption result (may sizes.version sizes.frames self line.now ≡ false) (λ next. (may sizes.version sizes.frames self line.now ≡ true) × (next ≡ place_after self line.now)) }
     {
         if !self.may(sizes, line) {
             return None;

@@ -91,24 +91,24 @@ fn finish(
 }
 
 /// Reads the dump that has these lines.
-fn read_behind_header(alloc: Global, version: Version, text: &[u8]) -> Result<Dump, DumpFault>
+fn read_after_header(alloc: Global, version: Version, text: &[u8]) -> Result<Dump, DumpFault>
     requires { length text.now ≤ byte_limit }
     ensures { MatchResult result (λ dump. IsTextOf version text.now dump) (λ fault. IsStuck version text.now fault) }
 {
-    let Some((frames, core, leaves, behind)) = next_size(version, text) else {
+    let Some((frames, core, leaves, rest)) = next_size(version, text) else {
         return Err(DumpFault::BadLine(2));
     };
-    let Some((free, behind)) = next_free(frames, behind) else {
+    let Some((free, rest)) = next_free(frames, rest) else {
         return Err(DumpFault::BadLine(3));
     };
     let sizes = Sizes { version, frames };
     let mut begun = Begun::new(alloc, version, core, leaves, free);
-    let (place, rest) = read_lines(alloc, sizes, &mut begun, behind)?;
+    let (place, rest) = read_lines(alloc, sizes, &mut begun, rest)?;
     finish(sizes, begun, place, text, rest)
 }
 
 /// The version of the dump and what is after its header, if the text begins with one.
-fn behind_header(text: &[u8]) -> Option<(Version, &[u8])>
+fn after_header(text: &[u8]) -> Option<(Version, &[u8])>
     ensures { MatchOption result ((version : Version) (rest : List ℕ) → text.now ≡ dump_header version ++ rest → ⊥) (λ cut. text.now ≡ dump_header cut.0 ++ cut.1.now) }
 {
     if text.len() < 13 {
@@ -134,8 +134,8 @@ pub fn read_dump(alloc: Global, text: &[u8]) -> Result<Dump, DumpFault>
     // A dump's text is read as that dump, unless memory runs out.
     ensures only { (dump : Dumped) → IsDumpText text.now dump → MatchResult result (λ read. read ≡ dump) (λ fault. fault ≡ Memory) }
 {
-    let Some((version, rest)) = behind_header(text) else {
+    let Some((version, rest)) = after_header(text) else {
         return Err(DumpFault::NoHeader);
     };
-    read_behind_header(alloc, version, rest)
+    read_after_header(alloc, version, rest)
 }

@@ -29,9 +29,9 @@ sources_after sources x (Err f) h (inl memory) = record { ended = tt; read = λ 
 sources_after sources x (Err f) h (inr write) = record { ended = tt; read = λ e. absurd cc; failed = λ bad. let e = h.failed bad in absurd cc }
 
 pub texts_after : {A B : Type 0} (origin : Origin) (start trace : Seen) (unread : Type 0) (x : A) (last : Result B TextFault) → TellsTexts origin start trace unread (Ok x) → IfErr last IsLastFault → TellsTexts origin start trace unread last
-texts_after origin start trace unread x (Ok y) h fault = record { config_fault = λ f e. absurd cc; state_fault = λ f e. absurd cc; trace_fault = λ f e. absurd cc; behind = h.behind; begun = λ f e. absurd cc; told = tt }
-texts_after origin start trace unread x (Err f) h (inl memory) = record { config_fault = λ g e. absurd cc; state_fault = λ g e. absurd cc; trace_fault = λ g e. absurd cc; behind = h.behind; begun = λ g e. absurd cc; told = (λ e. cc, λ e. cc, λ e. cc, λ d e. cc) }
-texts_after origin start trace unread x (Err f) h (inr write) = record { config_fault = λ g e. absurd cc; state_fault = λ g e. absurd cc; trace_fault = λ g e. absurd cc; behind = h.behind; begun = λ g e. absurd cc; told = (λ e. cc, λ e. cc, λ e. cc, λ d e. cc) }
+texts_after origin start trace unread x (Ok y) h fault = record { config_fault = λ f e. absurd cc; state_fault = λ f e. absurd cc; trace_fault = λ f e. absurd cc; after_start = h.after_start; begun = λ f e. absurd cc; told = tt }
+texts_after origin start trace unread x (Err f) h (inl memory) = record { config_fault = λ g e. absurd cc; state_fault = λ g e. absurd cc; trace_fault = λ g e. absurd cc; after_start = h.after_start; begun = λ g e. absurd cc; told = (λ e. cc, λ e. cc, λ e. cc, λ d e. cc) }
+texts_after origin start trace unread x (Err f) h (inr write) = record { config_fault = λ g e. absurd cc; state_fault = λ g e. absurd cc; trace_fault = λ g e. absurd cc; after_start = h.after_start; begun = λ g e. absurd cc; told = (λ e. cc, λ e. cc, λ e. cc, λ d e. cc) }
 
 pub replay_after : {A B : Type 0} (workers : ℕ) (origin : Origin) (start : Option (List ℕ)) (x : A) (last : Result B TextFault) → TellsReplay workers origin start (Ok x) → IfErr last IsLastFault → TellsReplay workers origin start last
 replay_after workers origin start x (Ok y) h fault = record { judged = (λ e. absurd cc, λ bad. let e = h.judged.1 bad in absurd cc); started = λ e. absurd cc; settled = λ e. cc; actor = λ p e. cc; slot = λ n e. cc }
@@ -47,7 +47,7 @@ texts_err origin start trace unread f h = record {
   config_fault = λ g e. h.config_fault g (let same : f ≡ texts.Config g = cc in cc);
   state_fault = λ g e. h.state_fault g (let same : f ≡ texts.State g = cc in cc);
   trace_fault = λ g e. h.trace_fault g (let same : f ≡ texts.Trace g = cc in cc);
-  behind = h.behind;
+  after_start = h.after_start;
   begun = λ g e. h.begun g (let same : f ≡ texts.Trace g = cc in cc);
   told = h.told;
 }
@@ -77,7 +77,7 @@ boots (Some text) config h = (config, h, refl)
 
 -- both were read
 pub texts_ok : {A : Type 0} (origin : Origin) (start trace : Seen) (unread : Type 0) (m : State) (x : A) → IfSome start.had (λ text. BeginsIn origin text m) → TellsTexts origin start trace unread (Ok x)
-texts_ok origin start trace unread m x known = record { config_fault = λ f e. absurd cc; state_fault = λ f e. absurd cc; trace_fault = λ f e. absurd cc; behind = inr (begun_is origin start.had m known); begun = λ f e. absurd cc; told = tt }
+texts_ok origin start trace unread m x known = record { config_fault = λ f e. absurd cc; state_fault = λ f e. absurd cc; trace_fault = λ f e. absurd cc; after_start = inr (begun_is origin start.had m known); begun = λ f e. absurd cc; told = tt }
 
 -- what the calls begin with was refused
 pub texts_start : {A : Type 0} (origin : Origin) (start trace : Seen) (unread : Type 0) (f : TextFault) → ((said : ConfigTextFault) → f ≡ texts.Config said → (origin ≡ origins.Boot) × IfSome start.had (λ text. config_in text ≡ Err said) × IsAtEnd start.has)
@@ -86,7 +86,7 @@ texts_start origin start trace unread f config state fault none = record {
   config_fault = λ said e. let is = config said (let same : f ≡ texts.Config said = cc in same) in (is.0, is.1, is.2, none);
   state_fault = λ said e. let is = state said (let same : f ≡ texts.State said = cc in same) in (is.0, is.1, is.2, none);
   trace_fault = λ said e. absurd (fault.trace said (let same : f ≡ texts.Trace said = cc in same));
-  behind = inl none;
+  after_start = inl none;
   begun = λ said e. absurd (fault.trace said (let same : f ≡ texts.Trace said = cc in same));
   told = fault.reading.told;
 }
@@ -98,7 +98,7 @@ texts_trace origin start trace unread m f known refused config state told = reco
   config_fault = λ said e. absurd (config said (let same : f ≡ texts.Config said = cc in same));
   state_fault = λ said e. absurd (state said (let same : f ≡ texts.State said = cc in same));
   trace_fault = λ said e. refused said (let same : f ≡ texts.Trace said = cc in same);
-  behind = inr (begun_is origin start.had m known);
+  after_start = inr (begun_is origin start.had m known);
   begun = λ said e. begun_is origin start.had m known;
   told = told;
 }

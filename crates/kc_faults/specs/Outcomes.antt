@@ -58,7 +58,7 @@ pub record TellsTexts {A : Type 0} (origin : Origin) (start trace : Seen) (unrea
   pub state_fault : (fault : StateFault) → result ≡ Err (texts.State fault) → (origin ≡ origins.State) × IfSome start.had (λ text. IsRefusedState text fault) × IsAtEnd start.has × unread
   pub trace_fault : (fault : TraceFault) → result ≡ Err (texts.Trace fault) → IfSome trace.had (λ text. IsRefused text fault) × IsAtEnd trace.has
   -- the trace is read and judged only after a start
-  pub behind : unread ⊎ IsBegun origin start.had
+  pub after_start : unread ⊎ IsBegun origin start.had
   pub begun : (fault : TraceFault) → result ≡ Err (texts.Trace fault) → IsBegun origin start.had
   -- out of memory is reported as that, and never as a fault of a text; no fault is one of a dump
   pub told : IfErr result IsTold

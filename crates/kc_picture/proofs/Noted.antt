@@ -2,6 +2,7 @@
 use Rattle.std.proofs.Common.{ℕ, zero, suc, ◌≡◌, ◌<◌, ◌+◌, ◌-◌, map, All, List, [], ◌∷◌, ◌++◌, length, reverse, drop, slice_set, slice_index_or, Some, refl, ap, ◌∙◌, subst, arith, drop-cons, add-one}
 use Rattle.std.proofs.lemmas.Grind.{common_steps}
 use Rattle.std.proofs.lemmas.List.{reverse-append}
+use Rattle.std.proofs.lemmas.List.Elements.{All-tail}
 use Rattle.std.proofs.Math.ListN.{length-set}
 use Rattle.kc_types.specs.declared.custody.Bar.{Bar}
 use Rattle.kc_types.specs.declared.custody.FrameChange.{FrameChange}
@@ -24,14 +25,11 @@ pub record AreNoted (frames end i : ℕ) (events : List Event) (made : List Bar)
   pub bars : reverse made ≡ later_bars end (changes_in (drop i events))
   pub lines : AreNextLines frames end (changes_in (drop i events)) next
 
-behind : (P : Change → Type 0) (x : Change) (xs : List Change) → All P (x ∷ xs) → All P xs
-behind P x xs each = λ k d low. each (suc k) d (omega arith)
-
 -- the frames that some events change exist, so those that the later of them change do
 in-drop : (frames i : ℕ) (events : List Event) → All (IsIn frames) (changes_in events) → All (IsIn frames) (changes_in (drop i events))
 in-drop frames zero events each = each
 in-drop frames (suc i) [] each = each
-in-drop frames (suc i) (event.Change change ∷ more) each = in-drop frames i more (behind (IsIn frames) change (changes_in more) each)
+in-drop frames (suc i) (event.Change change ∷ more) each = in-drop frames i more (All-tail (IsIn frames) change (changes_in more) each)
 in-drop frames (suc i) (event.Read vm ∷ more) each = in-drop frames i more each
 in-drop frames (suc i) (event.Write vm ∷ more) each = in-drop frames i more each
 

@@ -14,15 +14,9 @@ fn first_bar(config: &Config, frame: u32, to: u32) -> Bar
     requires { frame < config.now.frames }
     ensures { result ≡ record { frame = frame; custody = custody_at (boot config.now) frame; from = 1; to = to } }
 {
-    let custody = Custody {
-        owner: config.owner_at_boot(frame),
-        gfn: None,
-        share: 0,
-        present: false,
-    };
     Bar {
         frame,
-        custody,
+        custody: Custody::untouched(config.owner_at_boot(frame)),
         from: 1,
         to,
     }

@@ -168,7 +168,7 @@ volumes_failed order old account m start after ends files f begun opened reads m
     config_fault = λ said e. absurd (reads.fault.config said (let same : f ≡ texts.Config said = cc in same));
     state_fault = λ said e. absurd (reads.fault.state said (let same : f ≡ texts.State said = cc in same));
     trace_fault = λ said e. absurd (reads.trace said (let same : f ≡ texts.Trace said = cc in ap Err same));
-    behind = inr (begun_is order.origin start.had m begun.begins);
+    after_start = inr (begun_is order.origin start.had m begun.begins);
     begun = λ said e. begun_is order.origin start.had m begun.begins;
     told = reads.fault.told;
   };
@@ -240,7 +240,7 @@ trace_failed order old m start ends f begun opened read bad refused is started m
     config_fault = λ said e. absurd (is.config said (let same : f ≡ texts.Config said = cc in same));
     state_fault = λ said e. absurd (is.state said (let same : f ≡ texts.State said = cc in same));
     trace_fault = λ said e. refused said (let same : f ≡ texts.Trace said = cc in same);
-    behind = inr (begun_is order.origin start.had m begun.begins);
+    after_start = inr (begun_is order.origin start.had m begun.begins);
     begun = λ said e. begun_is order.origin start.had m begun.begins;
     told = is.told;
   };
@@ -264,7 +264,7 @@ begun_texts origin start trace unread f none other h = record {
   config_fault = λ said e. (let is = h.config_fault said (let same : f ≡ texts.Config said = cc in cc) in (is.0, is.1, is.2, none));
   state_fault = λ said e. (let is = h.state_fault said (let same : f ≡ texts.State said = cc in cc) in (is.0, is.1, is.2, none));
   trace_fault = λ said e. absurd (other said (let same : f ≡ texts.Trace said = cc in same));
-  behind = inl none;
+  after_start = inl none;
   begun = λ said e. absurd (other said (let same : f ≡ texts.Trace said = cc in same));
   told = h.told;
 }

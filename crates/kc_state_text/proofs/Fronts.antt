@@ -39,8 +39,8 @@ module _ (text r0 r1 : List ℕ) (sizes : numbers.Sizes) (header : text ≡ stat
     front = record { sizes = size.is; approved = x.each; slots = y.each; pages = z.each };
   }
 
-  behind-sizes : length r1 ≤ length text
-  behind-sizes =
+  after-sizes : length r1 ≤ length text
+  after-sizes =
       let a = ap length header in
       let b = length-append state_header r0 in
       let c = ap length size.whole in
@@ -68,7 +68,7 @@ module _ (text r0 r1 : List ℕ) (sizes : numbers.Sizes) (header : text ≡ stat
 
   module _ (r2 : List ℕ) (digests : List (List ℕ)) (x : AreRead IsDigest approved_line sizes.approved r1 digests r2) where
     pub approved-room : sizes.approved + length r2 ≤ length text
-    approved-room = let a = lines-fit IsDigest (codes "approved") approved_words sizes.approved r1 digests r2 x in let b = behind-sizes in omega (arith, a, b)
+    approved-room = let a = lines-fit IsDigest (codes "approved") approved_words sizes.approved r1 digests r2 x in let b = after-sizes in omega (arith, a, b)
 
     slots-lack : (n : ℕ) → Lacks IsSlotLine slot_line (3 + sizes.approved) sizes.slots r2 n → StopsBefore text n
     slots-lack n l = inr (

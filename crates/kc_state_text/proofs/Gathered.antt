@@ -7,7 +7,7 @@ use Rattle.kc_types.specs.Limits.{vcpu_limit, image_limit}
 use Rattle.kc_model.specs.State.{Vcpu, Image}
 use Rattle.kc_state_text.specs.StateText.{vcpu_word, vcpu_words, image_words, vcpus_words, images_words, slot_words}
 use Rattle.kc_state_text.specs.Refused.{IsVcpuWord, AreImageWords, IsSlotLine}
-use Rattle.kc_state_text.specs.Reading.{LacksFirst, LacksWhole, BeginsAs, IsWhole, behind, AreVcpus, AreImages}
+use Rattle.kc_state_text.specs.Reading.{LacksFirst, LacksWhole, BeginsAs, IsWhole, after_name, AreVcpus, AreImages}
 use Rattle.kc_state_text.proofs.Spelled.{head-of, tail-of, append-same, rest-same}
 
 pub all-more : {X : Type 0} (P : X → Type 0) (xs : List X) (x : X) → All P xs → P x → All P (xs ++ x ∷ [])
@@ -29,9 +29,9 @@ module _ {X A : Type 0} (Is : X → Type 0) (spelled : X → List A) (one : (x y
   left-of [] ys left more a b le e = record { rest = ys; each = b; long = omega arith; whole = e }
   left-of (x ∷ xs) [] left more a b le e = absurd (omega (arith, le))
   left-of (x ∷ xs) (y ∷ ys) left more a b le e =
-      let behind = one x y (flat_map spelled xs ++ left) (flat_map spelled ys ++ more) (head-of Is x xs a) (head-of Is y ys b)
+      let after = one x y (flat_map spelled xs ++ left) (flat_map spelled ys ++ more) (head-of Is x xs a) (head-of Is y ys b)
       (sym (append_assoc (spelled x) (flat_map spelled xs) left) ∙ e ∙ append_assoc (spelled y) (flat_map spelled ys) more) in
-      let r = left-of xs ys left more (tail-of Is x xs a) (tail-of Is y ys b) (omega (arith, le)) behind in
+      let r = left-of xs ys left more (tail-of Is x xs a) (tail-of Is y ys b) (omega (arith, le)) after in
       record { rest = r.rest; each = r.each; long = (let l = r.long in omega (arith, l)); whole = r.whole }
 
 -- ---- virtual processors
@@ -101,7 +101,7 @@ images-many images words rest all some full e others are is = let r = goes-on im
 
 -- the words after 8 virtual processors are not images
 pub no-images : (name : List ℕ) (words first second : List (List ℕ)) (vcpus : List Vcpu) → words ≡ name ∷ first → BeginsAs AreVcpus vcpus_words first vcpus second → LacksWhole AreImages images_words second
-    → LacksWhole IsSlotLine (behind name slot_words) words
+    → LacksWhole IsSlotLine (after_name name slot_words) words
 no-images name words first second vcpus e begins lacks slot is g =
     let same : vcpus_words vcpus ++ second ≡ vcpus_words slot.vcpus ++ images_words slot.images = sym begins.whole ∙ rest-same name name first (slot_words slot) (sym e ∙ g) in
     let long = length-map vcpus vcpu_word in
@@ -110,11 +110,11 @@ no-images name words first second vcpus e begins lacks slot is g =
     let there = is.vcpus in
     lacks slot.images (record { few = is.few_images; each = is.each_image }) (append-same (vcpus_words vcpus) (vcpus_words slot.vcpus) second (images_words slot.images) (omega (arith, long, other, eight, there)) same).1
 
-pub no-vcpus : (name : List ℕ) (words first : List (List ℕ)) → words ≡ name ∷ first → LacksFirst AreVcpus vcpus_words first → LacksWhole IsSlotLine (behind name slot_words) words
+pub no-vcpus : (name : List ℕ) (words first : List (List ℕ)) → words ≡ name ∷ first → LacksFirst AreVcpus vcpus_words first → LacksWhole IsSlotLine (after_name name slot_words) words
 no-vcpus name words first e lacks slot is g = lacks slot.vcpus (images_words slot.images) (record { eight = is.vcpus; each = is.each_vcpu }) (rest-same name name first (slot_words slot) (sym e ∙ g))
 
 pub slot-read : (name : List ℕ) (words first second : List (List ℕ)) (vcpus : List Vcpu) (images : List Image) → words ≡ name ∷ first → BeginsAs AreVcpus vcpus_words first vcpus second → IsWhole AreImages images_words second images
-    → IsWhole IsSlotLine (behind name slot_words) words (record { vcpus = vcpus; images = images })
+    → IsWhole IsSlotLine (after_name name slot_words) words (record { vcpus = vcpus; images = images })
 slot-read name words first second vcpus images e begins whole = record {
   is = record { vcpus = begins.is.eight; each_vcpu = begins.is.each; few_images = whole.is.few; each_image = whole.is.each };
   whole = e ∙ ap (λ (ws : List (List ℕ)). name ∷ ws) (begins.whole ∙ ap (λ (ws : List (List ℕ)). vcpus_words vcpus ++ ws) whole.whole);

@@ -9,7 +9,7 @@ use Rattle.kc_lines.specs.Lines.{IsOneLine}
 use Rattle.kc_lines.proofs.Words.{is_space, is_word, split_join, join_is_one_line}
 use Rattle.kc_dump_text.specs.DumpText.{spaced, line}
 use Rattle.kc_state_text.specs.Words.{words_in}
-use Rattle.kc_state_text.specs.Reading.{LacksWhole, BeginsAs, IsWhole, behind}
+use Rattle.kc_state_text.specs.Reading.{LacksWhole, BeginsAs, IsWhole, after_name}
 use Rattle.kc_state_text.specs.Refused.{HasNone}
 
 newline-in : (y : ℕ) (b : List ℕ) → IsOneLine (y ∷ b) → y ≡ 10 → ⊥
@@ -76,8 +76,8 @@ module _ {X : Type 0} (Is : X → Type 0) (name : List ℕ) (spelled : X → Lis
   none-no-end text one x more is e = no-newline (join_with_byte 32 (name ∷ spelled x)) more text one (e ∙ line-joined name (spelled x) more)
 
   -- nor does one whose first line has other words
-  pub none-unread : (text l rest : List ℕ) → IsOneLine l → text ≡ l ++ 10 ∷ rest → LacksWhole Is (behind name spelled) (words_in l) → HasNone Is (λ x. line name (spelled x)) text
+  pub none-unread : (text l rest : List ℕ) → IsOneLine l → text ≡ l ++ 10 ∷ rest → LacksWhole Is (after_name name spelled) (words_in l) → HasNone Is (λ x. line name (spelled x)) text
   none-unread text l rest one cut lacks x more is e = lacks x is (line-cut name (spelled x) more l rest (words x is) one (sym cut ∙ e)).0
 
-  pub begins : (text l rest : List ℕ) (x : X) → text ≡ l ++ 10 ∷ rest → IsWhole Is (behind name spelled) (words_in l) x → BeginsAs Is (λ x. line name (spelled x)) text x rest
+  pub begins : (text l rest : List ℕ) (x : X) → text ≡ l ++ 10 ∷ rest → IsWhole Is (after_name name spelled) (words_in l) x → BeginsAs Is (λ x. line name (spelled x)) text x rest
   begins text l rest x cut whole = record { is = whole.is; whole = cut ∙ line-made name (spelled x) l rest whole.whole }

@@ -38,8 +38,8 @@ cancel (x ∷ a) b c e = cancel a b c (let t : a ++ b ≡ a ++ c = cc in t)
 
 -- ---- fronts
 
-behind-header : (f : Front) (rest : List ℕ) → front_text f ++ rest ≡ state_header ++ (sizes_line f.sizes ++ (flat_map approved_line f.approved ++ (flat_map slot_line f.slots ++ (flat_map page_line f.pages ++ rest))))
-behind-header f rest = regrouped state_header (sizes_line f.sizes) (flat_map approved_line f.approved) (flat_map slot_line f.slots) (flat_map page_line f.pages) rest
+after-header : (f : Front) (rest : List ℕ) → front_text f ++ rest ≡ state_header ++ (sizes_line f.sizes ++ (flat_map approved_line f.approved ++ (flat_map slot_line f.slots ++ (flat_map page_line f.pages ++ rest))))
+after-header f rest = regrouped state_header (sizes_line f.sizes) (flat_map approved_line f.approved) (flat_map slot_line f.slots) (flat_map page_line f.pages) rest
   where
     regrouped : (h s a b c r : List ℕ) → (h ++ (s ++ (a ++ (b ++ c)))) ++ r ≡ h ++ (s ++ (a ++ (b ++ (c ++ r))))
     regrouped h s a b c r = simp append_assoc
@@ -51,8 +51,8 @@ record SameSizes (f g : Front) (c d : List ℕ) : Type 0 where
 
 sizes-told : (f g : Front) (c d : List ℕ) → IsFront f → IsFront g → front_text f ++ c ≡ front_text g ++ d → SameSizes f g c d
 sizes-told f g c d x y e =
-    let behind = cancel state_header _ _ (sym (behind-header f c) ∙ e ∙ behind-header g d) in
-    let both = first-same AreSizes (codes "config") sizes_words sizes-are-words sizes-same f.sizes g.sizes _ _ x.sizes y.sizes behind in
+    let after = cancel state_header _ _ (sym (after-header f c) ∙ e ∙ after-header g d) in
+    let both = first-same AreSizes (codes "config") sizes_words sizes-are-words sizes-same f.sizes g.sizes _ _ x.sizes y.sizes after in
     record { sizes = both.0; rest = both.1 }
 
 -- a text has at most one whole front
@@ -174,8 +174,8 @@ module _ (m : State) (is : IsCoreState m) where
   not-before : (text : List ℕ) (n : ℕ) → text ≡ state_text m → StopsBefore text n → ⊥
   not-before text n e (inl stop) =
       let rest = stop.1 in
-      let behind = cancel state_header _ _ (sym (behind-header state-front (dump_text (dump_of m))) ∙ sym e ∙ rest.1) in
-      rest.2 state-front.sizes _ front-is.sizes (sym behind)
+      let after = cancel state_header _ _ (sym (after-header state-front (dump_text (dump_of m))) ∙ sym e ∙ rest.1) in
+      rest.2 state-front.sizes _ front-is.sizes (sym after)
   not-before text n e (inr stop) = front-goes-on stop.0 state-front stop.1 (dump_text (dump_of m)) stop.2.front front-is front-whole (sym stop.2.whole ∙ e) stop.3
 
   no-dump-fault : (f : Front) (rest : List ℕ) (fault : DumpFault) → rest ≡ dump_text (dump_of m) → length (state_text m) ≤ byte_limit → (fault ≡ dump.Memory → ⊥) → IsRefusedDump rest fault → ⊥
@@ -207,7 +207,7 @@ not-told : Refuses → (m : State) → IsCoreState m → (text : List ℕ) (why 
 not-told refuses m is text why e short other tells = refuses tells.0 why other tells.2 m is.lawful (told-same m is tells.0 (subst (λ text. IsTextOf text tells.0) e tells.1) short)
 
 pub no-state : Refuses → (text : List ℕ) (fault : StateFault) → (fault ≡ Memory → ⊥) → IsRefusedState text fault → (m : State) → IsCoreState m → length text ≤ byte_limit → text ≡ state_text m → ⊥
-no-state refuses text NoHeader other r m is short e = r _ (e ∙ behind-header (front_of (rest_of m)) (dump_text (dump_of m)))
+no-state refuses text NoHeader other r m is short e = r _ (e ∙ after-header (front_of (rest_of m)) (dump_text (dump_of m)))
 no-state refuses text (BadLine n) other (inl r) m is short e = not-before m is text n e r
 no-state refuses text (BadLine n) other (inr r) m is short e = not-within m is text (BadLine n) e (subst (λ (l : List ℕ). length l ≤ byte_limit) e short) r
 no-state refuses text (Missing f) other r m is short e = not-within m is text (Missing f) e (subst (λ (l : List ℕ). length l ≤ byte_limit) e short) r

@@ -16,7 +16,7 @@ use Rattle.kc_lines.proofs.Words.{name_is}
 use Rattle.kc_state_text.specs.StateText.{is_zero, page_word, page_words, page_line}
 use Rattle.kc_state_text.specs.Words.{words_in}
 use Rattle.kc_state_text.proofs.Lines.{begins}
-use Rattle.kc_state_text.specs.Reading.{LacksWhole, IsWhole, BeginsAs, behind, AreDigits}
+use Rattle.kc_state_text.specs.Reading.{LacksWhole, IsWhole, BeginsAs, after_name, AreDigits}
 use Rattle.kc_state_text.proofs.Spelled.{tail-of, zeros-same, page-are-words, data-page, page-undashed, digits-same}
 
 zeros-blank : (n : ℕ) → is_zero (replicate n 0) ≡ true
@@ -82,7 +82,7 @@ pub digits-page : (word page : List ℕ) → AreDigits word page → IsWhole IsP
 digits-page word page are = record { is = are.page; whole = are.whole ∙ sym (digits-word page are.some) }
 
 -- a line with another word is not a page's
-pub other-word : (name line word : List ℕ) → words_in line ≡ name ∷ word ∷ [] → LacksWhole IsPage page_word word → LacksWhole IsPage (behind name page_words) (words_in line)
+pub other-word : (name line word : List ℕ) → words_in line ≡ name ∷ word ∷ [] → LacksWhole IsPage page_word word → LacksWhole IsPage (after_name name page_words) (words_in line)
 other-word name line word e lacks bytes is g = lacks bytes is (let both : name ∷ word ∷ [] ≡ name ∷ page_word bytes ∷ [] = sym e ∙ g in ap (λ (ws : List (List ℕ)). get_or ws 1 []) both)
 
 pub begins-page : (text line rest word bytes : List ℕ) → text ≡ line ++ 10 ∷ rest → words_in line ≡ codes "page" ∷ word ∷ [] → IsWhole IsPage page_word word bytes → BeginsAs IsPage page_line text bytes rest

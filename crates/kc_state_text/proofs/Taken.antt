@@ -19,7 +19,7 @@ use Rattle.kc_state_text.specs.declared.sizes.Sizes.{Sizes}
 use Rattle.kc_state_text.specs.Words.{vcpu_in}
 use Rattle.kc_state_text.specs.StateText.{sizes_words, approved_words, vcpu_word, vcpu_words}
 use Rattle.kc_state_text.specs.Refused.{AreSizes, IsVcpuWord}
-use Rattle.kc_state_text.specs.Reading.{IsNumber, IsAtMost, number_words, behind, LacksFirst, LacksWhole, BeginsAs, IsWhole}
+use Rattle.kc_state_text.specs.Reading.{IsNumber, IsAtMost, number_words, after_name, LacksFirst, LacksWhole, BeginsAs, IsWhole}
 use Rattle.kc_state_text.proofs.Spelled.{decimal-same, vcpu-to, vcpu-from, approved-to, rest-same}
 
 first-same : {X : Type 0} (x y : X) (xs ys : List X) → x ∷ xs ≡ y ∷ ys → x ≡ y
@@ -62,35 +62,35 @@ is-digest word digest e =
 -- ---- the sizes
 
 module _ (name : List ℕ) (words : List (List ℕ)) where
-  sizes-behind : (first : List (List ℕ)) (s : Sizes) → words ≡ name ∷ first → words ≡ behind name sizes_words s → first ≡ sizes_words s
-  sizes-behind first s e g = rest-same name name first (sizes_words s) (sym e ∙ g)
+  sizes-after : (first : List (List ℕ)) (s : Sizes) → words ≡ name ∷ first → words ≡ after_name name sizes_words s → first ≡ sizes_words s
+  sizes-after first s e g = rest-same name name first (sizes_words s) (sym e ∙ g)
 
-  pub no-slots : (first : List (List ℕ)) → words ≡ name ∷ first → LacksFirst (IsAtMost slot_limit) number_words first → LacksWhole AreSizes (behind name sizes_words) words
-  no-slots first e lacks s is g = lacks s.slots (decimal s.frames ∷ decimal s.host ∷ decimal s.approved ∷ []) is.slots (sizes-behind first s e g)
+  pub no-slots : (first : List (List ℕ)) → words ≡ name ∷ first → LacksFirst (IsAtMost slot_limit) number_words first → LacksWhole AreSizes (after_name name sizes_words) words
+  no-slots first e lacks s is g = lacks s.slots (decimal s.frames ∷ decimal s.host ∷ decimal s.approved ∷ []) is.slots (sizes-after first s e g)
 
-  pub no-frames : (a : ℕ) (first second : List (List ℕ)) → words ≡ name ∷ first → first ≡ decimal a ∷ second → LacksFirst (IsAtMost frame_limit) number_words second → LacksWhole AreSizes (behind name sizes_words) words
-  no-frames a first second e f lacks s is g = lacks s.frames (decimal s.host ∷ decimal s.approved ∷ []) is.frames (rest-same (decimal a) (decimal s.slots) second _ (sym f ∙ sizes-behind first s e g))
+  pub no-frames : (a : ℕ) (first second : List (List ℕ)) → words ≡ name ∷ first → first ≡ decimal a ∷ second → LacksFirst (IsAtMost frame_limit) number_words second → LacksWhole AreSizes (after_name name sizes_words) words
+  no-frames a first second e f lacks s is g = lacks s.frames (decimal s.host ∷ decimal s.approved ∷ []) is.frames (rest-same (decimal a) (decimal s.slots) second _ (sym f ∙ sizes-after first s e g))
 
   pub no-host : (a b : ℕ) (first second third : List (List ℕ)) → words ≡ name ∷ first → first ≡ decimal a ∷ second → second ≡ decimal b ∷ third → LacksFirst (IsAtMost frame_limit) number_words third
-      → LacksWhole AreSizes (behind name sizes_words) words
+      → LacksWhole AreSizes (after_name name sizes_words) words
   no-host a b first second third e f h lacks s is g =
       lacks s.host (decimal s.approved ∷ []) is.host
-      (rest-same (decimal b) (decimal s.frames) third _ (sym h ∙ rest-same (decimal a) (decimal s.slots) second _ (sym f ∙ sizes-behind first s e g)))
+      (rest-same (decimal b) (decimal s.frames) third _ (sym h ∙ rest-same (decimal a) (decimal s.slots) second _ (sym f ∙ sizes-after first s e g)))
 
   pub no-approved : (a b c : ℕ) (first second third fourth : List (List ℕ)) → words ≡ name ∷ first → first ≡ decimal a ∷ second → second ≡ decimal b ∷ third → third ≡ decimal c ∷ fourth
-      → LacksFirst (IsAtMost digest_limit) number_words fourth → LacksWhole AreSizes (behind name sizes_words) words
+      → LacksFirst (IsAtMost digest_limit) number_words fourth → LacksWhole AreSizes (after_name name sizes_words) words
   no-approved a b c first second third fourth e f h k lacks s is g =
       lacks s.approved [] is.approved
-      (rest-same (decimal c) (decimal s.host) fourth _ (sym k ∙ rest-same (decimal b) (decimal s.frames) third _ (sym h ∙ rest-same (decimal a) (decimal s.slots) second _ (sym f ∙ sizes-behind first s e g))))
+      (rest-same (decimal c) (decimal s.host) fourth _ (sym k ∙ rest-same (decimal b) (decimal s.frames) third _ (sym h ∙ rest-same (decimal a) (decimal s.slots) second _ (sym f ∙ sizes-after first s e g))))
 
   pub no-end : (a b c d : ℕ) (first second third fourth fifth : List (List ℕ)) → words ≡ name ∷ first → first ≡ decimal a ∷ second → second ≡ decimal b ∷ third → third ≡ decimal c ∷ fourth → fourth ≡ decimal d ∷ fifth
-      → (fifth ≡ [] → ⊥) → LacksWhole AreSizes (behind name sizes_words) words
+      → (fifth ≡ [] → ⊥) → LacksWhole AreSizes (after_name name sizes_words) words
   no-end a b c d first second third fourth fifth e f h k m more s is g =
       more (rest-same (decimal d) (decimal s.approved) fifth [] (sym m
-      ∙ rest-same (decimal c) (decimal s.host) fourth _ (sym k ∙ rest-same (decimal b) (decimal s.frames) third _ (sym h ∙ rest-same (decimal a) (decimal s.slots) second _ (sym f ∙ sizes-behind first s e g)))))
+      ∙ rest-same (decimal c) (decimal s.host) fourth _ (sym k ∙ rest-same (decimal b) (decimal s.frames) third _ (sym h ∙ rest-same (decimal a) (decimal s.slots) second _ (sym f ∙ sizes-after first s e g)))))
 
   pub sizes-read : (s : Sizes) (first second third fourth fifth : List (List ℕ)) → AreSizes s → words ≡ name ∷ first → first ≡ decimal s.slots ∷ second → second ≡ decimal s.frames ∷ third → third ≡ decimal s.host ∷ fourth → fourth ≡ decimal s.approved ∷ fifth
-      → fifth ≡ [] → IsWhole AreSizes (behind name sizes_words) words s
+      → fifth ≡ [] → IsWhole AreSizes (after_name name sizes_words) words s
   sizes-read s first second third fourth fifth is e f h k m n = record {
     is = is;
     whole = e ∙ ap (λ (ws : List (List ℕ)). name ∷ ws) (f ∙ ap (λ (ws : List (List ℕ)). decimal s.slots ∷ ws) (h ∙ ap (λ (ws : List (List ℕ)). decimal s.frames ∷ ws) (k
@@ -99,14 +99,14 @@ module _ (name : List ℕ) (words : List (List ℕ)) where
 
   -- ---- an approved digest
 
-  pub no-digest-word : (word : List ℕ) (first rest : List (List ℕ)) → words ≡ name ∷ first → first ≡ word ∷ rest → digest_in word ≡ None → LacksWhole IsDigest (behind name approved_words) words
+  pub no-digest-word : (word : List ℕ) (first rest : List (List ℕ)) → words ≡ name ∷ first → first ≡ word ∷ rest → digest_in word ≡ None → LacksWhole IsDigest (after_name name approved_words) words
   no-digest-word word first rest e f none digest is g =
       none-some digest (sym none ∙ ap digest_in (first-same word (encode_lower digest) rest [] (sym f ∙ rest-same name name first _ (sym e ∙ g))) ∙ approved-to digest is)
 
-  pub no-digest-end : (word : List ℕ) (first rest : List (List ℕ)) → words ≡ name ∷ first → first ≡ word ∷ rest → (rest ≡ [] → ⊥) → LacksWhole IsDigest (behind name approved_words) words
+  pub no-digest-end : (word : List ℕ) (first rest : List (List ℕ)) → words ≡ name ∷ first → first ≡ word ∷ rest → (rest ≡ [] → ⊥) → LacksWhole IsDigest (after_name name approved_words) words
   no-digest-end word first rest e f more digest is g = more (rest-same word (encode_lower digest) rest [] (sym f ∙ rest-same name name first _ (sym e ∙ g)))
 
-  pub digest-is-read : (digest word : List ℕ) (first rest : List (List ℕ)) → words ≡ name ∷ first → first ≡ word ∷ rest → rest ≡ [] → digest_in word ≡ Some digest → IsWhole IsDigest (behind name approved_words) words digest
+  pub digest-is-read : (digest word : List ℕ) (first rest : List (List ℕ)) → words ≡ name ∷ first → first ≡ word ∷ rest → rest ≡ [] → digest_in word ≡ Some digest → IsWhole IsDigest (after_name name approved_words) words digest
   digest-is-read digest word first rest e f n some = record {
     is = is-digest word digest some;
     whole = e ∙ ap (λ (ws : List (List ℕ)). name ∷ ws) (f ∙ (λ i. digest-from word digest some i ∷ n i));

@@ -22,8 +22,8 @@ abbrev pub number_words : ℕ → List (List ℕ)
 number_words n = decimal n ∷ []
 
 -- the name, and then the words
-abbrev pub behind : {X : Type 0} → List ℕ → (X → List (List ℕ)) → X → List (List ℕ)
-behind name spelled x = name ∷ spelled x
+abbrev pub after_name : {X : Type 0} → List ℕ → (X → List (List ℕ)) → X → List (List ℕ)
+after_name name spelled x = name ∷ spelled x
 
 -- the list does not begin with such a thing
 abbrev pub LacksFirst : {X A : Type 0} → (X → Type 0) → (X → List A) → List A → Type 0

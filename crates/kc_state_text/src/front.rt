@@ -46,7 +46,7 @@ impl Front {
 }
 
 /// What follows the header, if the text begins with it.
-fn behind_header(text: &[u8]) -> Option<&[u8]>
+fn after_header(text: &[u8]) -> Option<&[u8]>
     ensures { MatchOption result ((rest : List ℕ) → text.now ≡ state_header ++ rest → ⊥) (λ rest. text.now ≡ state_header ++ rest.now) }
 {
     if text.len() < 14 {
@@ -164,7 +164,7 @@ pub fn read_front(alloc: Global, text: &[u8]) -> Result<(Front, &[u8]), StateFau
         (λ read. BeginsWith text.now read.0 read.1.now × IsWholeFront read.0)
         (λ fault. IsFrontFault text.now fault) }
 {
-    let Some(rest) = behind_header(text) else {
+    let Some(rest) = after_header(text) else {
         return Err(StateFault::NoHeader);
     };
     let Some((sizes, rest)) = sizes_at(rest) else {

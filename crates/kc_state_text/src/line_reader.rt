@@ -4,7 +4,7 @@ ghost use Rattle.kc_model.specs.State.{Vcpu};
 ghost use Rattle.kc_model.specs.Volumes.{IsDigest};
 ghost use Rattle.kc_state_text.specs.Words.{words_in, vcpu_in};
 ghost use Rattle.kc_state_text.specs.StateText.{sizes_words, approved_words, vcpu_words, image_words, vcpus_words, images_words, slot_words};
-ghost use Rattle.kc_state_text.specs.Reading.{LacksFirst, LacksWhole, BeginsAs, IsWhole, behind, AreVcpus, AreImages};
+ghost use Rattle.kc_state_text.specs.Reading.{LacksFirst, LacksWhole, BeginsAs, IsWhole, after_name, AreVcpus, AreImages};
 ghost use Rattle.kc_state_text.specs.Refused.{AreSizes, IsVcpuWord, AreImageWords, IsSlotLine};
 
 use crate::sizes::Sizes;
@@ -20,8 +20,8 @@ use kc_types::{
 /// Reads the line of sizes, each one that a configuration may have.
 pub fn read_sizes(line: &[u8]) -> Option<Sizes>
     ensures { MatchOption result
-        (LacksWhole AreSizes (behind (codes "config") sizes_words) (words_in line.now))
-        (λ sizes. IsWhole AreSizes (behind (codes "config") sizes_words) (words_in line.now) sizes) }
+        (LacksWhole AreSizes (after_name (codes "config") sizes_words) (words_in line.now))
+        (λ sizes. IsWhole AreSizes (after_name (codes "config") sizes_words) (words_in line.now) sizes) }
 {
     let mut words = LineWords::new(line);
     take_name(&mut words, b"config")?;
@@ -41,8 +41,8 @@ pub fn read_sizes(line: &[u8]) -> Option<Sizes>
 /// Reads the line of an approved digest.
 pub fn read_approved(line: &[u8]) -> Option<[u8; 32]>
     ensures { MatchOption result
-        (LacksWhole IsDigest (behind (codes "approved") approved_words) (words_in line.now))
-        (λ digest. IsWhole IsDigest (behind (codes "approved") approved_words) (words_in line.now) digest) }
+        (LacksWhole IsDigest (after_name (codes "approved") approved_words) (words_in line.now))
+        (λ digest. IsWhole IsDigest (after_name (codes "approved") approved_words) (words_in line.now) digest) }
 {
     let mut words = LineWords::new(line);
     take_name(&mut words, b"approved")?;
@@ -133,8 +133,8 @@ fn read_images(words: &mut LineWords) -> Option<ArrayVec<Image, IMAGE_LIMIT>>
 /// Reads the line of a slot.
 pub fn read_slot(line: &[u8]) -> Option<SlotRest>
     ensures { MatchOption result
-        (LacksWhole IsSlotLine (behind (codes "slot") slot_words) (words_in line.now))
-        (λ slot. IsWhole IsSlotLine (behind (codes "slot") slot_words) (words_in line.now) slot) }
+        (LacksWhole IsSlotLine (after_name (codes "slot") slot_words) (words_in line.now))
+        (λ slot. IsWhole IsSlotLine (after_name (codes "slot") slot_words) (words_in line.now) slot) }
 {
     let mut words = LineWords::new(line);
     take_name(&mut words, b"slot")?;

@@ -12,8 +12,8 @@ read_part bytes buffer from n le =
     rw (front, ← drop-drop n from bytes) (sym (take-append-drop n (drop from bytes)))
 
 -- what a read copies to a place after the bytes at the front
-pub read_behind : (front buffer after rest : List ℕ) (used n len : ℕ) → length front ≡ used → n ≤ length buffer → used + n ≤ len → take (used + n) (take len (front ++ (buffer ++ after) ++ rest)) ≡ front ++ take n buffer
-read_behind front buffer after rest used n len is le within =
+pub read_after : (front buffer after rest : List ℕ) (used n len : ℕ) → length front ≡ used → n ≤ length buffer → used + n ≤ len → take (used + n) (take len (front ++ (buffer ++ after) ++ rest)) ≡ front ++ take n buffer
+read_after front buffer after rest used n len is le within =
     let fits : used + n ≤ length (front ++ (buffer ++ after)) = omega (arith, is, le, length-append front (buffer ++ after), length-append buffer after) in
     let here : take (used + n) (front ++ (buffer ++ after)) ≡ front ++ take n (buffer ++ after) = rw (sym is) (take-append-add front (buffer ++ after) n) in
     take-take (used + n) len (front ++ (buffer ++ after) ++ rest) within ∙ take-append-le (used + n) (front ++ (buffer ++ after)) rest fits ∙ here ∙ ap (λ xs. front ++ xs) (take-append-le n buffer after le)

@@ -102,30 +102,30 @@ three_fit : (a b c : ℕ) → IsWord a → IsWord b → IsWord c → width (deci
 three_fit a b c fits_a fits_b fits_c = omega (arith, ten_digits a fits_a, two_fit b c fits_b fits_c)
 
 -- a name of at most seven letters, and what follows it
-fits_behind : (name : List ℕ) (words : List (List ℕ)) → length name ≤ 7 → width words ≤ 8236 → length (join_with_byte 32 (name ∷ words)) ≤ line_limit
-fits_behind name words short few = omega (arith, length-join name words)
+fits_after : (name : List ℕ) (words : List (List ℕ)) → length name ≤ 7 → width words ≤ 8236 → length (join_with_byte 32 (name ∷ words)) ≤ line_limit
+fits_after name words short few = omega (arith, length-join name words)
 
 fits_three : (name : List ℕ) (a b c : ℕ) → length name ≤ 7 → IsWord a → IsWord b → IsWord c → length (join_with_byte 32 (name ∷ decimal a ∷ decimal b ∷ decimal c ∷ [])) ≤ line_limit
-fits_three name a b c short fits_a fits_b fits_c = fits_behind name (decimal a ∷ decimal b ∷ decimal c ∷ []) short (omega (arith, three_fit a b c fits_a fits_b fits_c))
+fits_three name a b c short fits_a fits_b fits_c = fits_after name (decimal a ∷ decimal b ∷ decimal c ∷ []) short (omega (arith, three_fit a b c fits_a fits_b fits_c))
 
 fits_four : (name : List ℕ) (a b c d : ℕ) → length name ≤ 7 → IsWord a → IsWord b → IsWord c → IsWord d → length (join_with_byte 32 (name ∷ decimal a ∷ decimal b ∷ decimal c ∷ decimal d ∷ [])) ≤ line_limit
-fits_four name a b c d short fits_a fits_b fits_c fits_d = fits_behind name (decimal a ∷ decimal b ∷ decimal c ∷ decimal d ∷ []) short (omega (arith, two_fit a b fits_a fits_b, two_fit c d fits_c fits_d))
+fits_four name a b c d short fits_a fits_b fits_c fits_d = fits_after name (decimal a ∷ decimal b ∷ decimal c ∷ decimal d ∷ []) short (omega (arith, two_fit a b fits_a fits_b, two_fit c d fits_c fits_d))
 
 pub line_fits : (call : Call) → IsRanged call → length (line_of call) ≤ line_limit
 line_fits Take fits = omega arith
-line_fits (Give a) fits = fits_behind (codes "give") (decimal a ∷ []) (omega arith) (omega (arith, one_fits a fits))
-line_fits (HostFault a) fits = fits_behind (codes "hfault") (decimal a ∷ []) (omega arith) (omega (arith, one_fits a fits))
+line_fits (Give a) fits = fits_after (codes "give") (decimal a ∷ []) (omega arith) (omega (arith, one_fits a fits))
+line_fits (HostFault a) fits = fits_after (codes "hfault") (decimal a ∷ []) (omega arith) (omega (arith, one_fits a fits))
 line_fits (HostRead a b c) fits = fits_three (codes "hread") a b c (omega arith) fits.0 fits.1 fits.2
 line_fits (HostWrite a b bytes) fits =
-    fits_behind (codes "hwrite") (decimal a ∷ decimal b ∷ encode_lower bytes ∷ []) (omega arith) (omega (arith, ten_digits a fits.0, ten_digits b fits.1, digits_fit bytes fits.2))
-line_fits (RegisterVm a) fits = fits_behind (codes "regvm") (decimal a ∷ []) (omega arith) (omega (arith, one_fits a fits))
-line_fits (RegisterVcpu a b) fits = fits_behind (codes "regvcpu") (decimal a ∷ decimal b ∷ []) (omega arith) (omega (arith, two_fit a b fits.0 fits.1))
+    fits_after (codes "hwrite") (decimal a ∷ decimal b ∷ encode_lower bytes ∷ []) (omega arith) (omega (arith, ten_digits a fits.0, ten_digits b fits.1, digits_fit bytes fits.2))
+line_fits (RegisterVm a) fits = fits_after (codes "regvm") (decimal a ∷ []) (omega arith) (omega (arith, one_fits a fits))
+line_fits (RegisterVcpu a b) fits = fits_after (codes "regvcpu") (decimal a ∷ decimal b ∷ []) (omega arith) (omega (arith, two_fit a b fits.0 fits.1))
 line_fits (SetBoot a b c) fits = fits_three (codes "setboot") a b c (omega arith) fits.0 fits.1 fits.2
 line_fits (Remap a b c) fits = fits_three (codes "remap") a b c (omega arith) fits.0 fits.1 fits.2
-line_fits (Verify a) fits = fits_behind (codes "verify") (decimal a ∷ []) (omega arith) (omega (arith, one_fits a fits))
+line_fits (Verify a) fits = fits_after (codes "verify") (decimal a ∷ []) (omega arith) (omega (arith, one_fits a fits))
 line_fits (Map a b c) fits = fits_three (codes "map") a b c (omega arith) fits.0 fits.1 fits.2
 line_fits (GuestRead a b c d e) fits =
-    fits_behind (codes "gread") (decimal a ∷ decimal b ∷ decimal c ∷ decimal d ∷ decimal e ∷ []) (omega arith) (omega (arith, two_fit a b fits.0 fits.1, three_fit c d e fits.2 fits.3 fits.4))
+    fits_after (codes "gread") (decimal a ∷ decimal b ∷ decimal c ∷ decimal d ∷ decimal e ∷ []) (omega arith) (omega (arith, two_fit a b fits.0 fits.1, three_fit c d e fits.2 fits.3 fits.4))
 line_fits (GuestWrite a b c d bytes) fits =
     omega (
       arith,
@@ -139,7 +139,7 @@ line_fits (Revoke a b c) fits = fits_three (codes "revoke") a b c (omega arith) 
 line_fits (GrantRange a b c d) fits = fits_four (codes "grantr") a b c d (omega arith) fits.0 fits.1 fits.2 fits.3
 line_fits (RevokeRange a b c d) fits = fits_four (codes "revoker") a b c d (omega arith) fits.0 fits.1 fits.2 fits.3
 line_fits (Drop a b c) fits = fits_three (codes "drop") a b c (omega arith) fits.0 fits.1 fits.2
-line_fits (Clear a) fits = fits_behind (codes "clear") (decimal a ∷ []) (omega arith) (omega (arith, one_fits a fits))
+line_fits (Clear a) fits = fits_after (codes "clear") (decimal a ∷ []) (omega arith) (omega (arith, one_fits a fits))
 
 -- ---- the line of a call
 

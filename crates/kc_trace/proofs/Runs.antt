@@ -177,5 +177,5 @@ fails_then NoNewline read then h = rw h refl
 fails_then TooManyCalls read then h = rw h refl
 fails_then Memory read then h = tt
 
-pub nothing_behind : (xs : List ℕ) → take (length xs - length xs) (drop (length xs) xs) ≡ []
-nothing_behind xs = tail_is (length xs) xs ∙ drop_all (length xs) xs (omega arith)
+pub nothing_after : (xs : List ℕ) → take (length xs - length xs) (drop (length xs) xs) ≡ []
+nothing_after xs = tail_is (length xs) xs ∙ drop_all (length xs) xs (omega arith)

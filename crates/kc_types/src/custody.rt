@@ -1,5 +1,5 @@
 //! What an auditor sees of frames and slots: how calls change them, and what follows from that.
-ghost use Rattle.std.specs.Prelude.{◌≡◌, ◌≤◌, [], length, IfOk};
+ghost use Rattle.std.specs.Prelude.{◌≡◌, ◌≤◌, [], length, None, false, IfOk};
 ghost use Rattle.kc_types.specs.Limits.{image_limit};
 
 use crate::{Gfn, IMAGE_LIMIT, Memory, Owner, Phase};
@@ -17,6 +17,20 @@ pub struct Custody {
     pub share: u32,
     /// Whether the host's access is mapped.
     pub present: bool,
+}
+
+impl Custody {
+    /// The custody of a frame that no VM sees, that is not shared, and that the host has not mapped.
+    pub fn untouched(owner: Owner) -> Custody
+        ensures { result ≡ record { owner = owner; gfn = None; share = 0; present = false } }
+    {
+        Custody {
+            owner,
+            gfn: None,
+            share: 0,
+            present: false,
+        }
+    }
 }
 
 /// A change of a frame's custody by a call.

@@ -138,27 +138,27 @@ untold-until end line f (change.Phase told ∷ more) order lt = untold-until end
 -- these changes are all that is reported of lines after this one
 record AreLater (m : State) (calls : List Call) (line : ℕ) (changes : List Change) : Type 0 where
   all : (n f : ℕ) → line < n → is_told (custody m calls) n f ≡ is_told changes n f
-  behind : All (λ told. line ≤ line_of told) changes
+  later : All (λ told. line ≤ line_of told) changes
   order : IsInOrder changes
   lines : All (IsOnLine calls) changes
   tell : All (IsFrameTold m calls) changes
 
 -- the changes after a change
-behind-frame : (m : State) (calls : List Call) (line : ℕ) (told : FrameChange) (more : List Change) → AreLater m calls line (change.Frame told ∷ more) → AreLater m calls told.line more
-behind-frame m calls line told more are =
-    let low : line ≤ told.line = All-head (λ told. line ≤ line_of told) (change.Frame told) more are.behind in
+after-frame : (m : State) (calls : List Call) (line : ℕ) (told : FrameChange) (more : List Change) → AreLater m calls line (change.Frame told ∷ more) → AreLater m calls told.line more
+after-frame m calls line told more are =
+    let low : line ≤ told.line = All-head (λ told. line ≤ line_of told) (change.Frame told) more are.later in
     record {
       all = λ n f lt. are.all n f (omega (arith, low, lt)) ∙ ap (λ b. b || is_told more n f) (elsewhere n f (change.Frame told) (λ same. omega (arith, same, lt)));
-      behind = All-weaker (Precedes (change.Frame told)) (λ more. told.line ≤ line_of more) (not-before (change.Frame told)) more are.order.0;
+      later = All-weaker (Precedes (change.Frame told)) (λ more. told.line ≤ line_of more) (not-before (change.Frame told)) more are.order.0;
       order = are.order.1;
       lines = All-tail (IsOnLine calls) (change.Frame told) more are.lines;
       tell = All-tail (IsFrameTold m calls) (change.Frame told) more are.tell;
     }
 
-behind-phase : (m : State) (calls : List Call) (line : ℕ) (told : PhaseChange) (more : List Change) → AreLater m calls line (change.Phase told ∷ more) → AreLater m calls line more
-behind-phase m calls line told more are = record {
+after-phase : (m : State) (calls : List Call) (line : ℕ) (told : PhaseChange) (more : List Change) → AreLater m calls line (change.Phase told ∷ more) → AreLater m calls line more
+after-phase m calls line told more are = record {
   all = are.all;
-  behind = All-tail (λ told. line ≤ line_of told) (change.Phase told) more are.behind;
+  later = All-tail (λ told. line ≤ line_of told) (change.Phase told) more are.later;
   order = are.order.1;
   lines = All-tail (IsOnLine calls) (change.Phase told) more are.lines;
   tell = All-tail (IsFrameTold m calls) (change.Phase told) more are.tell;
@@ -178,14 +178,14 @@ tell-later m calls is line (change.Frame told ∷ more) are =
     let low = (All-head (IsOnLine calls) (change.Frame told) more are.lines).0 in
     let here : told.line ≡ (told.line - 1) + 1 = omega (arith, low) in
     let there : told.line - 1 ≡ (told.line - first_line) + 1 = omega (arith, low) in
-    let later = behind-frame m calls line told more are in
+    let later = after-frame m calls line told more are in
     All-cons (Tells m calls) _ (later_bars (end_of_trace calls) more)
     (λ k from below.
     stays-until m calls is (told.line - 1) told.frame more (subst (λ n. AreLater m calls n more) here later) k (omega (arith, from)) below
     ∙ ap (λ n. custody_at (state_at m calls n) told.frame) there
     ∙ (All-head (IsFrameTold m calls) (change.Frame told) more are.tell).after (told.line - first_line) (omega (arith, low)))
     (tell-later m calls is told.line more later)
-tell-later m calls is line (change.Phase told ∷ more) are = tell-later m calls is line more (behind-phase m calls line told more are)
+tell-later m calls is line (change.Phase told ∷ more) are = tell-later m calls is line more (after-phase m calls line told more are)
 
 tell : (m : State) (calls : List Call) → IsLawful m → All (Tells m calls) (bars_of_trace m calls)
 tell m calls is =
@@ -193,7 +193,7 @@ tell m calls is =
     let changes = custody m calls in
     let are : AreLater m calls 1 changes = record {
       all = λ n f lt. refl;
-      behind = All-weaker (IsOnLine calls) (λ told. 1 ≤ line_of told) (λ told is. omega (arith, is.0)) changes (on-lines m calls);
+      later = All-weaker (IsOnLine calls) (λ told. 1 ≤ line_of told) (λ told is. omega (arith, is.0)) changes (on-lines m calls);
       order = ordered m calls;
       lines = on-lines m calls;
       tell = tells_frames m calls;

@@ -153,8 +153,8 @@ tells-all kept m n (true ∷ marks) (call ∷ calls) is other_is differ may keep
     both later (line ∷ lines) number = ap₂ ◌++◌ (same-told kept line m n call is other_is differ keeps.0) (later lines (omega (arith, number)))
 tells-all kept m n (false ∷ marks) (call ∷ calls) is other_is differ may keeps =
     let quiet = lacks-next kept m call is may.0 in
-    let behind = differ-then kept (next m call).1 m n (differ-back kept m (next m call).1 quiet) differ in
-    let later = tells-all kept (next m call).1 n marks calls (lawful-next m call is) other_is behind may.1 keeps.1 in
+    let after = differ-then kept (next m call).1 m n (differ-back kept m (next m call).1 quiet) differ in
+    let later = tells-all kept (next m call).1 n marks calls (lawful-next m call is) other_is after may.1 keeps.1 in
     record {
       custody = λ lines number. rest quiet later.custody lines number;
       replies = later.replies;

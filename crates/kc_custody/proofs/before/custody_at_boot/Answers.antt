@@ -10,4 +10,4 @@ returns c =
     let f = c.args.frame in
     let there : f < c.args.config.now.frames = c.requires in
     let at : frame_at (boot c.args.config.now) f ≡ boot_frame c.args.config.now f = get_or-map-range_with_len (boot_frame c.args.config.now) 0 c.args.config.now.frames f f (untouched Core) there (omega arith) in
-    rw (at, c.owner_at_boot.ensures) refl
+    rw (c.untouched.ensures, at, c.owner_at_boot.ensures) refl

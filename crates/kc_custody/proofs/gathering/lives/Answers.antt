@@ -8,7 +8,7 @@ use Rattle.kc_custody.specs.Within.{IsWithin}
 use Rattle.kc_custody.proofs.gathering.lives.Goals as goal
 
 pub loop-event-init : goal.loop-event-init
-loop-event-init c = record { more = []; all = sym (append-nil c.args.events.items); told = c.in_ok-behind.ensures }
+loop-event-init c = record { more = []; all = sym (append-nil c.args.events.items); told = c.in_ok-gathered.ensures }
 
 pub loop-event-preserved : goal.loop-event-preserved
 loop-event-preserved c =

@@ -1,6 +1,6 @@
 use Rattle.std.proofs.Common.{◌≡◌, ◌++◌, List, vec_len}
 use Rattle.kc_types.specs.declared.custody.Event.{Event}
-use Rattle.kc_custody.specs.Behind.{IsBehind}
+use Rattle.kc_custody.specs.Gathered.{IsGathered}
 use Rattle.kc_custody.proofs.gathering.lives.Given as goal
 
 -- the events that were taken, and what they say
@@ -8,7 +8,7 @@ abbrev pub invariant-loop-event : goal.invariant-loop-event
 invariant-loop-event l = record {
   more : List Event;
   all : l.fn.events.items ≡ l.events.items ++ more;
-  told : IsBehind l.frames more l.behind;
+  told : IsGathered l.frames more l.gathered;
 }
 
 abbrev pub decreases-loop-event : goal.decreases-loop-event

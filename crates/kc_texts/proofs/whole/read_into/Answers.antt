@@ -1,7 +1,7 @@
 use Rattle.std.proofs.Common.{◌≡◌, ◌≤◌, ◌++◌, ◌+◌, length, take, arith, ap, ◌∙◌, inr, length-append}
 use Rattle.std.proofs.lemmas.List.{length-take}
 use Rattle.std.proofs.KnownBytes.{Consumes-trans}
-use Rattle.kc_texts.proofs.Bytes.{read_behind, begun_with}
+use Rattle.kc_texts.proofs.Bytes.{read_after, begun_with}
 use Rattle.kc_texts.proofs.whole.read_into.Goals as goal
 use Rattle.kc_texts.proofs.whole.read_into.Goals.{else-used-as_slice-via-then-used-as_slice+else-is_err, else-used-as_slice-via-else-used-as_slice}
 
@@ -26,10 +26,10 @@ loop-used-preserved g c =
     let given = take c.in-Ok.n c.read.new.buffer in
     let front_len : length (take used c.as_mut_slice.result.now) ≡ used = omega (arith, length-take used c.as_mut_slice.result.now, ap length front_is, length-take used c.loop-used.text, c.loop-used.invariant.within) in
     let fits : used + c.in-Ok.n ≤ (length c.else-used-as_slice.text) = omega (arith, c.in-Ok.ensures.bound, ap length c.as_mut_slice.ensures.value, front_len, length-take used c.as_mut_slice.result.now, c.read.auto.buffer) in
-    let behind = read_behind (take used c.as_mut_slice.result.now) c.read.new.buffer _ _ used c.in-Ok.n (length c.else-used-as_slice.text) front_len c.in-Ok.ensures.bound fits in
+    let after = read_after (take used c.as_mut_slice.result.now) c.read.new.buffer _ _ used c.in-Ok.n (length c.else-used-as_slice.text) front_len c.in-Ok.ensures.bound fits in
     record {
-      read = rw (behind, front_is) (Consumes-trans _ _ _ (take used c.loop-used.text) given c.loop-used.invariant.read c.in-Ok.ensures.bytes.0);
-      within = begun_with _ _ _ behind (omega (arith, front_len, length-append (take used c.as_mut_slice.result.now) given, length-take c.in-Ok.n c.read.new.buffer, c.in-Ok.ensures.bound));
+      read = rw (after, front_is) (Consumes-trans _ _ _ (take used c.loop-used.text) given c.loop-used.invariant.read c.in-Ok.ensures.bytes.0);
+      within = begun_with _ _ _ after (omega (arith, front_len, length-append (take used c.as_mut_slice.result.now) given, length-take c.in-Ok.n c.read.new.buffer, c.in-Ok.ensures.bound));
       few = omega (arith, c.if-n-used.false, c.loop-used.invariant.few);
       whole = c.in-Ok.ensures.mark;
     }

@@ -2,7 +2,7 @@ use Rattle.std.proofs.Common.{[], ap, ◌∙◌, sym, refl}
 use Rattle.std.proofs.lemmas.Result.{err_from_is_err_and}
 use Rattle.kc_trace.specs.Machine.{longer, line_ended, feed, with_front}
 use Rattle.kc_trace.specs.Redacting.{read_by}
-use Rattle.kc_trace.proofs.Runs.{feed_nothing, feed_begun, feed_ended, fails_then, nothing_behind}
+use Rattle.kc_trace.proofs.Runs.{feed_nothing, feed_begun, feed_ended, fails_then, nothing_after}
 use Rattle.kc_trace.proofs.Redacting.{nothing_by, fails_by, then_by}
 use Rattle.kc_trace.proofs.reader.Progress.take_line.Goals as goal
 
@@ -16,7 +16,7 @@ returns-in_default-clause-same c =
     let guests = c.args.guests in
     let new = c.begin.new.self in
     ap (read_by guests) (feed_begun c.args.self.now c.args.bytes.now c.requires.some c.in_default.ensures ∙ c.in_ok-begin.ensures) ∙ nothing_by guests new
-    ∙ sym (ap (λ rest. with_front [] (read_by guests (feed new rest))) (nothing_behind c.args.bytes.now) ∙ ap (λ read. with_front [] (read_by guests read)) (feed_nothing new) ∙ ap (with_front []) (nothing_by guests new))
+    ∙ sym (ap (λ rest. with_front [] (read_by guests (feed new rest))) (nothing_after c.args.bytes.now) ∙ ap (λ read. with_front [] (read_by guests read)) (feed_nothing new) ∙ ap (with_front []) (nothing_by guests new))
 
 pub returns-in_err-call-clause-same : goal.returns-in_err-call-clause-same
 returns-in_err-call-clause-same c =

@@ -2,7 +2,7 @@
 ghost use Rattle.std.specs.Prelude.{◌≡◌, ℕ, List, OnOk, IfOk, []};
 ghost use Rattle.kc_types.specs.declared.custody.Event.{Event as AnEvent};
 ghost use Rattle.kc_model.specs.Lives.{lives};
-ghost use Rattle.kc_custody.specs.Behind.{Notes, IsBehind};
+ghost use Rattle.kc_custody.specs.Gathered.{Notes, IsGathered};
 
 use crate::ends::Ends;
 use crate::tallies::Tallies;
@@ -11,19 +11,19 @@ use std::alloc::Global;
 
 /// What the events after a place in a trace say.
 #[derive(Drop)]
-pub(crate) struct Behind {
+pub(crate) struct Gathered {
     tallies: Tallies,
     ends: Ends,
     /// The lives that begin there, the first of them last.
     lives: Vec<Life>,
 }
 
-impl Behind {
+impl Gathered {
     /// Starts after the last event, for a core with this many frames; `Memory` if memory cannot be had.
-    pub(crate) fn none(alloc: Global, frames: u32) -> Result<Behind, Memory>
-        ensures { IfOk result (λ behind. IsBehind frames [] behind) }
+    pub(crate) fn none(alloc: Global, frames: u32) -> Result<Gathered, Memory>
+        ensures { IfOk result (λ gathered. IsGathered frames [] gathered) }
     {
-        Ok(Behind {
+        Ok(Gathered {
             tallies: Tallies::none(alloc)?,
             ends: Ends::none(alloc, frames)?,
             lives: Vec::new(alloc),
@@ -53,7 +53,7 @@ impl Behind {
 
     /// The lives that are found, in the order in which they begin.
     pub(crate) fn into_lives(self) -> Vec<Life>
-        ensures { (frames : ℕ) (more : List AnEvent) → IsBehind frames more self → result.items ≡ lives more }
+        ensures { (frames : ℕ) (more : List AnEvent) → IsGathered frames more self → result.items ≡ lives more }
     {
         let mut lives = self.lives;
         lives.reverse();

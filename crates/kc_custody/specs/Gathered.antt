@@ -6,14 +6,14 @@ use Rattle.kc_custody.specs.Tally.{HasRoom}
 use Rattle.kc_custody.specs.Tallies.{AreTallied}
 use Rattle.kc_custody.specs.Ends.{AreEnds}
 use Rattle.kc_custody.specs.Within.{IsWithin}
-use Rattle.kc_custody.specs.declared.behind.Behind.{Behind}
+use Rattle.kc_custody.specs.declared.gathered.Gathered.{Gathered}
 
 -- all that these events say; the lives that they begin are in reverse order
-pub record IsBehind (frames : ℕ) (more : List Event) (behind : Behind) : Type 0 where
-  pub tallies : AreTallied more behind.tallies
-  pub ends : AreEnds frames more behind.ends
-  pub lives : behind.lives.items ≡ reverse (lives more)
+pub record IsGathered (frames : ℕ) (more : List Event) (gathered : Gathered) : Type 0 where
+  pub tallies : AreTallied more gathered.tallies
+  pub ends : AreEnds frames more gathered.ends
+  pub lives : gathered.lives.items ≡ reverse (lives more)
 
 -- what any events say becomes what they say with this one before them
-abbrev pub Notes : Event → Behind → Behind → Type 0
-Notes told old new = (frames : ℕ) (more : List Event) → IsWithin frames told → HasRoom more → IsBehind frames more old → IsBehind frames (told ∷ more) new
+abbrev pub Notes : Event → Gathered → Gathered → Type 0
+Notes told old new = (frames : ℕ) (more : List Event) → IsWithin frames told → HasRoom more → IsGathered frames more old → IsGathered frames (told ∷ more) new
