@@ -1,5 +1,5 @@
 -- The notes that are chosen if nothing but changes is asked for, and their text.
-use Rattle.std.proofs.Common.{ℕ, ◌≡◌, Bool, true, false, cond, List, [], ◌∷◌, ◌++◌, map, filter, length, Option, Some, None, refl, ap, ap₂, ◌∙◌}
+use Rattle.std.proofs.Common.{ℕ, ◌≡◌, Bool, true, false, cond, List, [], ◌∷◌, ◌++◌, map, filter, length, Option, Some, None, refl, ap, ap₂, append_assoc, ◌∙◌}
 use Rattle.std.specs.List.{flat_map}
 use Rattle.std.proofs.lemmas.List.{length-map}
 use Rattle.kc_types.specs.Configuration.{Configuration}
@@ -19,7 +19,7 @@ use Rattle.kc_remarks.specs.declared.remark.Note.{Note}
 use Rattle.kc_remarks.specs.declared.remark.Note.TheVariants as note
 use Rattle.kc_remarks.specs.Remarks.{events_in}
 use Rattle.kc_custody.specs.Chosen.{no_remarks, chosen}
-use Rattle.kc_cli.specs.Ledgers.{lined_text}
+use Rattle.kc_cli.specs.Ledgers.{framed_text, lined_text}
 
 abbrev noted : Change → Note
 noted change = note.Event (event.Change change)
@@ -66,6 +66,14 @@ plain heading config volumes calls refused vm told =
     let changes = selected vm (changes_in (events_in told)) in
     ap (notes_text_of heading config volumes calls refused) (picked vm told)
     ∙ ap₂ (λ (body : List ℕ) (n : ℕ). header_line heading config ++ (volumes_text volumes ++ (body ++ end_line calls n refused))) (lines volumes changes) (length-map changes noted)
+
+-- lines, between what comes before them and what comes after, are the text that has a line for each
+pub framed_is_lined : {X : Type 0} (place : X → ℕ) (line : X → List ℕ) (heading : Heading) (config : Configuration) (volumes : List VolumeEntry) (answered : Answered) (xs : List X) (count : ℕ) (front end : List ℕ)
+    → count ≡ length xs → front ≡ header_line heading config ++ volumes_text volumes → end ≡ end_line answered.calls count answered.denials.total
+    → framed_text place line front volumes xs end ≡ lined_text place line heading config volumes answered xs
+framed_is_lined place line heading config volumes answered xs count front end long before after =
+    ap₂ (λ (front end : List ℕ). framed_text place line front volumes xs end) before (after ∙ ap (λ n. end_line answered.calls n answered.denials.total) long)
+    ∙ append_assoc (header_line heading config) (volumes_text volumes) (flat_map (λ x. placed_text volumes (place x) (line x)) xs ++ end_line answered.calls (length xs) answered.denials.total)
 
 -- the text of the changes among events, and that of notes
 pub changes_text : (heading : Heading) (config : Configuration) (volumes : List VolumeEntry) (answered : Answered) (changes : List Change) (told : List Event) → told ≡ map event.Change changes

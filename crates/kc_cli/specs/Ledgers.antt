@@ -34,6 +34,8 @@ use Rattle.kc_html.specs.Html.{html_text_of}
 use Rattle.kc_svg.specs.Foot.{HasFoot}
 use Rattle.kc_cli.specs.Custody.{page_remarks, reported}
 use Rattle.kc_cli.specs.declared.account.Told.{Told}
+use Rattle.kc_cli.specs.declared.lined.View.{View}
+use Rattle.kc_cli.specs.declared.lined.View.TheVariants as views
 use Rattle.kc_cli.specs.declared.ledger.Ledger.{Ledger}
 use Rattle.kc_cli.specs.declared.ledger.Ledger.TheVariants as kept
 use Rattle.kc_cli.specs.declared.telling.Kept.{Kept}
@@ -89,6 +91,11 @@ framed_text place line front volumes xs end = front ++ (flat_map (λ x. placed_t
 abbrev pub lined_text : {X : Type 0} → (X → ℕ) → (X → List ℕ) → Heading → Configuration → List VolumeEntry → Answered → List X → List ℕ
 lined_text place line heading config volumes answered xs =
     header_line heading config ++ (volumes_text volumes ++ (flat_map (λ x. placed_text volumes (place x) (line x)) xs ++ end_line answered.calls (length xs) answered.denials.total))
+
+-- the text as it is, or in a page for a browser
+abbrev pub viewed : View → List ℕ → List ℕ
+viewed views.Text text = text
+viewed views.Page text = html_text_of text
 
 -- the outcome of giving a text to a sink
 abbrev pub written : Result (Unit {0}) Failed → Result (Unit {0}) TextFault

@@ -17,7 +17,7 @@ ghost use Rattle.kc_cli.specs.Custody.{names_trace, names_start, page_remarks, r
 ghost use Rattle.kc_cli.specs.Ledgers.{attempts_kept, events_kept, is_remark, GivesAccount, BeginsAccount};
 
 use crate::ledger::Ledger;
-use crate::lined::{give_changes, give_html, give_whole};
+use crate::lined::{View, give_lines, give_whole};
 use kc_custody::{choose, lives, select, select_lives};
 use kc_faults::TextFault;
 use kc_picture::{bars, picture};
@@ -258,11 +258,11 @@ pub(crate) fn give_told<K: Sink>(
     match ledger {
         Ledger::Changes(mut events) => {
             select(&mut events, vm);
-            give_changes(alloc, &heading, &config, entries, &answered, events, out)
+            give_lines(alloc, &heading, &config, entries, &answered, events, View::Text, out)
         },
         Ledger::Notes(remarks, mut notes) => {
             choose(&mut notes, vm, remarks);
-            give_changes(alloc, &heading, &config, entries, &answered, notes, out)
+            give_lines(alloc, &heading, &config, entries, &answered, notes, View::Text, out)
         },
         Ledger::Summary(events, attempts) => {
             let made = summary_of(
@@ -289,7 +289,7 @@ pub(crate) fn give_told<K: Sink>(
         },
         Ledger::Html(mut notes) => {
             choose(&mut notes, vm, page_remarks(heading.is_unseen));
-            give_html(alloc, &heading, &config, entries, &answered, notes, out)
+            give_lines(alloc, &heading, &config, entries, &answered, notes, View::Page, out)
         },
     }
 }

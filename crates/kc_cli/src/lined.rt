@@ -6,7 +6,7 @@ ghost use Rattle.kc_html.specs.Html.{html_text_of};
 ghost use Rattle.kc_trace.specs.CustodyText.{header_line, volumes_text, end_line, AreInLine};
 ghost use Rattle.kc_texts.specs.Written.{AppendsBeginning, longest_placed};
 ghost use Rattle.kc_faults.specs.Outcomes.{TellsSink};
-ghost use Rattle.kc_cli.specs.Ledgers.{framed_text, lined_text, written};
+ghost use Rattle.kc_cli.specs.Ledgers.{framed_text, lined_text, viewed, written};
 
 use kc_faults::TextFault;
 use kc_html::{HEAD, TAIL};
@@ -15,6 +15,15 @@ use kc_texts::{Failed, Placed, Sink, empty_piece, give_placed, write_whole};
 use kc_trace::{Heading, VolumeEntry, push_custody_end, push_custody_header, push_volumes};
 use kc_types::{Config, Memory};
 use std::alloc::Global;
+
+/// How the lines of custody are given.
+#[derive(Clone, Copy)]
+pub(crate) enum View {
+    /// As a text.
+    Text,
+    /// As that text in a page for a browser.
+    Page,
+}
 
 /// What is around the lines of custody.
 #[derive(Drop)]
@@ -86,31 +95,6 @@ pub(crate) fn written(given: Result<(), Failed>) -> Result<(), TextFault>
     }
 }
 
-/// Gives these lines, with what is around them.
-pub(crate) fn give_changes<K: Sink, L: Placed + Drop>(
-    alloc: Global,
-    heading: &Heading,
-    config: &Config,
-    volumes: &[VolumeEntry],
-    answered: &Answered,
-    lines: Vec<L>,
-    out: &mut K,
-) -> Result<(), TextFault>
-    requires out { K.failed out.old ≡ false }
-    requires order { AreInLine volumes.now }
-    ensures ok { OnOk result (Appends (K.taken out.old) (K.taken out.new)
-        (lined_text L.place L.line heading.now config.now volumes.now answered.now lines.items)) }
-    ensures sink { TellsSink (K.failed out.new) (AppendsBeginning (K.taken out.old) (K.taken out.new)
-        (lined_text L.place L.line heading.now config.now volumes.now answered.now lines.items))
-        (out.new ≡ out.old) result }
-    ensures fault { IfErr result (λ fault. (fault ≡ TextFault.Memory) ⊎ (fault ≡ TextFault.Write)) }
-{
-    let Ok(frame) = frame_of(alloc, heading, config, volumes, answered, lines.len()) else {
-        return Err(TextFault::Memory);
-    };
-    written(give_text(out, frame, volumes, lines))
-}
-
 /// Gives a sink the parts of a text. After an `Err` the sink has taken a beginning of it.
 fn give_parts<K: Sink>(out: &mut K, parts: &[&str]) -> Result<(), Failed>
     requires { K.failed out.old ≡ false }
@@ -148,29 +132,33 @@ fn give_page<K: Sink, L: Placed + Drop>(
     give_parts(out, &TAIL)
 }
 
-/// Gives what `give_changes` gives, in a page for a browser.
-pub(crate) fn give_html<K: Sink, L: Placed + Drop>(
+/// Gives these lines, with what is around them.
+pub(crate) fn give_lines<K: Sink, L: Placed + Drop>(
     alloc: Global,
     heading: &Heading,
     config: &Config,
     volumes: &[VolumeEntry],
     answered: &Answered,
     lines: Vec<L>,
+    view: View,
     out: &mut K,
 ) -> Result<(), TextFault>
     requires out { K.failed out.old ≡ false }
     requires order { AreInLine volumes.now }
-    ensures ok { OnOk result (Appends (K.taken out.old) (K.taken out.new)
-        (html_text_of (lined_text L.place L.line heading.now config.now volumes.now answered.now lines.items))) }
-    ensures sink { TellsSink (K.failed out.new) (AppendsBeginning (K.taken out.old) (K.taken out.new)
-        (html_text_of (lined_text L.place L.line heading.now config.now volumes.now answered.now lines.items)))
+    ensures ok { OnOk result (Appends (K.taken out.old) (K.taken out.new) (viewed view
+        (lined_text L.place L.line heading.now config.now volumes.now answered.now lines.items))) }
+    ensures sink { TellsSink (K.failed out.new) (AppendsBeginning (K.taken out.old) (K.taken out.new) (viewed view
+        (lined_text L.place L.line heading.now config.now volumes.now answered.now lines.items)))
         (out.new ≡ out.old) result }
     ensures fault { IfErr result (λ fault. (fault ≡ TextFault.Memory) ⊎ (fault ≡ TextFault.Write)) }
 {
     let Ok(frame) = frame_of(alloc, heading, config, volumes, answered, lines.len()) else {
         return Err(TextFault::Memory);
     };
-    written(give_page(out, frame, volumes, lines))
+    match view {
+        View::Text => written(give_text(out, frame, volumes, lines)),
+        View::Page => written(give_page(out, frame, volumes, lines)),
+    }
 }
 
 /// Gives a text that was made whole.
