@@ -258,11 +258,29 @@ pub(crate) fn give_told<K: Sink>(
     match ledger {
         Ledger::Changes(mut events) => {
             select(&mut events, vm);
-            give_lines(alloc, &heading, &config, entries, &answered, events, View::Text, out)
+            give_lines(
+                alloc,
+                &heading,
+                &config,
+                entries,
+                &answered,
+                events,
+                View::Text,
+                out,
+            )
         },
         Ledger::Notes(remarks, mut notes) => {
             choose(&mut notes, vm, remarks);
-            give_lines(alloc, &heading, &config, entries, &answered, notes, View::Text, out)
+            give_lines(
+                alloc,
+                &heading,
+                &config,
+                entries,
+                &answered,
+                notes,
+                View::Text,
+                out,
+            )
         },
         Ledger::Summary(events, attempts) => {
             let made = summary_of(
@@ -289,7 +307,16 @@ pub(crate) fn give_told<K: Sink>(
         },
         Ledger::Html(mut notes) => {
             choose(&mut notes, vm, page_remarks(heading.is_unseen));
-            give_lines(alloc, &heading, &config, entries, &answered, notes, View::Page, out)
+            give_lines(
+                alloc,
+                &heading,
+                &config,
+                entries,
+                &answered,
+                notes,
+                View::Page,
+                out,
+            )
         },
     }
 }
