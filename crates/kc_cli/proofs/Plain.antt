@@ -14,11 +14,11 @@ use Rattle.kc_trace.specs.declared.volume_writer.VolumeEntry.{VolumeEntry}
 use Rattle.kc_trace.specs.CustodyText.{change_line, event_line, line_of_change, line_of_event, placed_text, header_line, volumes_text, end_line, custody_text_of}
 use Rattle.kc_trace.specs.RemarkText.{note_line, line_of_note, notes_text_of}
 use Rattle.kc_html.specs.Html.{html_text_of}
-use Rattle.kc_remarks.specs.declared.denials.Answered.{Answered}
 use Rattle.kc_remarks.specs.declared.remark.Note.{Note}
 use Rattle.kc_remarks.specs.declared.remark.Note.TheVariants as note
 use Rattle.kc_remarks.specs.Remarks.{events_in}
 use Rattle.kc_custody.specs.Chosen.{no_remarks, chosen}
+use Rattle.kc_cli.specs.declared.account.Subject.{Subject}
 use Rattle.kc_cli.specs.Ledgers.{framed_text, lined_text}
 
 abbrev noted : Change → Note
@@ -68,24 +68,27 @@ plain heading config volumes calls refused vm told =
     ∙ ap₂ (λ (body : List ℕ) (n : ℕ). header_line heading config ++ (volumes_text volumes ++ (body ++ end_line calls n refused))) (lines volumes changes) (length-map changes noted)
 
 -- lines, between what comes before them and what comes after, are the text that has a line for each
-pub framed_is_lined : {X : Type 0} (place : X → ℕ) (line : X → List ℕ) (heading : Heading) (config : Configuration) (volumes : List VolumeEntry) (answered : Answered) (xs : List X) (count : ℕ) (front end : List ℕ)
-    → count ≡ length xs → front ≡ header_line heading config ++ volumes_text volumes → end ≡ end_line answered.calls count answered.denials.total
-    → framed_text place line front volumes xs end ≡ lined_text place line heading config volumes answered xs
-framed_is_lined place line heading config volumes answered xs count front end long before after =
-    ap₂ (λ (front end : List ℕ). framed_text place line front volumes xs end) before (after ∙ ap (λ n. end_line answered.calls n answered.denials.total) long)
-    ∙ append_assoc (header_line heading config) (volumes_text volumes) (flat_map (λ x. placed_text volumes (place x) (line x)) xs ++ end_line answered.calls (length xs) answered.denials.total)
+pub framed_is_lined : {X : Type 0} (place : X → ℕ) (line : X → List ℕ) (subject : Subject) (xs : List X) (count : ℕ) (front end : List ℕ)
+    → count ≡ length xs → front ≡ header_line subject.heading subject.config ++ volumes_text subject.volumes.items → end ≡ end_line subject.answered.calls count subject.answered.denials.total
+    → framed_text place line front subject.volumes.items xs end ≡ lined_text place line subject xs
+framed_is_lined place line subject xs count front end long before after =
+    let last = end_line subject.answered.calls (length xs) subject.answered.denials.total in
+    ap₂ (λ (front end : List ℕ). framed_text place line front subject.volumes.items xs end) before (after ∙ ap (λ n. end_line subject.answered.calls n subject.answered.denials.total) long)
+    ∙ append_assoc (header_line subject.heading subject.config) (volumes_text subject.volumes.items) (flat_map (λ x. placed_text subject.volumes.items (place x) (line x)) xs ++ last)
 
 -- the text of the changes among events, and that of notes
-pub changes_text : (heading : Heading) (config : Configuration) (volumes : List VolumeEntry) (answered : Answered) (changes : List Change) (told : List Event) → told ≡ map event.Change changes
-    → lined_text line_of_event event_line heading config volumes answered told ≡ custody_text_of heading config volumes answered.calls answered.denials.total changes
-changes_text heading config volumes answered changes told are =
-    ap₂ (λ (body : List ℕ) (n : ℕ). header_line heading config ++ (volumes_text volumes ++ (body ++ end_line answered.calls n answered.denials.total)))
+pub changes_text : (subject : Subject) (changes : List Change) (told : List Event) → told ≡ map event.Change changes
+    → lined_text line_of_event event_line subject told ≡ custody_text_of subject.heading subject.config subject.volumes.items subject.answered.calls subject.answered.denials.total changes
+changes_text subject changes told are =
+    let volumes = subject.volumes.items in
+    ap₂ (λ (body : List ℕ) (n : ℕ). header_line subject.heading subject.config ++ (volumes_text volumes ++ (body ++ end_line subject.answered.calls n subject.answered.denials.total)))
     (ap (flat_map (placed_event volumes)) are ∙ flat-changes (placed_event volumes) (placed_change volumes) (λ c. refl) changes) (ap length are ∙ length-map changes event.Change)
 
-pub notes_text : (heading : Heading) (config : Configuration) (volumes : List VolumeEntry) (answered : Answered) (told wanted : List Note) → told ≡ wanted
-    → lined_text line_of_note note_line heading config volumes answered told ≡ notes_text_of heading config volumes answered.calls answered.denials.total wanted
-notes_text heading config volumes answered told wanted are = ap (notes_text_of heading config volumes answered.calls answered.denials.total) are
+abbrev notes_text_by : Subject → List Note → List ℕ
+notes_text_by subject told = notes_text_of subject.heading subject.config subject.volumes.items subject.answered.calls subject.answered.denials.total told
 
-pub page_text : (heading : Heading) (config : Configuration) (volumes : List VolumeEntry) (answered : Answered) (told wanted : List Note) → told ≡ wanted
-    → html_text_of (lined_text line_of_note note_line heading config volumes answered told) ≡ html_text_of (notes_text_of heading config volumes answered.calls answered.denials.total wanted)
-page_text heading config volumes answered told wanted are = ap html_text_of (notes_text heading config volumes answered told wanted are)
+pub notes_text : (subject : Subject) (told wanted : List Note) → told ≡ wanted → lined_text line_of_note note_line subject told ≡ notes_text_by subject wanted
+notes_text subject told wanted are = ap (notes_text_by subject) are
+
+pub page_text : (subject : Subject) (told wanted : List Note) → told ≡ wanted → html_text_of (lined_text line_of_note note_line subject told) ≡ html_text_of (notes_text_by subject wanted)
+page_text subject told wanted are = ap html_text_of (notes_text subject told wanted are)

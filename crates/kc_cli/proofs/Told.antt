@@ -5,13 +5,13 @@ use Rattle.std.proofs.lemmas.Grind.{flat_map-append}
 use Rattle.std.proofs.lemmas.List.{take_all, append-nil, take-append-drop, drop_more}
 use Rattle.std.proofs.Math.Seq.{take-append-add, take-append-le}
 use Rattle.std.proofs.KnownBytes.{Appends-trans}
-use Rattle.std.specs.Prelude.{IfSome, OnOk, OnErr, is_err}
+use Rattle.std.specs.Prelude.{OnOk, OnErr, is_err}
 use Rattle.std.specs.List.{flat_map}
 use Rattle.std.specs.Io.KnownBytes.{Appends}
 use Rattle.kc_types.specs.declared.call.Call.{Call}
 use Rattle.kc_types.specs.declared.reply.Reply.{Reply}
 use Rattle.kc_remarks.specs.declared.remark.Note.{Note}
-use Rattle.kc_remarks.specs.Remarks.{notes, notes_from, events_in}
+use Rattle.kc_remarks.specs.Remarks.{notes, notes_from}
 use Rattle.kc_remarks.specs.declared.denials.Denials.{Denials}
 use Rattle.kc_remarks.specs.Denials.{is_denied, Counts}
 use Rattle.kc_remarks.proofs.Counted.{denied, both}
@@ -21,7 +21,6 @@ use Rattle.kc_model.specs.State.{State}
 use Rattle.kc_model.specs.Lawful.{IsLawful}
 use Rattle.kc_model.specs.Next.{replies_from, state_after}
 use Rattle.kc_model.specs.Custody.{first_line}
-use Rattle.kc_model.specs.Events.{changes_in}
 use Rattle.kc_model.proofs.Promises.{promises_kept}
 use Rattle.kc_model.proofs.Blind.Told.{custody_is_blind}
 use Rattle.kc_model.proofs.Redaction.Lacking.{accesses_change_nothing}

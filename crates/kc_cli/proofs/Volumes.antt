@@ -1,8 +1,7 @@
 -- What is kept of traces that are read one after another is of all their calls, and so is what is written.
-use Rattle.std.proofs.Common.{ℕ, ◌≡◌, ◌≤◌, ◌<◌, ◌+◌, ◌^◌, ◌++◌, All, zero, suc, get_or, Bool, List, [], ◌∷◌, length, length-append, map, take, Option, Some, None, refl, ap, sym, ◌∙◌, subst, arith, append_assoc}
+use Rattle.std.proofs.Common.{ℕ, ◌≡◌, ◌≤◌, ◌<◌, ◌+◌, ◌^◌, ◌++◌, All, zero, suc, get_or, Bool, List, [], ◌∷◌, length, length-append, map, Option, Some, None, refl, ap, sym, ◌∙◌, subst, arith, append_assoc}
 use Rattle.std.proofs.lemmas.List.{append-nil}
 use Rattle.std.specs.Prelude.{IfSome, option_map}
-use Rattle.std.specs.Io.KnownBytes.{Appends}
 use Rattle.kc_types.specs.Limits.{call_limit}
 use Rattle.kc_types.specs.declared.call.Call.{Call}
 use Rattle.kc_model.specs.State.{State}
@@ -24,7 +23,7 @@ use Rattle.kc_cli.specs.declared.account.Told.{Told}
 use Rattle.kc_cli.specs.declared.custody.CustodyOrder.{CustodyOrder}
 use Rattle.kc_cli.specs.declared.custody.CustodyAccount.{CustodyAccount}
 use Rattle.kc_cli.specs.Answers.{AreAllAnswered}
-use Rattle.kc_cli.specs.Custody.{joined, AreVolumes, AreEntries, HasDigest, IsCustodyText, IsAccount, names_trace, names_start, heading_of, listed, trace_digest}
+use Rattle.kc_cli.specs.Custody.{joined, AreVolumes, AreEntries, HasDigest, IsCustodyText, names_trace, names_start, heading_of, listed, trace_digest}
 use Rattle.kc_trace.specs.declared.custody_writer.Digests.{Digests}
 use Rattle.kc_cli.specs.declared.account.Scope.{Scope}
 use Rattle.kc_cli.specs.Headings.{digests_by, heading_by}
@@ -34,7 +33,7 @@ use Rattle.kc_types.specs.declared.custody.Event.{Event}
 use Rattle.kc_custody.specs.Within.{IsWithin}
 use Rattle.kc_custody.proofs.Traced.{before-within, events-within}
 use Rattle.kc_remarks.proofs.Events.{events-of-notes}
-use Rattle.kc_cli.specs.Ledgers.{HasKept, Keeps, events_kept, IsGiven, GivesAccount, BeginsAccount}
+use Rattle.kc_cli.specs.Ledgers.{HasKept, Keeps, events_kept, IsGiven, IsGivenOf, GivesAccount, BeginsAccount}
 use Rattle.kc_cli.specs.Volumes.{known, HasTold}
 use Rattle.kc_cli.proofs.Counted.{answered_by}
 use Rattle.kc_cli.proofs.Headings.{headed}
@@ -166,21 +165,22 @@ heading_so scope origin start entries digests count same long = rw (same, long) 
 
 -- what was kept of the sources, as it is given
 pub record IsToldOf (account : CustodyAccount) (m : State) (calls : List Call) (told : Told) : Type 0 where
-  pub config : told.config ≡ m.config
-  pub heading : told.heading ≡ heading_by account.order.scope account.order.origin account.start account.entries.items
-  pub listed_are : told.volumes.items ≡ listed account.entries.items
-  pub count : told.answered.calls ≡ length calls
-  pub denials : told.answered.denials ≡ account.kept.denials
+  pub config : told.subject.config ≡ m.config
+  pub heading : told.subject.heading ≡ heading_by account.order.scope account.order.origin account.start account.entries.items
+  pub listed_are : told.subject.volumes.items ≡ listed account.entries.items
+  pub count : told.subject.answered.calls ≡ length calls
+  pub denials : told.subject.answered.denials ≡ account.kept.denials
   pub ledger : told.ledger ≡ account.kept.ledger
 
 text_of : (order : CustodyOrder) (account : CustodyAccount) (m : State) (start : List ℕ) (sources : List (Option (List ℕ))) (texts : List (List ℕ)) (told : Told) (text : List ℕ) (h : HasTold order account m sources) → IsToldOf account m (joined h.volumes) told
-    → known sources ≡ Some texts → BeginsIn order.origin start m → HasDigest (names_start order.scope.named) (Some start) account.start → IsGiven order.scope.vm told.heading told.config told.volumes.items told.answered.calls told.answered.denials.total told.ledger text
+    → known sources ≡ Some texts → BeginsIn order.origin start m → HasDigest (names_start order.scope.named) (Some start) account.start → IsGivenOf order.scope.vm told text
     → IsCustodyText order.origin order.form order.scope start texts text
 text_of order account m start sources texts told text h is all begins digest given =
     let same = known_are sources texts all in
     let calls = joined h.volumes in
     let heading = is.heading ∙ ap (λ (o : CustodyOrder). heading_by o.scope o.origin account.start account.entries.items) h.ordered ∙ headed order.scope order.origin start account.start account.entries.items digest in
     let total = ap (λ (denials : Denials). denials.total) is.denials in
+    let spelled : IsGiven order.scope.vm told.subject.heading told.subject.config told.subject.volumes.items told.subject.answered.calls told.subject.answered.denials.total told.ledger text = given in
     record {
       first = m;
       begins = begins;
@@ -188,12 +188,12 @@ text_of order account m start sources texts told text h is all begins digest giv
       traced = rw same at h.traced;
       entries = account.entries.items;
       named = rw same at h.entries;
-      count = told.answered.calls;
-      refused = told.answered.denials.total;
+      count = told.subject.answered.calls;
+      refused = told.subject.answered.denials.total;
       told = notes m calls;
-      custody = is_told m calls told.answered.calls told.answered.denials.total h.lawful is.count (total ∙ h.kept.denied);
-      account = account_given order.form order.scope.vm (heading_of order.scope order.origin start account.entries.items) m (listed account.entries.items) told.answered.calls told.answered.denials.total (notes m calls) account.kept.ledger text h.kept.ledger
-          (rw (is.config, heading, is.listed_are, is.ledger) at given);
+      custody = is_told m calls told.subject.answered.calls told.subject.answered.denials.total h.lawful is.count (total ∙ h.kept.denied);
+      account = account_given order.form order.scope.vm (heading_of order.scope order.origin start account.entries.items) m (listed account.entries.items) told.subject.answered.calls told.subject.answered.denials.total (notes m calls) account.kept.ledger text h.kept.ledger
+          (rw (is.config, heading, is.listed_are, is.ledger) at spelled);
     }
 
 -- what the sink took of it is the text of all, if they are known
@@ -201,7 +201,7 @@ pub gives_custody : (order : CustodyOrder) (account : CustodyAccount) (m : State
     → IfSome start (λ text. BeginsIn order.origin text m) → HasDigest (names_start order.scope.named) start account.start → GivesAccount account.order.scope.vm told old new → Writes (IsCustodyText order.origin order.form order.scope) start (known sources) old new
 gives_custody order account m None sources told old new h is begins digest given = tt
 gives_custody order account m (Some start) sources told old new h is begins digest given =
-    by_texts (known sources) (λ texts all. text_of order account m start sources texts told given.0 h is all begins digest (subst (λ (o : CustodyOrder). IsGiven o.scope.vm told.heading told.config told.volumes.items told.answered.calls told.answered.denials.total told.ledger given.0) h.ordered given.1))
+    by_texts (known sources) (λ texts all. text_of order account m start sources texts told given.0 h is all begins digest (subst (λ (o : CustodyOrder). IsGivenOf o.scope.vm told given.0) h.ordered given.1))
   where
     by_texts : (texts : Option (List (List ℕ))) → ((some : List (List ℕ)) → texts ≡ Some some → IsCustodyText order.origin order.form order.scope start some given.0) → Writes (IsCustodyText order.origin order.form order.scope) (Some start) texts old new
     by_texts None made = tt
@@ -211,7 +211,7 @@ pub begins_custody : (order : CustodyOrder) (account : CustodyAccount) (m : Stat
     → IfSome start (λ text. BeginsIn order.origin text m) → HasDigest (names_start order.scope.named) start account.start → BeginsAccount account.order.scope.vm told old new → Begins (IsCustodyText order.origin order.form order.scope) start (known sources) old new
 begins_custody order account m None sources told old new h is begins digest given = tt
 begins_custody order account m (Some start) sources told old new h is begins digest given =
-    by_texts (known sources) (λ texts all. text_of order account m start sources texts told given.0 h is all begins digest (subst (λ (o : CustodyOrder). IsGiven o.scope.vm told.heading told.config told.volumes.items told.answered.calls told.answered.denials.total told.ledger given.0) h.ordered given.2))
+    by_texts (known sources) (λ texts all. text_of order account m start sources texts told given.0 h is all begins digest (subst (λ (o : CustodyOrder). IsGivenOf o.scope.vm told given.0) h.ordered given.2))
   where
     by_texts : (texts : Option (List (List ℕ))) → ((some : List (List ℕ)) → texts ≡ Some some → IsCustodyText order.origin order.form order.scope start some given.0) → Begins (IsCustodyText order.origin order.form order.scope) (Some start) texts old new
     by_texts None made = tt

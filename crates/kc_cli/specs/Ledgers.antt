@@ -9,7 +9,6 @@ use Rattle.kc_remarks.specs.declared.remark.Note.{Note}
 use Rattle.kc_remarks.specs.declared.remark.Note.TheVariants as note
 use Rattle.kc_remarks.specs.Remarks.{notes, events_in}
 use Rattle.kc_remarks.specs.Denials.{is_denied, Counts}
-use Rattle.kc_remarks.specs.declared.denials.Answered.{Answered}
 use Rattle.kc_remarks.specs.declared.attempt.Attempt.{Attempt}
 use Rattle.kc_remarks.specs.Attempts.{attempts_in}
 use Rattle.kc_model.specs.State.{State}
@@ -33,6 +32,7 @@ use Rattle.kc_cli.specs.declared.account.CustodyForm.TheVariants.{Changes, Summa
 use Rattle.kc_html.specs.Html.{html_text_of}
 use Rattle.kc_svg.specs.Foot.{HasFoot}
 use Rattle.kc_cli.specs.Custody.{page_remarks, reported}
+use Rattle.kc_cli.specs.declared.account.Subject.{Subject}
 use Rattle.kc_cli.specs.declared.account.Told.{Told}
 use Rattle.kc_cli.specs.declared.lined.View.{View}
 use Rattle.kc_cli.specs.declared.lined.View.TheVariants as views
@@ -73,24 +73,28 @@ IsGiven vm heading config volumes count refused (kept.Picture events) text = Has
 IsGiven vm heading config volumes count refused (kept.VmPicture v before notes) text = HasFoot heading text
 IsGiven vm heading config volumes count refused (kept.Html notes) text = text ≡ html_text_of (notes_text_of heading config volumes count refused (chosen vm (page_remarks heading.is_unseen) notes.items))
 
+-- the same of what was kept of all calls
+abbrev pub IsGivenOf : Option ℕ → Told → List ℕ → Type 0
+IsGivenOf vm told text = IsGiven vm told.subject.heading told.subject.config told.subject.volumes.items told.subject.answered.calls told.subject.answered.denials.total told.ledger text
+
 -- the sink took the text that is given of what was kept
 abbrev pub GivesAccount : Option ℕ → Told → Option (List ℕ) → Option (List ℕ) → Type 0
 GivesAccount vm told old new =
-    (text : List ℕ) × IsGiven vm told.heading told.config told.volumes.items told.answered.calls told.answered.denials.total told.ledger text × Appends old new text
+    (text : List ℕ) × IsGivenOf vm told text × Appends old new text
 
 -- the same for a beginning of it
 abbrev pub BeginsAccount : Option ℕ → Told → Option (List ℕ) → Option (List ℕ) → Type 0
 BeginsAccount vm told old new =
-    (text : List ℕ) × (n : ℕ) × IsGiven vm told.heading told.config told.volumes.items told.answered.calls told.answered.denials.total told.ledger text × Appends old new (take n text)
+    (text : List ℕ) × (n : ℕ) × IsGivenOf vm told text × Appends old new (take n text)
 
 -- lines, each with its volume, between what comes before them and what comes after
 abbrev pub framed_text : {X : Type 0} → (X → ℕ) → (X → List ℕ) → List ℕ → List VolumeEntry → List X → List ℕ → List ℕ
 framed_text place line front volumes xs end = front ++ (flat_map (λ x. placed_text volumes (place x) (line x)) xs ++ end)
 
 -- the text of custody that has a line for each of these
-abbrev pub lined_text : {X : Type 0} → (X → ℕ) → (X → List ℕ) → Heading → Configuration → List VolumeEntry → Answered → List X → List ℕ
-lined_text place line heading config volumes answered xs =
-    header_line heading config ++ (volumes_text volumes ++ (flat_map (λ x. placed_text volumes (place x) (line x)) xs ++ end_line answered.calls (length xs) answered.denials.total))
+abbrev pub lined_text : {X : Type 0} → (X → ℕ) → (X → List ℕ) → Subject → List X → List ℕ
+lined_text place line subject xs =
+    header_line subject.heading subject.config ++ (volumes_text subject.volumes.items ++ (flat_map (λ x. placed_text subject.volumes.items (place x) (line x)) xs ++ end_line subject.answered.calls (length xs) subject.answered.denials.total))
 
 -- the text as it is, or in a page for a browser
 abbrev pub viewed : View → List ℕ → List ℕ

@@ -89,9 +89,9 @@ pub struct Scope {
     pub named: Named,
 }
 
-/// What was kept of all calls.
+/// What is reported on.
 #[derive(Drop)]
-pub(crate) struct Told {
+pub(crate) struct Subject {
     /// What the core was started with.
     pub config: Config,
     /// How many calls there are, and how many of them were refused or rejected.
@@ -100,6 +100,13 @@ pub(crate) struct Told {
     pub heading: Heading,
     /// The volumes that are named on lines of their own.
     pub volumes: Vec<VolumeEntry>,
+}
+
+/// What was kept of all calls.
+#[derive(Drop)]
+pub(crate) struct Told {
+    /// What is reported on.
+    pub subject: Subject,
     /// What was kept of the calls.
     pub ledger: Ledger,
 }
@@ -118,49 +125,49 @@ fn reported(events: Vec<Event>, is_unseen: bool) -> Vec<Event>
 /// The summary of some events and attempts.
 fn summary_of(
     alloc: Global,
-    heading: &Heading,
-    config: &Config,
-    volumes: &[VolumeEntry],
-    answered: &Answered,
+    subject: &Subject,
     events: Vec<Event>,
     attempts: &[Attempt],
     vm: Option<u32>,
 ) -> Result<Vec<u8>, Memory>
-    requires within { All (IsWithin config.now.frames) events.items }
+    requires within { All (IsWithin subject.now.config.frames) events.items }
     requires order { AreInOrder attempts.now }
     ensures { IfOk result (λ text. text.items
-        ≡ summary_text_of heading.now config.now volumes.now answered.now.calls answered.now.denials.total
-        attempts.now (selected_lives vm (lives (reported heading.now.is_unseen events.items)))) }
+        ≡ summary_text_of subject.now.heading subject.now.config subject.now.volumes.items subject.now.answered.calls
+        subject.now.answered.denials.total attempts.now
+        (selected_lives vm (lives (reported subject.now.heading.is_unseen events.items)))) }
 {
-    let events = reported(events, heading.is_unseen);
-    let mut lives = lives(alloc, config.frames(), events)?;
+    let events = reported(events, subject.heading.is_unseen);
+    let mut lives = lives(alloc, subject.config.frames(), events)?;
     select_lives(&mut lives, vm);
     summary_text(
         alloc,
-        heading,
-        config,
-        volumes,
-        answered.calls,
-        answered.denials.total as usize,
+        &subject.heading,
+        &subject.config,
+        subject.volumes.as_slice(),
+        subject.answered.calls,
+        subject.answered.denials.total as usize,
         attempts,
         &lives,
     )
 }
 
 /// The picture of all frames, of some events.
-fn picture_of(
-    alloc: Global,
-    heading: &Heading,
-    config: &Config,
-    calls: usize,
-    events: &[Event],
-) -> Result<Vec<u8>, Memory>
-    requires few { calls + 2 < 2 ^ 32 }
-    requires within { All (IsIn config.now.frames) (changes_in events.now) }
-    ensures { IfOk result (λ text. HasFoot heading.now text.items) }
+fn picture_of(alloc: Global, subject: &Subject, events: &[Event]) -> Result<Vec<u8>, Memory>
+    requires few { subject.now.answered.calls + 2 < 2 ^ 32 }
+    requires within { All (IsIn subject.now.config.frames) (changes_in events.now) }
+    ensures { IfOk result (λ text. HasFoot subject.now.heading text.items) }
 {
-    let bars = bars(alloc, config, FIRST_LINE + calls as u32, events)?;
-    picture(alloc, heading, config, calls, events, &bars)
+    let calls = subject.answered.calls;
+    let bars = bars(alloc, &subject.config, FIRST_LINE + calls as u32, events)?;
+    picture(
+        alloc,
+        &subject.heading,
+        &subject.config,
+        calls,
+        events,
+        &bars,
+    )
 }
 
 /// What is reported beside the changes in a picture or on a page: what was refused, and what was served if the
@@ -211,22 +218,30 @@ fn marked(
 /// The picture of one VM, of what is so before the first call and some notes.
 fn vm_picture_of(
     alloc: Global,
-    heading: &Heading,
-    config: &Config,
-    calls: usize,
+    subject: &Subject,
     before: Vec<Event>,
     notes: Vec<Note>,
     vm: u32,
 ) -> Result<Vec<u8>, Memory>
-    requires few { calls + 2 < 2 ^ 32 }
-    requires within { All (IsIn config.now.frames) (changes_in (before.items ++ events_in notes.items)) }
-    ensures { IfOk result (λ text. HasFoot heading.now text.items) }
+    requires few { subject.now.answered.calls + 2 < 2 ^ 32 }
+    requires within { All (IsIn subject.now.config.frames) (changes_in (before.items ++ events_in notes.items)) }
+    ensures { IfOk result (λ text. HasFoot subject.now.heading text.items) }
 {
-    let (mut told, marks) = marked(alloc, notes, vm, heading.is_unseen)?;
+    let calls = subject.answered.calls;
+    let (mut told, marks) = marked(alloc, notes, vm, subject.heading.is_unseen)?;
     let mut events = before;
     events.append(&mut told)?;
-    let bars = bars(alloc, config, FIRST_LINE + calls as u32, &events)?;
-    picture_of_vm(alloc, heading, config, calls, &events, bars, &marks, vm)
+    let bars = bars(alloc, &subject.config, FIRST_LINE + calls as u32, &events)?;
+    picture_of_vm(
+        alloc,
+        &subject.heading,
+        &subject.config,
+        calls,
+        &events,
+        bars,
+        &marks,
+        vm,
+    )
 }
 
 /// Gives what was kept in its form, of one slot's VM alone if one is named.
@@ -237,86 +252,48 @@ pub(crate) fn give_told<K: Sink>(
     out: &mut K,
 ) -> Result<(), TextFault>
     requires out { K.failed out.old ≡ false }
-    requires few { told.answered.calls + 2 < 2 ^ 32 }
-    requires within { All (IsWithin told.config.frames) (events_kept told.ledger) }
-    requires changes { All (IsIn told.config.frames) (changes_in (events_kept told.ledger)) }
+    requires few { told.subject.answered.calls + 2 < 2 ^ 32 }
+    requires within { All (IsWithin told.subject.config.frames) (events_kept told.ledger) }
+    requires changes { All (IsIn told.subject.config.frames) (changes_in (events_kept told.ledger)) }
     requires order { AreInOrder (attempts_kept told.ledger) }
-    requires volumes { AreInLine told.volumes.items }
+    requires volumes { AreInLine told.subject.volumes.items }
     ensures ok { OnOk result (GivesAccount vm told (K.taken out.old) (K.taken out.new)) }
     ensures sink { TellsSink (K.failed out.new) (BeginsAccount vm told (K.taken out.old) (K.taken out.new))
         (out.new ≡ out.old) result }
     ensures fault { IfErr result (λ fault. (fault ≡ TextFault.Memory) ⊎ (fault ≡ TextFault.Write)) }
 {
-    let Told {
-        config,
-        answered,
-        heading,
-        volumes,
-        ledger,
-    } = told;
-    let entries = volumes.as_slice();
+    let Told { subject, ledger } = told;
     match ledger {
         Ledger::Changes(mut events) => {
             select(&mut events, vm);
-            give_lines(
-                alloc,
-                &heading,
-                &config,
-                entries,
-                &answered,
-                events,
-                View::Text,
-                out,
-            )
+            give_lines(alloc, &subject, events, View::Text, out)
         },
         Ledger::Notes(remarks, mut notes) => {
             choose(&mut notes, vm, remarks);
-            give_lines(
-                alloc,
-                &heading,
-                &config,
-                entries,
-                &answered,
-                notes,
-                View::Text,
-                out,
-            )
+            give_lines(alloc, &subject, notes, View::Text, out)
         },
         Ledger::Summary(events, attempts) => {
-            let made = summary_of(
-                alloc, &heading, &config, entries, &answered, events, &attempts, vm,
-            );
-            let Ok(text) = made else {
+            let Ok(text) = summary_of(alloc, &subject, events, &attempts, vm) else {
                 return Err(TextFault::Memory);
             };
             give_whole(&text, out)
         },
         Ledger::Picture(events) => {
-            let events = reported(events, heading.is_unseen);
-            let Ok(text) = picture_of(alloc, &heading, &config, answered.calls, &events) else {
+            let events = reported(events, subject.heading.is_unseen);
+            let Ok(text) = picture_of(alloc, &subject, &events) else {
                 return Err(TextFault::Memory);
             };
             give_whole(&text, out)
         },
         Ledger::VmPicture(vm, before, notes) => {
-            let made = vm_picture_of(alloc, &heading, &config, answered.calls, before, notes, vm);
-            let Ok(text) = made else {
+            let Ok(text) = vm_picture_of(alloc, &subject, before, notes, vm) else {
                 return Err(TextFault::Memory);
             };
             give_whole(&text, out)
         },
         Ledger::Html(mut notes) => {
-            choose(&mut notes, vm, page_remarks(heading.is_unseen));
-            give_lines(
-                alloc,
-                &heading,
-                &config,
-                entries,
-                &answered,
-                notes,
-                View::Page,
-                out,
-            )
+            choose(&mut notes, vm, page_remarks(subject.heading.is_unseen));
+            give_lines(alloc, &subject, notes, View::Page, out)
         },
     }
 }

@@ -15,7 +15,7 @@ ghost use Rattle.kc_cli.specs.Answers.{AreAllAnswered};
 ghost use Rattle.kc_cli.specs.Headings.{start_by, digests_by, heading_by};
 ghost use Rattle.kc_cli.specs.Volumes.{known, HasTold, IsFull};
 
-use crate::account::{CustodyForm, FIRST_LINE, Named, Scope, Told, give_told};
+use crate::account::{CustodyForm, FIRST_LINE, Named, Scope, Subject, Told, give_told};
 use crate::starting::{Begun, begin};
 use crate::telling::Kept;
 use kc_core::KCore;
@@ -261,10 +261,12 @@ impl CustodyAccount {
             denials: kept.denials,
         };
         let told = Told {
-            config,
-            answered,
-            heading,
-            volumes,
+            subject: Subject {
+                config,
+                answered,
+                heading,
+                volumes,
+            },
             ledger: kept.ledger,
         };
         match give_told(alloc, told, order.scope.vm, out) {

@@ -8,12 +8,12 @@ ghost use Rattle.kc_texts.specs.Written.{AppendsBeginning, longest_placed};
 ghost use Rattle.kc_faults.specs.Outcomes.{TellsSink};
 ghost use Rattle.kc_cli.specs.Ledgers.{framed_text, lined_text, viewed, written};
 
+use crate::account::Subject;
 use kc_faults::TextFault;
 use kc_html::{HEAD, TAIL};
-use kc_remarks::Answered;
 use kc_texts::{Failed, Placed, Sink, empty_piece, give_placed, write_whole};
-use kc_trace::{Heading, VolumeEntry, push_custody_end, push_custody_header, push_volumes};
-use kc_types::{Config, Memory};
+use kc_trace::{VolumeEntry, push_custody_end, push_custody_header, push_volumes};
+use kc_types::Memory;
 use std::alloc::Global;
 
 /// How the lines of custody are given.
@@ -36,29 +36,22 @@ struct Frame {
 
 /// Makes what comes before and after this number of lines of custody. All memory that writing takes is allocated before
 /// the first byte is written.
-fn frame_of(
-    alloc: Global,
-    heading: &Heading,
-    config: &Config,
-    volumes: &[VolumeEntry],
-    answered: &Answered,
-    lines: usize,
-) -> Result<Frame, Memory>
-    ensures piece { IfOk result
-        (λ frame. frame.piece.items ≡ header_line heading.now config.now ++ volumes_text volumes.now) }
-    ensures end { IfOk result
-        (λ frame. frame.end.items ≡ end_line answered.now.calls lines answered.now.denials.total) }
+fn frame_of(alloc: Global, subject: &Subject, lines: usize) -> Result<Frame, Memory>
+    ensures piece { IfOk result (λ frame. frame.piece.items
+        ≡ header_line subject.now.heading subject.now.config ++ volumes_text subject.now.volumes.items) }
+    ensures end { IfOk result (λ frame. frame.end.items
+        ≡ end_line subject.now.answered.calls lines subject.now.answered.denials.total) }
     ensures room { IfOk result (λ frame. longest_placed ≤ vec_capacity frame.piece) }
 {
     let mut piece = empty_piece(alloc)?;
     let mut end = empty_piece(alloc)?;
-    push_custody_header(&mut piece, heading, config);
-    push_volumes(&mut piece, volumes)?;
+    push_custody_header(&mut piece, &subject.heading, &subject.config);
+    push_volumes(&mut piece, subject.volumes.as_slice())?;
     push_custody_end(
         &mut end,
-        answered.calls,
+        subject.answered.calls,
         lines,
-        answered.denials.total as usize,
+        subject.answered.denials.total as usize,
     );
     Ok(Frame { piece, end })
 }
@@ -135,26 +128,23 @@ fn give_page<K: Sink, L: Placed + Drop>(
 /// Gives these lines, with what is around them.
 pub(crate) fn give_lines<K: Sink, L: Placed + Drop>(
     alloc: Global,
-    heading: &Heading,
-    config: &Config,
-    volumes: &[VolumeEntry],
-    answered: &Answered,
+    subject: &Subject,
     lines: Vec<L>,
     view: View,
     out: &mut K,
 ) -> Result<(), TextFault>
     requires out { K.failed out.old ≡ false }
-    requires order { AreInLine volumes.now }
-    ensures ok { OnOk result (Appends (K.taken out.old) (K.taken out.new) (viewed view
-        (lined_text L.place L.line heading.now config.now volumes.now answered.now lines.items))) }
-    ensures sink { TellsSink (K.failed out.new) (AppendsBeginning (K.taken out.old) (K.taken out.new) (viewed view
-        (lined_text L.place L.line heading.now config.now volumes.now answered.now lines.items)))
-        (out.new ≡ out.old) result }
+    requires order { AreInLine subject.now.volumes.items }
+    ensures ok { OnOk result (Appends (K.taken out.old) (K.taken out.new)
+        (viewed view (lined_text L.place L.line subject.now lines.items))) }
+    ensures sink { TellsSink (K.failed out.new) (AppendsBeginning (K.taken out.old) (K.taken out.new)
+        (viewed view (lined_text L.place L.line subject.now lines.items))) (out.new ≡ out.old) result }
     ensures fault { IfErr result (λ fault. (fault ≡ TextFault.Memory) ⊎ (fault ≡ TextFault.Write)) }
 {
-    let Ok(frame) = frame_of(alloc, heading, config, volumes, answered, lines.len()) else {
+    let Ok(frame) = frame_of(alloc, subject, lines.len()) else {
         return Err(TextFault::Memory);
     };
+    let volumes = subject.volumes.as_slice();
     match view {
         View::Text => written(give_text(out, frame, volumes, lines)),
         View::Page => written(give_page(out, frame, volumes, lines)),

@@ -1,4 +1,4 @@
-use Rattle.std.proofs.Common.{Result, Ok, Err, List, ℕ}
+use Rattle.std.proofs.Common.{Result, Ok, Err}
 use Rattle.std.specs.Prelude.{OnErr}
 use Rattle.std.specs.List.{flat_map}
 use Rattle.std.proofs.lemmas.Result.{on_ok_weaker, on_err_weaker}

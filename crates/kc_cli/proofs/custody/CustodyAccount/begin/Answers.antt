@@ -1,6 +1,6 @@
-use Rattle.std.proofs.Common.{Err, ap, refl}
+use Rattle.std.proofs.Common.{Err, ap}
 use Rattle.std.proofs.lemmas.Result.{err_from_is_err_and}
-use Rattle.kc_faults.proofs.Told.{texts_start, texts_ok}
+use Rattle.kc_faults.proofs.Told.{texts_start}
 use Rattle.kc_cli.proofs.custody.CustodyAccount.begin.Goals as goal
 
 pub returns-in_err-begun-clause-texts : goal.returns-in_err-begun-clause-texts

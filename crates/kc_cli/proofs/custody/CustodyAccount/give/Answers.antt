@@ -1,4 +1,4 @@
-use Rattle.std.proofs.Common.{ℕ, ◌≡◌, ◌-◌, List, Option, length, refl, ap, ◌∙◌, arith}
+use Rattle.std.proofs.Common.{◌-◌, length, refl, ap, ◌∙◌, arith}
 use Rattle.kc_types.specs.Configuration.{Configuration}
 use Rattle.kc_model.specs.State.{State}
 use Rattle.kc_model.specs.Custody.{first_line}
@@ -6,7 +6,6 @@ use Rattle.kc_model.proofs.States.Sizes.{config-after}
 use Rattle.kc_remarks.specs.Remarks.{notes}
 use Rattle.kc_remarks.proofs.Ordered.{told_in_order}
 use Rattle.kc_cli.specs.Custody.{joined}
-use Rattle.kc_cli.specs.Volumes.{HasTold}
 use Rattle.kc_cli.proofs.Ledgers.{changes_within, kept_in_order}
 use Rattle.kc_cli.proofs.Sources.{sink_err}
 use Rattle.kc_cli.proofs.Volumes.{in_line, listed_in_line, listed_short, heading_so, kept_is_within, gives_custody, begins_custody, all_answered}
@@ -56,10 +55,12 @@ returns-in-Ok-clause-ok g c = λ order m start sources h begins digest.
     let line = h.kept.line in
     gives_custody order c.args.self m start sources
     record {
-      config = c.into_parts-config.result.0;
-      answered = record { calls = c.args.self.kept.line - 2; denials = c.args.self.kept.denials };
-      heading = record { digests = c.digests_by.result; is_unseen = c.args.self.order.scope.is_unseen; volumes = c.len.result };
-      volumes = c.listed-volumes.result;
+      subject = record {
+        config = c.into_parts-config.result.0;
+        answered = record { calls = c.args.self.kept.line - 2; denials = c.args.self.kept.denials };
+        heading = record { digests = c.digests_by.result; is_unseen = c.args.self.order.scope.is_unseen; volumes = c.len.result };
+        volumes = c.listed-volumes.result;
+      };
       ledger = c.args.self.kept.ledger;
     }
     _ _ h
@@ -79,10 +80,12 @@ returns-in-Err-clause-sink g c = λ order m start sources h begins digest.
     sink_err _ _ _ _ c.in-Err.fault
     (λ begun. begins_custody order c.args.self m start sources
     record {
-      config = c.into_parts-config.result.0;
-      answered = record { calls = c.args.self.kept.line - 2; denials = c.args.self.kept.denials };
-      heading = record { digests = c.digests_by.result; is_unseen = c.args.self.order.scope.is_unseen; volumes = c.len.result };
-      volumes = c.listed-volumes.result;
+      subject = record {
+        config = c.into_parts-config.result.0;
+        answered = record { calls = c.args.self.kept.line - 2; denials = c.args.self.kept.denials };
+        heading = record { digests = c.digests_by.result; is_unseen = c.args.self.order.scope.is_unseen; volumes = c.len.result };
+        volumes = c.listed-volumes.result;
+      };
       ledger = c.args.self.kept.ledger;
     }
     _ _ h

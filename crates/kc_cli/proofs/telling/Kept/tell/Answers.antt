@@ -1,4 +1,4 @@
-use Rattle.std.proofs.Common.{◌≡◌, ◌≤◌, ◌+◌, ◌++◌, [], List, length, length-append, ap, sym, ◌∙◌, subst, rules, arith}
+use Rattle.std.proofs.Common.{◌++◌, [], List, length, length-append, ap, sym, ◌∙◌, subst, rules, arith}
 use Rattle.std.proofs.lemmas.List.{append-nil}
 use Rattle.kc_types.specs.declared.call.Call.{Call}
 use Rattle.kc_cli.specs.Ledgers.{HasKept}
