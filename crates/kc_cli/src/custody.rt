@@ -1,8 +1,9 @@
 //! The engine that reports what happened to each frame and slot, over any sources and any sink.
-ghost use Rattle.std.specs.Prelude.{◌≡◌, ◌≢◌, ◌<◌, ◌≤◌, ◌++◌, ◌∷◌, ◌⊎◌, [], ℕ, List, Option, Some, None, false, true, IfOk, IfErr, IfSome, OnOk, Ok, Err};
+ghost use Rattle.std.specs.Prelude.{◌≡◌, ◌≢◌, ◌<◌, ◌≤◌, ◌-◌, ◌^◌, ◌++◌, ◌∷◌, ◌⊎◌, [], ℕ, length, List, Option, Some, None, false, true, IfOk, IfErr, IfSome, OnOk, Ok, Err};
 ghost use Rattle.std.specs.Io.KnownBytes.{IsAtEnd};
 ghost use Rattle.kc_types.specs.Configuration.{slot_count};
 ghost use Rattle.kc_model.specs.State.{State};
+ghost use Rattle.kc_model.specs.Custody.{first_line};
 ghost use Rattle.kc_trace.specs.declared.fault.TraceFault.{TraceFault};
 ghost use Rattle.kc_trace.specs.Trace.{IsRefused};
 ghost use Rattle.kc_texts.specs.Ends.{Seen, ReadFailed, seen};
@@ -24,6 +25,7 @@ use kc_faults::{Origin, TextFault};
 use kc_remarks::Answered;
 use kc_texts::{Sink, Source};
 use kc_trace::{Digests, Heading, StartDigest, TraceFault, VolumeEntry};
+use kc_types::Config;
 use std::alloc::Global;
 use std::thread::Threads;
 
@@ -91,6 +93,46 @@ fn listed(alloc: Global, entries: Vec<VolumeEntry>) -> Vec<VolumeEntry>
         return Vec::new(alloc);
     }
     entries
+}
+
+/// What was kept of all calls, of a machine of this configuration.
+fn told_of(
+    alloc: Global,
+    config: Config,
+    kept: Kept,
+    entries: Vec<VolumeEntry>,
+    start: Option<[u8; 32]>,
+    order: CustodyOrder,
+) -> Told
+    requires line { first_line ≤ kept.line }
+    requires few { length entries.items < 2 ^ 32 }
+    ensures config { result.subject.config ≡ config }
+    ensures calls { result.subject.answered.calls ≡ kept.line - first_line }
+    ensures denials { result.subject.answered.denials ≡ kept.denials }
+    ensures heading { result.subject.heading ≡ heading_by order.scope order.origin start entries.items }
+    ensures volumes { result.subject.volumes.items ≡ listed entries.items }
+    ensures ledger { result.ledger ≡ kept.ledger }
+{
+    let trace = trace_digest(entries.as_slice());
+    let volumes = listed(alloc, entries);
+    let heading = Heading {
+        digests: digests_by(order.scope.named, order.origin, start, trace),
+        is_unseen: order.scope.is_unseen,
+        volumes: volumes.len() as u32,
+    };
+    let answered = Answered {
+        calls: (kept.line - FIRST_LINE) as usize,
+        denials: kept.denials,
+    };
+    Told {
+        subject: Subject {
+            config,
+            answered,
+            heading,
+            volumes,
+        },
+        ledger: kept.ledger,
+    }
 }
 
 /// The slot that is named, if the core lacks it.
@@ -249,26 +291,8 @@ impl CustodyAccount {
         core.wipe(rt);
         // (its memory is given back before the text is made)
         let (config, _) = core.into_parts();
-        let trace = trace_digest(entries.as_slice());
-        let volumes = listed(alloc, entries);
-        let heading = Heading {
-            digests: digests_by(order.scope.named, order.origin, start, trace),
-            is_unseen: order.scope.is_unseen,
-            volumes: volumes.len() as u32,
-        };
-        let answered = Answered {
-            calls: (kept.line - FIRST_LINE) as usize,
-            denials: kept.denials,
-        };
-        let told = Told {
-            subject: Subject {
-                config,
-                answered,
-                heading,
-                volumes,
-            },
-            ledger: kept.ledger,
-        };
+        let told = told_of(alloc, config, kept, entries, start, order);
+        let answered = told.subject.answered;
         match give_told(alloc, told, order.scope.vm, out) {
             Ok(()) => Ok(answered),
             Err(fault) => Err(fault),
