@@ -1,6 +1,6 @@
-/* What a call of the C library takes by numbers (kcore_do_by), with what it changed read after it (kcore_changes), and by a line
- * (kcore_call_by), in nanoseconds of the thread's processor time: of each the least of several rounds, which take turns. A
- * line is spelled beforehand, and its reply not read. */
+/* How long a call of the C library takes: by numbers (kcore_do_by), by numbers with what it changed read after it
+ * (kcore_changes), and by a line (kcore_call_by). In nanoseconds of the thread's processor time; for each, the least of
+ * several rounds, which take turns. A line is spelled beforehand, and its reply is not read. */
 #define _POSIX_C_SOURCE 199309L
 #include <kcore.h>
 #include <stdio.h>
@@ -26,7 +26,7 @@ static double now(void) {
     return (double)at.tv_sec * 1e9 + (double)at.tv_nsec;
 }
 
-/* A volume has room for the calls of a round. */
+/* Turns the core over if the volume does not have room for the calls of a round. */
 static void turn(void) {
     kcore_size size;
     done(kcore_sizes(&core, &size), "kcore_sizes");

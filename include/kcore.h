@@ -3,8 +3,8 @@
  *
  * What is said below of each function's status, of *used and of the buffer is proved for a caller that obeys these
  * rules, which nothing checks:
- *  - a pointer and the length after it are bytes of the caller's, or as many changes, and any other pointer is to one
- *    value of its type; nothing else uses them while the call runs, and they and the session do not overlap;
+ *  - a pointer and the length after it are this many bytes, or changes, of the caller's, and any other pointer is to
+ *    one value of its type; nothing else uses them while the call runs, and they and the session do not overlap;
  *  - a session begins as {0}, and then only these functions change it; it is not copied while it is open;
  *  - one thread at a time uses a session, and hands it on by a lock, or by a thread's start or end; no function is called
  *    by a signal handler, or by the forked child of a process with threads;
@@ -29,7 +29,7 @@ enum kcore_status {
     KCORE_DONE = 0,
     KCORE_CLOSED = 1,          /* the session is not open */
     KCORE_ALREADY_OPEN = 2,    /* it is open, and must be ended first */
-    KCORE_MEMORY = 3,          /* memory could not be had */
+    KCORE_MEMORY = 3,          /* there is not enough memory */
     KCORE_NO_ROOM = 4,         /* the buffer is too short */
     KCORE_NO_SUCH_LINE = 5,    /* the trace has fewer lines */
     KCORE_BAD_LINE = 6,        /* the line is not a call */
@@ -47,7 +47,7 @@ enum kcore_status {
     KCORE_TOO_LONG = 18,       /* the text has more than 1,073,741,824 bytes */
     KCORE_NO_STATE_HEADER = 19, /* the text does not begin as a state's does */
     KCORE_BAD_STATE_LINE = 20, /* the line of this number may not be there */
-    KCORE_MISSING_FRAME = 21,  /* in its dump, the line of this frame is due and not there */
+    KCORE_MISSING_FRAME = 21,  /* in its dump, the line of this frame is due and missing */
     KCORE_BAD_SIZES = 22,      /* no configuration has its numbers, or it has other slots or frames */
     KCORE_BAD_DUMP = 23,       /* an audit of its dump finds something */
     KCORE_BAD_SLOT = 24,       /* no core has this slot */
@@ -131,34 +131,35 @@ typedef struct {
 size_t kcore_longest_reply(void);
 size_t kcore_longest_line(void);
 
-/* Opens a closed session, whose core is in the boot state of the configuration that the bytes are (JSON). If it cannot,
- * the session stays closed. */
+/* Opens a closed session, whose core is in the boot state of this configuration (JSON). If it cannot, the session stays
+ * closed. */
 uint32_t kcore_boot(kcore *core, const uint8_t *config, size_t config_length);
 
-/* Opens a closed session, whose core is in the state that the bytes spell, and that was asked nothing yet: the text is
- * what kcore_state or kcore_blank_state gave, or `kcore replay --state` wrote. It is judged as by
- * `kcore replay --from`, and the first fault is reported; then *place is the number of the line, frame or slot that is
- * at fault, or 0, and the session stays closed. */
+/* Opens a closed session, whose core is in the state of this text, and which has answered no call yet: the text is what
+ * kcore_state or kcore_blank_state gave, or `kcore replay --state` wrote. It is judged as by `kcore replay --from`, and
+ * the first fault is reported; then *place is the number of the line, frame or slot that is at fault, or 0, and the
+ * session stays closed. */
 uint32_t kcore_resume(kcore *core, const uint8_t *text, size_t text_length, uint32_t *place);
 
 /* Answers the call on a line, which is given without its newline. The reply's line, with its newline, is the first
- * *used bytes of the buffer, which has room for kcore_longest_reply() bytes; the bytes after them stay. If it does not
- * answer, session and buffer stay as they are, and *used is 0; after KCORE_MEMORY the same line may be asked again. */
+ * *used bytes of the buffer, which has room for kcore_longest_reply() bytes; the bytes after them stay as they are. If
+ * it does not answer, session and buffer stay as they are, and *used is 0; after KCORE_MEMORY the same line may be
+ * asked again. */
 uint32_t kcore_call(kcore *core, const uint8_t *line, size_t line_length, uint8_t *out, size_t out_length,
                     size_t *used);
 
 /* Answers as kcore_call does if the line's call is by the one that asks: virtual processor vcpu of slot vm, or the host
  * if vm is KCORE_NONE, whatever vcpu is. If it is by another, the status is KCORE_NOT_YOURS and nothing has changed: so
- * no line that the host sends makes a guest's call, if the caller says truly who asks. kcore_call is for recorded
- * traces and consoles, which have the calls of all. */
+ * no line that the host sends makes a guest's call, if the caller is truthful about who asks. kcore_call is for
+ * recorded traces and consoles, which have the calls of all. */
 uint32_t kcore_call_by(kcore *core, uint32_t vm, uint32_t vcpu, const uint8_t *line, size_t line_length, uint8_t *out,
                        size_t out_length, size_t *used);
 
 /* Makes a call that is given by numbers, and for KCORE_HWRITE and KCORE_GWRITE by its 1 to 4,096 bytes, which no other
  * call reads. The trace has its line, as if kcore_call had been asked. The reply is *answer, and its bytes are the
- * first *used of the buffer, which has room for 4,096; the bytes after them stay. If it does not answer, session,
- * buffer and *answer stay as they are, and *used is 0. Who asks is not checked: this is for replays and tests, as
- * kcore_call is. */
+ * first *used of the buffer, which has room for 4,096; the bytes after them stay as they are. If it does not answer,
+ * session, buffer and *answer stay as they are, and *used is 0. Who asks is not checked: this is for replays and tests,
+ * as kcore_call is. */
 uint32_t kcore_do(kcore *core, const kcore_request *request, const uint8_t *bytes, size_t bytes_length, uint8_t *out,
                   size_t out_length, size_t *used, kcore_answer *answer);
 
@@ -167,12 +168,13 @@ uint32_t kcore_do_by(kcore *core, uint32_t vm, uint32_t vcpu, const kcore_reques
                      size_t bytes_length, uint8_t *out, size_t out_length, size_t *used, kcore_answer *answer);
 
 /* Reports what the last call that was answered changed in the custody of frames: one change, by its place from 0, in
- * rising order of frames. Those from 0 to KCORE_NO_SUCH_CHANGE are all of them; a refused call has none. They stay
- * until the next call is answered, even after kcore_turn. If there is no such change, *change stays. */
+ * rising order of frames. Those from 0 to KCORE_NO_SUCH_CHANGE are all of them; a refused call has none. They are kept
+ * until the next call is answered, even after kcore_turn. If there is no such change, *change stays as it is. */
 uint32_t kcore_change(kcore *core, size_t number, kcore_frame_change *change);
 
-/* Reports all of them, in the first *count places of a buffer of this many changes; the places after them stay. If
- * there is not enough room, the status is KCORE_NO_ROOM, the buffer stays, and *count is how many there are. */
+/* Reports all of them, in the first *count places of a buffer of this many changes; the places after them stay as they
+ * are. If there is not enough room, the status is KCORE_NO_ROOM, the buffer stays as it is, and *count is how many
+ * there are. */
 uint32_t kcore_changes(kcore *core, kcore_frame_change *changes, size_t changes_length, size_t *count);
 
 /* Report the custody of a frame; the frame at a guest frame of a slot; the first frame, from a number on, that has this
@@ -183,33 +185,33 @@ uint32_t kcore_next(kcore *core, uint32_t owner, uint32_t vm, uint32_t from, uin
 uint32_t kcore_sizes(kcore *core, kcore_size *size);
 
 /* Gives a line of the volume's trace, by its place from 0, with its newline: the header, then a line for each call that
- * was answered. The lines from 0 to KCORE_NO_SUCH_LINE, one after the other, are the trace. The bytes after the first
- * *used stay; if no line is given, *used is 0. */
+ * was answered. The lines from 0 to KCORE_NO_SUCH_LINE, one after another, are the trace. The bytes after the first
+ * *used stay as they are; if no line is given, *used is 0. */
 uint32_t kcore_line(kcore *core, size_t number, uint8_t *out, size_t out_length, size_t *used);
 
 /* Does what kcore_line does, with zeros in place of the bytes that virtual processors wrote: what may be written to a
- * disk, or shown. The lines from 0 to KCORE_NO_SUCH_LINE, one after the other, are the volume's redacted trace, which
- * is what `kcore redact` makes of its trace. */
+ * disk, or shown. The lines from 0 to KCORE_NO_SUCH_LINE, one after another, are the volume's redacted trace, which is
+ * what `kcore redact` makes of its trace. */
 uint32_t kcore_redacted_line(kcore *core, size_t number, uint8_t *out, size_t out_length, size_t *used);
 
 /* Gives the SHA-256 digest of the volume's redacted trace so far, 32 bytes: what sha256sum prints for its lines. The
  * calls since it was last asked for are hashed now, and a session that is not asked pays nothing. The bytes after the
- * first *used stay; if no digest is given, *used is 0. No memory is taken. */
+ * first *used stay as they are; if no digest is given, *used is 0. No memory is taken. */
 uint32_t kcore_digest(kcore *core, uint8_t *out, size_t out_length, size_t *used);
 
 /* Gives the text of the core's state, which is what `kcore replay --state` writes after the calls so far; and the same
  * with zero pages in place of those of active VMs, as `--state --blank` writes it. For F frames it has at most 8,600 F
- * + 600,000 bytes; the buffer may be a file that is mapped. The bytes after the first *used stay; if no text is given,
- * *used is 0. */
+ * + 600,000 bytes; the buffer may be a mapped file. The bytes after the first *used stay as they are; if no text is
+ * given, *used is 0. */
 uint32_t kcore_state(kcore *core, uint8_t *out, size_t out_length, size_t *used);
 uint32_t kcore_blank_state(kcore *core, uint8_t *out, size_t out_length, size_t *used);
 
 /* Gives the SHA-256 digest of the text that kcore_blank_state gives, 32 bytes: what sha256sum prints for it. The bytes
- * after the first *used stay; if no digest is given, *used is 0. */
+ * after the first *used stay as they are; if no digest is given, *used is 0. */
 uint32_t kcore_blank_digest(kcore *core, uint8_t *out, size_t out_length, size_t *used);
 
 /* Gives the dump of the core, as `kcore replay --dump` writes it: for F frames at most 320 F + 200,000 bytes. The bytes
- * after the first *used stay; if no dump is given, *used is 0. */
+ * after the first *used stay as they are; if no dump is given, *used is 0. */
 uint32_t kcore_dump(kcore *core, uint8_t *out, size_t out_length, size_t *used);
 
 /* Begins the next volume, with the core as it is: calls and lines from then on are those of the next volume, and those

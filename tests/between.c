@@ -1,5 +1,5 @@
-/* Stands between the program and the C library: counts what the program asks for, refuses, fails, interrupts, shortens or
- * holds up what the environment says, and when the program ends looks for a secret in its memory. */
+/* Comes between the program and the C library: counts what the program asks for, refuses, fails, interrupts, shortens
+ * or holds up what the environment says, and looks for a secret in the program's memory when it ends. */
 #define _GNU_SOURCE
 #include <dlfcn.h>
 #include <errno.h>
@@ -33,7 +33,7 @@ enum { EACH(ITSELF) COUNT };
 static const char *const names[] = {EACH(WORD)};
 static int numbers[COUNT];
 
-/* The number that it gives, 0 for none. It is looked at once, as soon as it is there. */
+/* The number that the environment gives, 0 for none. It is looked at once, as soon as it is there. */
 static int asked(int which) {
     static atomic_int is_known;
     if (!is_known && environ) {
@@ -43,7 +43,7 @@ static int asked(int which) {
     return numbers[which];
 }
 
-/* Holds a growth up until the other threads have had a hundred. If they have none, this thread has what they wait for. */
+/* Holds up a growth until other threads have had a hundred. If they cannot, this thread has what they wait for. */
 static void hold_up(void) {
     int others = growths - own;
     for (int turn = 0; growths - own < others + 100; turn++) {
@@ -55,8 +55,8 @@ static void hold_up(void) {
     }
 }
 
-/* The first growth to the size that MARK_SIZE asks for keeps how many bytes have been read, and how often the clock has.
- * Under HOLD_UP each growth of a thread that was started is held up. */
+/* The first growth to the size that MARK_SIZE asks for keeps how many bytes have been read, and how many times the
+ * clock. Under HOLD_UP, each growth of a thread that was started is held up. */
 static int is_refused(size_t size) {
     int none = 0;
     if (size == (size_t)asked(MARK_SIZE) && atomic_compare_exchange_strong(&marked, &none, bytes)) told = ticks;
@@ -66,7 +66,7 @@ static int is_refused(size_t size) {
     return number == asked(REFUSE_GROWTH);
 }
 
-/* How often one text is found between two places with another after it. */
+/* How often one text, with another right after it, is found between two places. */
 static int pairs(char *from, char *end, const char *front, const char *back) {
     int count = 0;
     while ((from = memmem(from, end - from, front, strlen(front)))) {
@@ -76,12 +76,12 @@ static int pairs(char *from, char *end, const char *front, const char *back) {
     return count;
 }
 
-/* A text in digits, as a state's text has the bytes of a page. */
+/* Writes a text in digits, as a state's text has the bytes of a page. */
 static void digits(const char *text, char *to) {
     for (size_t at = 0; text[at]; at++) sprintf(to + 2 * at, "%02x", (unsigned char)text[at]);
 }
 
-/* The two halves of the secret, if there is one, and in digits. */
+/* The two halves of the secret, if there is one, as they are and in digits. */
 static const char *front, *back;
 static char front_digits[128], back_digits[128];
 
@@ -93,9 +93,9 @@ static void know_secret(void) {
     front = getenv("SECRET_FRONT");
 }
 
-/* If COPIES is the number of a socket, the program is not run itself. For each message that comes there, a copy of it is,
- * which takes less time than a start, and how that ended is the answer. The message is what else is disturbed in the copy:
- * a name that the environment may give a number to, and the number. */
+/* If COPIES is the number of a socket, the program itself is not run. For each message that comes there, a copy of it
+ * is run, which takes less time than a start, and how the copy ended is the answer. The message is what else is
+ * disturbed in the copy: a name that the environment may give a number to, and the number. */
 static void make_copies(void) {
     char message[64], name[32];
     int number, status;
@@ -124,9 +124,9 @@ __attribute__((constructor)) static void begin(void) {
     make_copies();
 }
 
-/* How often the secret is found between two places, as it is or in digits. Where no call writes both of its halves, they
- * come so in pages and in the texts of states alone. Where one does, the trace's text has them in digits, which are passed
- * over then. */
+/* How often the secret is found between two places, as it is or in digits. If no call writes both of its halves, they
+ * are together only in pages and in the texts of states. If one does, the trace's text has them in digits, and digits
+ * are passed over (PASS_DIGITS). */
 static int found(char *from, char *end) {
     if (!front || from == end) return 0;
     int of_digits = asked(PASS_DIGITS) ? 0 : pairs(from, end, front_digits, back_digits);
@@ -135,8 +135,8 @@ static int found(char *from, char *end) {
 
 static int found_in(char *block) { return block ? found(block, block + malloc_usable_size(block)) : 0; }
 
-/* The same in memory with no file behind it, of which pagemap says with two bits of each page whether it is there or swapped
- * out. A page that is neither was never written to, so that all of it is zero, which no part of the secret is. */
+/* The same in memory that is not a file's. Two bits for each page in pagemap say whether it is there or swapped out. A
+ * page that is neither was never written to, so that all of it is zero, which no part of the secret is. */
 static int found_in_pages(char *from, char *end, int pagemap) {
     uint64_t entries[512];
     int count = 0;
@@ -154,7 +154,7 @@ static int found_in_pages(char *from, char *end, int pagemap) {
     return count + found(begun, end);
 }
 
-/* How often it is in memory. */
+/* How often the secret is in memory. */
 static int secrets(void) {
     static char maps[65536];
     int count = 0, file = front ? open("/proc/self/maps", O_RDONLY) : -1, pagemap = open("/proc/self/pagemap", O_RDONLY);
@@ -175,7 +175,7 @@ static int secrets(void) {
     return count;
 }
 
-/* The program ends here: how many of each there were is written down for the runs to come. */
+/* The program ends here: the counts are written to a file, for the runs to come. */
 void _exit(int status) {
     const char *path = getenv("TELL_COUNTS");
     char line[128];
@@ -204,13 +204,13 @@ void *realloc(void *old, size_t size) {
     return block;
 }
 
-/* What is given back with the secret in it is left too, wherever the C library puts it. */
+/* Memory that is given back with the secret in it counts as left, wherever the C library puts it. */
 void free(void *block) {
     spilled += found_in(block);
     __libc_free(block);
 }
 
-/* How many bytes may pass where so many are asked for: one in a call that is to be short, else at most so many. */
+/* How many of the bytes that are asked for may pass: one in a call that is to be short, else up to `most`. */
 static size_t passing(size_t size, int is_short, int most) {
     if (is_short) most = 1;
     return most > 0 && size > (size_t)most ? (size_t)most : size;
@@ -222,7 +222,7 @@ ssize_t read(int end, void *to, size_t size) {
     if (number == asked(INTERRUPT_READ)) { errno = EINTR; return -1; }
     ssize_t count = syscall(SYS_read, end, to, passing(size, number == asked(SHORT_READ), asked(MOST_READ)));
     if (count > 0) atomic_fetch_add(&bytes, count);
-    // (a look at all memory takes time: at the end of a text only if it is asked what was read before a growth)
+    // (a look at all memory takes time: it is taken only at the end of a text, and if MARK_SIZE is asked for)
     if (count == 0 && asked(MARK_SIZE)) held = secrets();
     return count;
 }
@@ -234,11 +234,11 @@ int clock_gettime(clockid_t clock, struct timespec *time) {
 
 typedef int creation(pthread_t *, const pthread_attr_t *, void *(*)(void *), void *);
 
-/* What the threads do that were started, by their numbers. */
+/* What the threads that were started do, by their numbers. */
 static struct start { void *(*job)(void *), *given; } started[64];
 static atomic_int ended;
 
-/* The thread that HOLD_START asks for begins once another has ended; it waits for ten seconds at most. */
+/* The thread that HOLD_START asks for begins after another has ended; it waits for ten seconds at most. */
 static void *begin_thread(void *given) {
     struct start *it = given;
     if (it == started + asked(HOLD_START))
@@ -258,7 +258,7 @@ int pthread_create(pthread_t *thread, const pthread_attr_t *attributes, void *(*
     return ((creation *)dlsym(RTLD_NEXT, "pthread_create"))(thread, attributes, job, given);
 }
 
-/* Standard error is let through, since what comes there is looked at. */
+/* Standard error is passed on as it is, since what comes there is looked at. */
 ssize_t write(int end, const void *from, size_t size) {
     if (end == 2) return syscall(SYS_write, end, from, size);
     int number = atomic_fetch_add(&writes, 1) + 1;

@@ -1,4 +1,4 @@
-"""A headless Chromium, asked through a pipe by its DevTools protocol."""
+"""A headless Chromium, driven through a pipe by its DevTools protocol."""
 import base64
 import json
 import os
@@ -12,12 +12,12 @@ CODES |= {"ArrowLeft": 37, "ArrowUp": 38, "ArrowRight": 39, "ArrowDown": 40}
 
 
 class Browser:
-    """One that has one page open. What it needs is in a folder of its own, which goes with it."""
+    """A Chromium with one page open. Its files are in a folder of its own, which is removed when it ends."""
 
     def __init__(self, width=1400, height=1000):
         self.folder = tempfile.TemporaryDirectory()
         (asked, self.to), (self.back, given) = os.pipe(), os.pipe()
-        # Chromium reads from descriptor 3 and writes to descriptor 4, which bash opens so, wherever they were.
+        # Chromium reads from descriptor 3 and writes to descriptor 4: bash gives the ends of the pipes these numbers.
         shell = f'exec {COMMAND} "$@" 3<&{asked} 4>&{given}'
         options = ["--headless", "--no-sandbox", "--disable-gpu", "--hide-scrollbars", "--remote-debugging-pipe"]
         options += [f"--window-size={width},{height}", f"--user-data-dir={self.folder.name}", "about:blank"]
@@ -37,12 +37,12 @@ class Browser:
     def __exit__(self, *_):
         self.process.terminate()
         self.process.wait()
-        # (it may still write what nobody reads any more)
+        # (it may still be writing files that nobody reads any more)
         shutil.rmtree(self.folder.name, ignore_errors=True)
         self.folder.cleanup()
 
     def next(self):
-        """The next thing that it says."""
+        """The next message from it."""
         while b"\0" not in self.had:
             some = os.read(self.back, 1 << 20)
             if not some:
@@ -52,7 +52,7 @@ class Browser:
         return json.loads(said)
 
     def ask(self, method, **given):
-        """Has it do something, and returns what that comes to; what else it says meanwhile is an event."""
+        """Has it do something, and returns the result. Other messages that come meanwhile are events."""
         self.count += 1
         asked = {"id": self.count, "method": method, "params": given}
         asked |= {"sessionId": self.session} if self.session else {}
@@ -64,18 +64,18 @@ class Browser:
         return said["result"]
 
     def open(self, path):
-        """Opens a file, and waits until it was loaded. The events are those since then."""
+        """Opens a file, and waits until it is loaded. Earlier events are dropped."""
         self.events.clear()
         self.ask("Page.navigate", url=f"file://{path}")
         while not any(it["method"] == "Page.loadEventFired" for it in self.events):
             self.events.append(self.next())
 
     def happened(self, method):
-        """What the events of this name say."""
+        """The parameters of the events of this name."""
         return [it["params"] for it in self.events if it.get("method") == method]
 
     def value(self, expression):
-        """What an expression of JavaScript comes to in the page."""
+        """The value of a JavaScript expression in the page."""
         said = self.ask("Runtime.evaluate", expression=expression, returnByValue=True, awaitPromise=True)
         if "exceptionDetails" in said:
             raise OSError(f"{expression[:80]}: {said['exceptionDetails']}")
@@ -91,16 +91,16 @@ class Browser:
             self.ask("Input.dispatchKeyEvent", type="keyUp", **known)
 
     def point(self, x, y, kind="mouseMoved", **more):
-        """Moves the mouse to a point of the window, or has it do more there."""
+        """Moves the mouse to a point of the window, or has it do something else there."""
         self.ask("Input.dispatchMouseEvent", type=kind, x=x, y=y, **more)
 
     def shot(self, path):
-        """Writes what is seen as a picture, PNG."""
+        """Writes a screenshot, as PNG."""
         path.write_bytes(base64.b64decode(self.ask("Page.captureScreenshot", format="png")["data"]))
 
     def seconds(self):
-        """The seconds of a processor that the processes of its pages have taken."""
+        """The processor seconds that the processes of its pages have taken."""
         session, self.session = self.session, None
-        told = self.ask("SystemInfo.getProcessInfo")["processInfo"]
+        processes = self.ask("SystemInfo.getProcessInfo")["processInfo"]
         self.session = session
-        return sum(it["cpuTime"] for it in told if it["type"] == "renderer")
+        return sum(it["cpuTime"] for it in processes if it["type"] == "renderer")

@@ -35,7 +35,7 @@ WITH_DATA = tuple(name for name, words in WORDS.items() if "data" in words)
 
 
 def lines(without=(), **words):
-    """A line of each call of the first version, but of those without which it is asked for."""
+    """A line of each call of the first version, except those named in `without`."""
     return [form.format(**words) for form in FORMS if form.split(" ")[0] not in without]
 
 
@@ -45,24 +45,24 @@ def range_lines(*counts, **words):
 
 
 def place_of(name, letter):
-    """Which word of a call, its name the first, has this letter; none where no word has."""
+    """The place in a call's line, its name at 0, of the word with this letter; None if there is none."""
     return WORDS[name].index(letter) + 1 if letter in WORDS[name] else None
 
 
 def actor_of(line):
-    """The slot and the virtual processor that make a call, as they are written; nobody where the host does."""
+    """The slot and the virtual processor that make a call, as they are written; nothing if the host makes it."""
     name, *words = line.split(" ")
     return tuple(words[:2]) if name in GUESTS else ()
 
 
 def blanked(line):
-    """The call with zeros in the place of its bytes, as many as they are."""
+    """The call with each digit of its bytes replaced by a zero."""
     rest, _, data = line.rpartition(" ")
     return f"{rest} {'0' * len(data)}"
 
 
 def redacted(line):
-    """The call with zeros in the place of the bytes that a virtual processor writes."""
+    """The call with zeros in place of the bytes that a virtual processor writes."""
     return blanked(line) if line.startswith("gwrite ") else line
 
 

@@ -1,7 +1,7 @@
-"""Chains for tests/fuzz: a trace that is cut at any places, whose pieces custody reads one after another in one run.
+"""Chains for tests/fuzz: a trace is cut at random places, and custody reads the pieces one after another in one run.
 
-What is reported has to be what the rules say of the whole trace, with the volumes named; the picture has to be that of the
-whole trace but for its foot; and a volume that is damaged is refused by its number, for what is wrong with it."""
+Its report has to be what the rules say of the whole trace, with the volumes named. The picture has to be that of the
+whole trace, except for its foot. A damaged volume has to be refused by its number, for what is wrong with it."""
 import hashlib
 import random
 import re
@@ -11,21 +11,21 @@ from common import run
 from rules import REMARKS, VERSION, Core, Lives, denied_in, noted, rows_of_volumes, warning_of
 from states import state_text
 
-# Into how many volumes a trace is cut at most.
+# The most volumes that a trace is cut into.
 MOST = 5
 FORMS = [], ["--refused"], ["--accesses"], list(REMARKS), ["--summary"], ["--html"]
-# In how many of these each trace is reported.
+# How many of these forms are tried on each trace.
 TRIED = 3
-# The text of the state of a core with more frames takes long to be made.
+# If a core has more frames, the text of its state takes long to make.
 LARGE = 1024
 PAGE = re.compile(r'^\{"custody".*^\{"calls".*?\n', re.M | re.S)
-# What is no call, even after the second header.
+# What is not a call, even under the second header.
 WRONG = "", "nonsense", "hfault", "hfault 01", "take ", "give -1"
 FOOT = re.compile(r"<text [^>]*>([^<]*)</text>\n</svg>\n$")
 
 
 class Chain:
-    """Volumes with all that custody says of them, from boot or from the state that some calls leave."""
+    """Volumes, from boot or from the state that some calls leave, with all that custody reports of them."""
 
     def __init__(self, rng, program, lines, told, remarks):
         config, self.core = program.config, Core(program.config)
@@ -49,7 +49,7 @@ class Chain:
         self.lives, self.warning = lives.told(), warning_of(answers)
         places = sorted(rng.randrange(len(self.lines) + 1) for _ in range(rng.randrange(MOST)))
         self.volumes = [self.lines[at:to] for at, to in zip([0, *places], [*places, len(self.lines)])]
-        # (either header does for calls that both have)
+        # (calls that both versions have may come under either header)
         self.texts = [calls.trace_of(it, rng.choice([None, True])) for it in self.volumes]
         self.paths = [self.file(f"volume.{number}", text) for number, text in enumerate(self.texts, 1)]
 
@@ -65,14 +65,14 @@ class Chain:
         return run(["custody", *self.start, *words, *files], self.paths[0].read_text() if is_given else "")
 
     def some(self, rng, vms, form=()):
-        """Some options: whether texts are named, whether accesses are unseen, and whose VM's lines alone are asked for."""
+        """Random options: whether texts are named, whether accesses are unseen, and the one VM to report on, if any."""
         is_named, is_unseen = rng.random() < 0.4, REMARKS[1] not in form and rng.random() < 0.3
         vm = rng.choice(vms) if rng.random() < 0.3 else None
         options = ["--digests"] * is_named + ["--unseen"] * is_unseen + ([] if vm is None else ["--vm", str(vm)])
         return is_named, is_unseen, vm, options
 
     def named(self):
-        """What the first line says of the texts that were read: a trace in volumes is named on their lines."""
+        """What the first line says of the texts that were read; of several volumes, their own lines say it."""
         trace = {"trace": digest(self.texts[0])} if len(self.texts) == 1 else {}
         config = {"config": hashlib.sha256(self.path.read_bytes()).hexdigest(), "state": None}
         return trace | (config if self.state is None else {"config": None, "state": digest(self.state)})
@@ -108,7 +108,8 @@ class Chain:
         return foot + ", accesses unseen" * is_unseen
 
     def picture_differs(self, rng, vm):
-        """What differs in the picture of several volumes from that of the whole trace but for its foot, or None."""
+        """What differs between the picture of several volumes, except its foot, and that of the whole trace; or what
+        its foot is, if it is wrong; or None."""
         if len(self.volumes) == 1:
             return None
         is_named, is_unseen, _, options = self.some(rng, [vm % len(self.core.slots)])
@@ -121,7 +122,7 @@ class Chain:
         return None if feet[1][1] == self.foot(is_named, is_unseen) else f"the picture's foot is {feet[1][1]}"
 
     def fault_differs(self, rng, _):
-        """What differs if one of the volumes is damaged or not there, or None."""
+        """What differs if one of the volumes is damaged or missing, or None."""
         at, way = rng.randrange(len(self.volumes)), rng.choice(["line", "line", "header", "end", "file"])
         lines, text = self.volumes[at], self.texts[at]
         if way == "line":
@@ -148,7 +149,7 @@ def digest(text):
 
 
 def difference(case, program, told, remarks):
-    """What differs in a trace, of which custody tells this, that is read in volumes, or None."""
+    """What differs if a trace with this custody is read in volumes, or None."""
     config, lines = case
     rng = random.Random(f"{config['cut_by']} chain")
     chain = Chain(rng, program, lines, told, remarks)

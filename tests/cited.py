@@ -10,7 +10,7 @@ NAME = re.compile(r"[A-Za-z_]\w*(?:::[A-Za-z_]\w*)*\Z")
 BODY = re.compile(r"(kc\w+)/(\w+)\Z")
 GLUE = re.compile(r"[\s,)]*(?:\b(?:and|or|to)\b)?[\s,(]*\Z")
 KIND = re.compile(r"\b(clause|field)s?:? \Z")
-# What the language has, and no crate.
+# Names of the language, which no crate defines.
 LANGUAGE = {"Drop", "Send", "Sync", "None", "Some", "Ok", "Err", "Display"}
 
 
@@ -29,15 +29,15 @@ def bodies_of(tree, crate):
 
 
 class Contracts:
-    """Reads the cells that say which contract carries a promise, one after another. The crate of one cell, and by 'the
-    same' its functions, carry over to the next where that names none."""
+    """Reads the cells that say which contract carries a promise, one after another. The crate of one cell, and with
+    'the same' its functions, carry over to the next if that names none."""
 
     def __init__(self, tree):
         self.tree, self.crate, self.functions = tree, None, []
         self.records, self.kind, self.outer, self.is_begun = [], "name", "name", False
 
     def read(self, cell):
-        """Each name that the cell cites, with what is wrong about it: '' where it exists."""
+        """Each name that the cell cites, with what is wrong about it: '' if it exists."""
         parts = QUOTED.split(cell)
         names = parts[1::2]
         self.kind, self.is_begun = "name", False
@@ -48,11 +48,11 @@ class Contracts:
             yield name, self.fault_of(name)
 
     def fields_of(self, record):
-        """The fields of a definition, in whatever crate."""
+        """The fields of a definition, whichever crate it is in."""
         return set().union(*(self.tree.code(crate).defined.get(record, ()) for crate in self.tree.crates))
 
     def go_over(self, text):
-        """What stands before a name says what it is the name of."""
+        """Reads the text before a name, which says what kind of name it is."""
         if named := KIND.search(text):
             self.kind = named[1]
         elif "(" in text.rpartition(")")[2]:
@@ -80,7 +80,7 @@ class Contracts:
 
     def fault_of_clause(self, name):
         self.is_begun = False
-        # Functions of one name may be those of several types.
+        # Several types may have a function of this name.
         lacking = [same[0].name for same in self.functions if all(name not in one.clauses for one in same)]
         if self.functions and not lacking:
             return ""
@@ -110,7 +110,7 @@ class Contracts:
 
 # Paths and names that any document may cite.
 ENDINGS = (".rt", ".antt", ".md", ".edits", ".c", ".h", ".svg", ".py", ".txt", ".bash", ".zsh", ".fish", ".1", ".stdout", ".args")
-# What is built, installed, somebody's own or a stand-in for a name.
+# What is built, installed, somebody's own, or a placeholder for a name.
 ELSEWHERE = re.compile(r"[/~]|(share|lib|libexec|out)/|https?:|(.*/)?(FILE|FOLDER|FUNCTION|LIST|NAME|PREFIX)\b")
 PATH = re.compile(r"[\w.][\w./-]*\Z")
 IDENTIFIER = re.compile(r"\w*(?:[a-z]_[a-z]|[a-z][A-Z]|[A-Z]{2,}[a-z]|[A-Z][a-z])\w*\Z")
@@ -127,16 +127,16 @@ def is_path(name):
 
 
 class Paths:
-    """Finds the files that a document cites. One that is not named from the top, nor from crates/, is in the folder of
-    a file that its paragraph named before, or in the crate that it did; or no other file has its name. The head of a
-    source begins in its crate."""
+    """Finds the files that a document cites. A path that begins neither at the top nor in crates/ is looked for beside
+    the document, beside files that the paragraph cited before, and in the crate that it named; or it is the name of one
+    file only. The head of a source begins in its crate."""
 
     def __init__(self, tree, document):
         self.tree, self.folder = tree, str(pathlib.PurePath(document).parent)
         self.crate = document.split("/")[1] if document.startswith("crates/") else None
 
     def read(self, paragraph):
-        """Each path that a paragraph cites, and whether there is one."""
+        """Each path that a paragraph cites, and whether it exists."""
         beside, crate = [], self.crate
         for name in QUOTED.findall(paragraph) + LINK.findall(paragraph):
             if name in self.tree.crates:
@@ -176,7 +176,7 @@ def paragraphs_of(text):
 
 
 def words_of_code(tree):
-    """Every word of the code: sources without their heads, definitions, proofs and scripts, but for those that make
+    """Every word of the code: sources without their heads, definitions, proofs and scripts, except the one with the
     mistakes."""
     folders = "crates", "tests", "bench", "bin", "fleet", "include", "completions", "stories"
     files = [file for folder in folders for file in tree.below(folder) if file != "tests/mistakes.py"]
@@ -192,6 +192,6 @@ def identifiers_of(paragraph):
 
 
 def headings_in(tree, paragraph):
-    """The headings of documents that a paragraph names, and whether they have them."""
+    """The headings that a paragraph cites, and whether the documents have them."""
     for document, name in HEADING.findall(paragraph):
         yield name, tree.has(document) and re.search(rf"^#+ \[?{re.escape(name)}\]?$", tree.text(document), re.M)

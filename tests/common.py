@@ -11,19 +11,19 @@ import tempfile
 
 TOP = pathlib.Path(__file__).resolve().parent.parent
 WORK = TOP / "bench" / "work"
-# Found from anywhere: the folder of a link is not the script's, and CDPATH has no say.
+# By its full path: the folder of a link is not the script's, and CDPATH does not matter.
 PROGRAM = os.environ.get("KCORE") or subprocess.check_output([TOP / "bin" / "program"], text=True).strip()
 PLANNER = os.environ.get("PLAN_LISTER") or str(TOP / "crates" / "plan_lister" / "out" / "plan_lister")
 HAS_PLANNER = os.access(PLANNER, os.X_OK)
-# Large pages, as bin/kcore asks for them, which only cost or save time.
+# Large pages, as bin/kcore asks for them; they only cost or save time.
 LARGE_PAGES = {"GLIBC_TUNABLES": "glibc.malloc.hugetlb=1"}
 ENVIRONMENT = os.environ | LARGE_PAGES
-# Files that are written again and again are in memory, if it has so many bytes for them: a disk is waited for.
+# Files that are written again and again are in memory if it has this many bytes free: a disk makes the tests wait.
 MEMORY, LEAST_ROOM = "/dev/shm", 2 ** 31
 
 
 def status_of(process, seconds):
-    """The status that a process ends with; if it takes more than so many seconds, if that is a number, it is killed."""
+    """The status that a process ends with. If a number of seconds is given and it takes longer, it is killed."""
     is_in_time = True
     if seconds is not None:
         ended = os.pidfd_open(process)
@@ -38,9 +38,9 @@ def status_of(process, seconds):
 
 
 def spawned(words, given, environment, passed=(), seconds=None):
-    """Runs a command whose standard input is an open file, with some of our open files, and perhaps for at most so many
-    seconds: its status, what it wrote, and its standard error, in bytes. Both go to memory, so that nobody has to read
-    while it runs."""
+    """Runs a command with an open file as its standard input and these open files passed on; it may be given a number
+    of seconds to end in. Returns its status, what it wrote, and its standard error, in bytes. Both go to memory, so
+    nobody has to read while it runs."""
     ends = [os.memfd_create(name) for name in ("out", "err")]
     try:
         actions = [(os.POSIX_SPAWN_DUP2, end, to) for to, end in enumerate([given, *ends])]
@@ -55,11 +55,11 @@ def spawned(words, given, environment, passed=(), seconds=None):
 
 
 def run(words, text, program=PROGRAM):
-    """Runs the program on a text, which comes by a pipe: its status, what it wrote, and its standard error."""
+    """Runs the program on a text, through a pipe. Returns its status, what it wrote, and its standard error."""
     given, words = text.encode(), [program, *map(str, words)]
     reads, writes = os.pipe()
     with open(reads, "rb", buffering=0) as pipe, open(writes, "wb", buffering=0) as end:
-        # (it is full before anybody reads it, if it takes all)
+        # (a text that fits into the pipe is written before anybody reads it)
         if len(given) <= fcntl.fcntl(end, fcntl.F_GETPIPE_SZ):
             end.write(given)
             end.close()
@@ -70,7 +70,7 @@ def run(words, text, program=PROGRAM):
 
 
 def scratch(name, otherwise=None):
-    """A folder for files, which go with it: in memory, or else in this other folder, or where such folders are."""
+    """A temporary folder: in memory if there is room, else in this other folder, or where temporary folders are."""
     is_roomy = os.access(MEMORY, os.W_OK) and shutil.disk_usage(MEMORY).free >= LEAST_ROOM
     return tempfile.TemporaryDirectory(prefix=f"kcore-{name}-", dir=MEMORY if is_roomy else otherwise)
 
@@ -82,7 +82,7 @@ class Results:
         self.passed, self.failed, self.shows_all = 0, 0, shows_all
 
     def count(self, is_well, said, more=""):
-        """One check: its name, and what is seen where it fails."""
+        """Counts a check: its name, and what is also printed if it fails."""
         self.passed += bool(is_well)
         self.failed += not is_well
         if not is_well:

@@ -1,9 +1,9 @@
 # shellcheck shell=bash
-# Read by the scripts of tests/ that are in bash: how results are counted and printed.
+# Sourced by the bash scripts of tests/: how results are counted and printed.
 passed=0
 failed=0
 
-# count STATUS NAME [MORE]: one check, by a status; one that fails is printed, with what was seen.
+# count STATUS NAME [MORE]: counts a check by a status. One that fails is printed, with MORE.
 count() {
     if [ "$1" -eq 0 ]; then
         passed=$((passed + 1))
@@ -13,10 +13,10 @@ count() {
     fi
 }
 
-# not_tried WHAT WHY: what this machine cannot try.
+# not_tried WHAT WHY: reports what this machine cannot try.
 not_tried() { echo "not tried: $1: $2"; }
 
-# ends: the last line, which bin/test reads, and the end of the script.
+# ends: prints the last line, which bin/test reads, and ends the script.
 ends() {
     echo "$passed passed, $failed failed"
     [ "$failed" -eq 0 ]

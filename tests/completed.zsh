@@ -1,5 +1,5 @@
 # Prints what zsh offers for the last word of a line, sorted. An interactive zsh on a terminal of its own reads this file
-# too, and offers it.
+# too, and makes the offers.
 #
 # usage: zsh -f completed.zsh FOLDER LINE   FOLDER has the file _kcore
 if [[ -o interactive ]]; then

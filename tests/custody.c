@@ -43,7 +43,7 @@ static kcore_request numbers_of(const char *line) {
     return request;
 }
 
-/* The line of a reply, but of a refusal nothing, since its number is no name. */
+/* The line of a reply; for a refusal nothing, since its number is not a name. */
 static const char *line_of(kcore_answer answer, const uint8_t *bytes, size_t used) {
     static char line[2 * PAGE + 8];
     static const char *const forms[] = {"done\n", "frame %u\n", "image %u\n", "data ", "fault %u\n", "rejected %u\n", ""};
@@ -77,7 +77,7 @@ static void ask_other(uint32_t vm, uint32_t vcpu, const char *line, const char *
 
 /* ---- the shadow */
 
-/* Follows the changes of the last call, one by one and all at once: how many they are. */
+/* Follows the changes of the last call, one by one and all at once. Returns how many there are. */
 static size_t follow(void) {
     static kcore_frame_change all[MOST_CHANGES + 1];
     kcore_frame_change change;
@@ -221,7 +221,7 @@ static void compare_both(void) {
         HOLDS(!kcore_record_of(&core, frame, &a) && !kcore_record_of(&other, frame, &b) && same(&a, &b));
 }
 
-/* Bytes go through, those after the reply's stay, and what is no call is none. */
+/* Bytes go through, those after the reply's stay as they were, and what is not a call is not made. */
 static void pass_bytes(void) {
     uint8_t given[PAGE + 1], out[PAGE];
     kcore_request request = {KCORE_HWRITE, {0}};

@@ -1,6 +1,7 @@
-/* Asks a session the calls of a trace, which comes on standard input with its header. Prints the digest of the redacted trace
- * before the first call, after each one and in the next volume, each as 64 digits in a line. Its redacted lines go to the
- * file that a word names. With a second word no digest is asked before the last call. */
+/* Makes the calls of a trace, which comes on standard input with its header, in a session. Prints the digest of the
+ * redacted trace before the first call, after each one and in the next volume, each as a line of 64 digits. The
+ * redacted lines go to the file that the first argument names. With a second argument, no digest is asked for before
+ * all calls are made. */
 #include <kcore.h>
 #include <stdio.h>
 #include <stdlib.h>

@@ -1,6 +1,6 @@
-"""Redacts the trace on standard input by the rule: under the header of the second version, with zeros in the place of the
-bytes of each gwrite. Writes the redacted trace to the file that is named, and prints what digests.c is to print: the SHA-256
-of it so far, before the first call, after each one, and of the header alone.
+"""Redacts the trace on standard input as the rules say: the header becomes that of the second version, and the bytes of
+each gwrite become zeros. Writes the redacted trace to FILE, and prints what digests.c has to print: the SHA-256 of the
+text so far, before the first call and after each one, and that of the header alone.
 
 usage: digests.py FILE"""
 import hashlib

@@ -19,7 +19,7 @@ FIELD = re.compile(r"  pub (\w+) :")
 
 @functools.cache
 def files_on_disk(top):
-    """The files below a folder but for those that are built."""
+    """The files below a folder, except those that are built."""
     found = set()
     for folder, inner, names in os.walk(top):
         inner[:] = [name for name in inner if name not in BUILT]
@@ -33,7 +33,7 @@ def text_on_disk(path):
 
 
 class Tree:
-    """The files below a folder; some may have another text than on disk, or be gone, which is None."""
+    """The files below a folder. Some may have a text other than on disk, or be gone: then their text is None."""
 
     def __init__(self, top, changed=None):
         self.top, self.changed = pathlib.Path(top), changed or {}
@@ -69,7 +69,7 @@ class Tree:
         return [file for file in files if file in self.files]
 
     def prose(self, file):
-        """A document; of a source its head, the lines that begin with //!, each where it is."""
+        """A document; or, of a source, its head: the lines that begin with //!, at their line numbers."""
         text = self.text(file)
         if file.endswith(".rt"):
             text = "\n".join(line[4:] if line.startswith("//!") else "" for line in text.split("\n"))
@@ -84,7 +84,7 @@ class Tree:
 
     @functools.cache
     def reached(self, crate):
-        """The crates that one depends on, directly or over others."""
+        """The crates that one depends on, directly or through others."""
         return self.crates[crate].union(*(self.reached(below) for below in self.crates[crate]))
 
     @functools.cache
@@ -119,7 +119,7 @@ class Code:
     defined: dict = dataclasses.field(default_factory=dict)
 
     def named(self, path):
-        """The functions of a path: a name alone, or after its type or the file that it is in."""
+        """The functions that a path names: a name alone, or one after its type or its file."""
         owner, _, name = path.rpartition("::")
         return [function for function in self.functions if function.name == name and owner in ("", *function.owners)]
 

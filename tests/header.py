@@ -1,5 +1,5 @@
-"""Compares include/kcore.h with what crates/kcore_c exports: each function's parameters and result, and each struct, field
-by field. Prints what differs; the status is 0 where nothing does.
+"""Compares include/kcore.h with what crates/kcore_c exports: each function's parameters and result, and each struct,
+field by field. Prints what differs; the status is 0 if nothing does.
 
 usage: header.py HEADER"""
 import pathlib
@@ -7,7 +7,7 @@ import re
 import sys
 
 CRATE = pathlib.Path(__file__).resolve().parent.parent / "crates" / "kcore_c" / "src"
-# What C passes for a parameter of such a type. The allocator is the library's own; a slice is a pointer and a length.
+# What C passes for a parameter of each type. The allocator is the library's own; a slice is a pointer and a length.
 PARAMETERS = {
     "Global": [],
     "&mut Handle": ["kcore *{}"],
@@ -28,9 +28,9 @@ RESULTS = {"usize": "size_t", "u32": "uint32_t"}
 # A session's pointer, which only the library follows, and a byte that is 0 or 1.
 FIELDS = {"held: Held": "void *session", "is_open: bool": "bool is_open"}
 TYPES = {"u32": "uint32_t", "Record": "kcore_record"}
-# What the library calls the places of an array of numbers.
+# What the library calls the elements of an array of numbers.
 NUMBERS = ["first", "second", "third", "fourth", "fifth"]
-# The structs: what C calls each, the library's name of it, and its file.
+# The structs: what C calls each, the library's name for it, and its file.
 STRUCTS = {
     "kcore": ("Handle", "handle.rt"),
     "kcore_record": ("Record", "record.rt"),
@@ -61,7 +61,7 @@ def declared(header):
 
 
 def laid_out(name, file):
-    """The fields of a struct of the library, which is laid out as C does it, with the types that C has for them."""
+    """The fields of a struct of the library, which has C's layout, with their types in C."""
     text = (CRATE / file).read_text()
     body = re.search(r"#\[repr\(C\)\]\n(?:#\[.*\]\n)*pub struct " + name + r" \{(.*?)\n\}", text, re.DOTALL)[1]
     for it in re.findall(r"^ *(?:pub )?(\w+: \w+),$", body, re.MULTILINE):
@@ -70,7 +70,7 @@ def laid_out(name, file):
 
 
 def fields_of(name, header):
-    """The fields of a struct of the header, one by one: of an array each of its numbers, by the names that the library has."""
+    """The fields of a struct of the header, one by one: the elements of an array by the library's names for them."""
     for one in re.search(r"typedef struct \{([^}]*)\} " + name + ";", header)[1].split(";"):
         kind, _, names = spaced(one).partition(" ")
         for field in filter(None, names.split(", ")):

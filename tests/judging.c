@@ -1,5 +1,5 @@
-/* Opens a session by the text of a state, which a word names. Tells the state on standard output, or prints as the program
- * does why the text is refused, of what an audit finds without its words; then the status is 2. */
+/* Opens a session from the text of a state, whose file the argument names. Writes the state to standard output, or says
+ * as the program does why the text is refused, but not what an audit finds in it; then the status is 2. */
 #include <kcore.h>
 #include <stdio.h>
 #include <stdlib.h>

@@ -14,7 +14,7 @@ UNITS = {"MiB": 2**20, "GiB": 2**30}
 
 
 def numbers_in(cell):
-    """The numbers in a cell, but for sizes in units."""
+    """The numbers in a cell, except sizes in units."""
     bare = re.sub(r"\(.*?\)|\d+ [MG]iB", "", cell)
     return [int(number.replace(",", "")) for number in re.findall(r"\b\d[\d,]*\b", bare)]
 
@@ -32,7 +32,8 @@ def sizes_in(tree):
 
 
 def machine(frames=8, leaves=1, version=1, approved=(1,)):
-    """A configuration with one frame of the core's and all others of the host's, that approves images of zero bytes."""
+    """A configuration in which one frame is the core's and all others are the host's, and which approves images of
+    zeros with these lengths."""
     digests = [hashlib.sha256(bytes(length)).hexdigest() for length in approved]
     return {"frames": frames, "core": 1, "host": frames - 1, "leaves": leaves, "approved": digests, "version": version}
 
@@ -52,7 +53,7 @@ def replies_to(program, trace):
 
 
 def left_by(program, config=None):
-    """All of the state that no calls leave, under a configuration's text or none."""
+    """The state's text after no calls, under a configuration's text or none."""
     with tempfile.NamedTemporaryFile("w") as file:
         file.write(config or "")
         file.flush()
@@ -174,7 +175,7 @@ class Trials:
 
 
 def check_limits(tree, program, known=None):
-    """Each row of the table; not those whose numbers are known."""
+    """Checks each row of the table, except those whose numbers are known."""
     limits, known = limits_of(tree), known or {}
     for number, size in sizes_in(tree):
         yield f"docs/RULES.md: {number} pages are {size} bytes", "" if number * PAGE == size else "they are not"

@@ -7,7 +7,7 @@ from cited import QUOTED, paragraphs_of, rows_of
 from document_tree import words_of
 
 OPTION = re.compile(r"--[a-z][a-z-]*")
-# What crates.txt has beside the names of crates: a kind of library, and the standard library's own parts.
+# What crates.txt has besides the names of crates: a kind of library, and the standard library's own parts.
 BUILT_IN = {"staticlib", "std_alloc", "std_heap"}
 COMMANDS = "replay", "live", "custody", "audit", "redact"
 
@@ -19,14 +19,14 @@ def differing(listed, meant):
 
 
 def section(text, head):
-    """What stands below a heading, up to the next one."""
+    """The text below a heading, up to the next one."""
     return re.split(r"^#+ ", text.partition(f"# {head}\n")[2], maxsplit=1, flags=re.M)[0]
 
 
 # Crates
 
 def direct(tree, crate):
-    """The crates that one depends on, but for those that come with others of them."""
+    """The crates that one depends on, except those that come with others of them."""
     own = tree.crates[crate]
     return own - set().union(*(tree.reached(below) for below in own))
 
@@ -55,7 +55,7 @@ def check_trusted(tree):
 
 
 def foreign_of(tree, crates):
-    """The crates of the toolchain that some crates of ours name."""
+    """The crates of the toolchain that these crates of ours name."""
     lines = [line.partition(":") for line in tree.text("crates.txt").splitlines() if re.match(r"\w", line)]
     named = [named for name, _, named in lines if name.split(" ")[0] in crates]
     return words_of("\n".join(named)) - set(tree.crates) - BUILT_IN
@@ -164,7 +164,7 @@ def check_faults(tree):
     for document, head, meant in heads:
         rows = [QUOTED.findall(cells[0]) for _, cells in rows_of(section(tree.text(f"docs/{document}.md"), head))]
         names = {name.removeprefix("kcore: ") for row in rows for name in row}
-        # The first fault of a configuration is named whole, the others perhaps by their last words.
+        # The first fault of a configuration is named in full, the others perhaps by their last words.
         names |= {f"configuration refused: {name}" for name in names}
         found = {fault for fault in meant if any(name.startswith(fault) for name in names)}
         yield f"docs/{document}.md: each fault", differing(found, meant)
@@ -179,7 +179,7 @@ def check_faults(tree):
 # The man page, help and completions
 
 def plain(page):
-    """A man page without its marks, a word of its macros beside the next."""
+    """A man page without its markup; the words of a macro are joined as it joins them."""
     lines = []
     for line in page.split("\n"):
         if macro := re.match(r"\.(B|I|BI|BR|IR|RB|RI) (.*)", line):
@@ -217,7 +217,7 @@ def completed_by_zsh(tree):
 
 
 def completed_by_fish(tree):
-    """The same of fish: `complete -c kcore -n '__fish_seen_subcommand_from replay live' -l config ..`."""
+    """The same for fish: `complete -c kcore -n '__fish_seen_subcommand_from replay live' -l config ..`."""
     offered = {command: set() for command in ("", *COMMANDS)}
     line = re.compile(r"^complete -c kcore -n '?(.*?)'? (?:-s \w )?-l (\w+)", re.M)
     for condition, option in line.findall(tree.text("completions/kcore.fish")):
@@ -236,7 +236,7 @@ def help_of(program, *words):
 
 
 def check_called(tree, known):
-    """Each call of the program within a sentence has options that its command knows."""
+    """Each command line within a sentence has only options that its command knows."""
     for document in tree.documents():
         paragraphs = paragraphs_of(tree.text(document))
         for line, name in [(line, name) for line, paragraph in paragraphs for name in QUOTED.findall(paragraph)]:

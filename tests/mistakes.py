@@ -18,7 +18,7 @@ class Mistake:
         return f"the check of {self.check} sees that in {self.file} {change}".replace("in ", "", not self.old)
 
     def made(self, top):
-        """The repository with the mistake, or none where the file has no such text any more."""
+        """The repository with the mistake, or None if the file no longer has that text."""
         text = Tree(top).text(self.file)
         if not self.old:
             return Tree(top, {self.file: None, self.new: text})

@@ -1,5 +1,5 @@
-/* Refuses each growth of memory in turn, over a session from its boot to its end: what says KCORE_MEMORY has changed
- * nothing, and asked again it answers as it does in ample memory. Linked with --wrap=malloc,--wrap=realloc. */
+/* Refuses each growth of memory in turn, over a session from its boot to its end: a function that says KCORE_MEMORY has
+ * changed nothing, and called again it answers as it does in ample memory. Linked with --wrap=malloc,--wrap=realloc. */
 #include <kcore.h>
 #include <stdio.h>
 #include <stdlib.h>
@@ -52,10 +52,10 @@ static const struct {
                 {{KCORE_CLEAR, {1}}, "", {KCORE_IS_DONE, 0}, ""}};
 enum { NUMBERED = sizeof numbered / sizeof *numbered };
 
-/* Makes all of them: how many said KCORE_MEMORY, or less than 0. What says so leaves the answer, and how many calls the
- * volume has room for. */
+/* Makes all of them. Returns how often KCORE_MEMORY was said, or less than 0. A function that says so changes neither
+ * the answer nor the number of calls that the volume has room for. */
 static int run_numbered(kcore *core) {
-    int told = 0;
+    int times = 0;
     for (size_t n = 0; n < NUMBERED; n++) {
         const char *bytes = numbered[n].bytes, *reply = numbered[n].reply;
         uint32_t status, vm = KCORE_NONE;
@@ -65,7 +65,7 @@ static int run_numbered(kcore *core) {
         if (numbered[n].request.call >= KCORE_GREAD && numbered[n].request.call < KCORE_CLEAR) vm = 1;
         while ((status = kcore_do_by(core, vm, 0, &numbered[n].request, (const uint8_t *)bytes, strlen(bytes), text, 4096, &used,
                                      &answer)) == KCORE_MEMORY) {
-            told++;
+            times++;
             if (used || answer.kind != 99 || kcore_sizes(core, &size) || size.left != 65536 - n) return -20;
         }
         if (status != KCORE_DONE || answer.kind != numbered[n].answer.kind) return -21;
@@ -76,19 +76,19 @@ static int run_numbered(kcore *core) {
     size_t count;
     /* The two frames of the VM are nobody's now. */
     if (kcore_changes(core, changes, 3, &count) || count != 2 || changes[0].frame != 3 || changes[1].frame != 4) return -24;
-    return changes[0].before.owner == KCORE_VM && changes[1].after.owner == KCORE_FREE ? told : -25;
+    return changes[0].before.owner == KCORE_VM && changes[1].after.owner == KCORE_FREE ? times : -25;
 }
 
-/* A whole session in which one growth is refused, or none: how many functions said KCORE_MEMORY, or less than 0. */
+/* A whole session in which one growth is refused, or none. Returns how often KCORE_MEMORY was said, or less than 0. */
 static int run(unsigned long at) {
     kcore core = {0};
     size_t used = 1;
     uint32_t status;
-    int told = 0;
+    int times = 0;
     met = 0;
     refused = at;
     while ((status = kcore_boot(&core, (const uint8_t *)config, strlen(config))) == KCORE_MEMORY) {
-        told++;
+        times++;
         if (kcore_call(&core, (const uint8_t *)"take", 4, text, sizeof text, &used) != KCORE_CLOSED || used) return -1;
     }
     if (status != KCORE_DONE) return -2;
@@ -96,14 +96,14 @@ static int run(unsigned long at) {
         const char *call = calls[n][0];
         const uint8_t *bytes = (const uint8_t *)call;
         while ((status = kcore_call(&core, bytes, strlen(call), text, sizeof text, &used)) == KCORE_MEMORY) {
-            told++;
+            times++;
             if (used) return -3;
         }
         if (status != KCORE_DONE || !is_line(calls[n][1], used)) return -4;
     }
     for (size_t n = 0; n <= CALLS + 1; n++) {
         while ((status = kcore_line(&core, n, text, sizeof text, &used)) == KCORE_MEMORY) {
-            told++;
+            times++;
             if (used) return -5;
         }
         const char *line = n == 0 ? "kcore-trace 2" : n <= CALLS ? calls[n - 1][0] : NULL;
@@ -111,34 +111,35 @@ static int run(unsigned long at) {
     }
     for (size_t n = 0; n <= CALLS + 1; n++) {
         while ((status = kcore_redacted_line(&core, n, text, sizeof text, &used)) == KCORE_MEMORY) {
-            told++;
+            times++;
             if (used) return -11;
         }
         if (status != (n <= CALLS ? KCORE_DONE : KCORE_NO_SUCH_LINE)) return -12;
     }
     if (kcore_digest(&core, text, sizeof text, &used) != KCORE_DONE || used != 32) return -13;
     while ((status = kcore_turn(&core)) == KCORE_MEMORY) {
-        told++;
+        times++;
         if (kcore_line(&core, CALLS + 1, text, sizeof text, &used) == KCORE_DONE) return -7;
     }
     if (status != KCORE_DONE) return -8;
-    while ((status = kcore_line(&core, 1, text, sizeof text, &used)) == KCORE_MEMORY) told++;
+    while ((status = kcore_line(&core, 1, text, sizeof text, &used)) == KCORE_MEMORY) times++;
     if (status != KCORE_NO_SUCH_LINE) return -9;
     int more = run_numbered(&core);
     if (more < 0) return more;
-    told += more;
-    return kcore_end(&core) == KCORE_DONE && kcore_end(&core) == KCORE_CLOSED ? told : -10;
+    times += more;
+    return kcore_end(&core) == KCORE_DONE && kcore_end(&core) == KCORE_CLOSED ? times : -10;
 }
 
 int main(void) {
-    int told = run(0), all = 0;
+    int times = run(0), all = 0;
     unsigned long growths = met;
-    if (told != 0) return printf("in ample memory: %d\n", told), 1;
+    if (times != 0) return printf("in ample memory: %d\n", times), 1;
     for (unsigned long at = 1; at <= growths; at++) {
-        told = run(at);
-        if (told < 0 || told > 1) return printf("with growth %lu refused: %d\n", at, told), 1;
-        all += told;
+        times = run(at);
+        if (times < 0 || times > 1) return printf("with growth %lu refused: %d\n", at, times), 1;
+        all += times;
     }
-    printf("%lu growths, each refused in turn: %d were told, and all was answered when asked again\n", growths, all);
+    printf("%lu growths, each refused in turn: %d were reported, and all was answered when asked again\n", growths,
+           all);
     return all == 0;
 }

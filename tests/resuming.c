@@ -1,8 +1,8 @@
-/* Asks a session the calls of a trace, which comes on standard input with its header, all in one volume or, with a number,
- * each in a volume of its own. Then what the core tells goes to files in a folder: state, blank, dump, and digest, that of
- * the blank state as 64 digits. A second session is opened by each text of a state, and has to tell it again; with a number
- * the last calls of the trace are left for both sessions, which have to answer the same. The state that they leave goes to
- * after.
+/* Makes the calls of a trace, which comes on standard input with its header, in a session: all in one volume or, with
+ * CALLS, each in a volume of its own. Then what the core reports goes to files in FOLDER: state, blank, dump, and
+ * digest, that of the blank state as 64 digits. A second session is opened from each text of a state, and has to report
+ * it again. The last CALLS calls of the trace are left for both sessions, which have to answer the same. The state that
+ * they leave goes to the file after.
  *
  * usage: resuming FOLDER [CALLS] */
 #include <kcore.h>
@@ -27,27 +27,27 @@ static void keep(const char *folder, const char *name, const uint8_t *bytes, siz
     need(out && fwrite(bytes, 1, length, out) == length && fclose(out) == 0, 2);
 }
 
-/* What is told fits a room that is just as long, and no shorter one, which stays as it is. */
-static size_t told(uint32_t (*tell)(kcore *, uint8_t *, size_t, size_t *), kcore *core, uint8_t *out) {
+/* What is reported fits a buffer that is just as long, and no shorter one, which stays as it is. */
+static size_t reported(uint32_t (*report)(kcore *, uint8_t *, size_t, size_t *), kcore *core, uint8_t *out) {
     size_t used, less = 7;
     memset(out, 0xa5, ROOM);
-    need(tell(core, out, ROOM, &used) == KCORE_DONE && used > 0 && used < ROOM && out[used] == 0xa5, 3);
+    need(report(core, out, ROOM, &used) == KCORE_DONE && used > 0 && used < ROOM && out[used] == 0xa5, 3);
     memset(again, 0x5a, ROOM);
-    need(tell(core, again, used - 1, &less) == KCORE_NO_ROOM && less == 0, 4);
+    need(report(core, again, used - 1, &less) == KCORE_NO_ROOM && less == 0, 4);
     for (size_t at = 0; at < ROOM; at++) need(again[at] == 0x5a, 5);
-    need(tell(core, again, used, &less) == KCORE_DONE && less == used && memcmp(out, again, used) == 0, 6);
+    need(report(core, again, used, &less) == KCORE_DONE && less == used && memcmp(out, again, used) == 0, 6);
     need(again[used] == 0x5a, 7);
     return used;
 }
 
-/* A second session that is opened by a text tells it again. */
+/* A second session that is opened from a text reports it again. */
 static void resume(kcore *core, const uint8_t *bytes, size_t length,
-                   uint32_t (*tell)(kcore *, uint8_t *, size_t, size_t *)) {
+                   uint32_t (*report)(kcore *, uint8_t *, size_t, size_t *)) {
     uint32_t place = 77;
     size_t used;
     need(kcore_resume(core, bytes, length, &place) == KCORE_DONE && place == 77, 8);
     need(kcore_resume(core, bytes, length, &place) == KCORE_ALREADY_OPEN && place == 77, 9);
-    need(tell(core, again, ROOM, &used) == KCORE_DONE && used == length && memcmp(again, bytes, length) == 0, 10);
+    need(report(core, again, ROOM, &used) == KCORE_DONE && used == length && memcmp(again, bytes, length) == 0, 10);
 }
 
 int main(int count, char **words) {
@@ -61,11 +61,11 @@ int main(int count, char **words) {
         need(kcore_call(&core, (const uint8_t *)lines[n], strlen(lines[n]) - 1, text[0], 9000, used) == KCORE_DONE, 15);
         if (count > 2) need(kcore_turn(&core) == KCORE_DONE, 16);
     }
-    length = told(kcore_dump, &core, state);
+    length = reported(kcore_dump, &core, state);
     keep(words[1], "dump", state, length);
-    length = told(kcore_state, &core, state);
+    length = reported(kcore_state, &core, state);
     keep(words[1], "state", state, length);
-    size_t blank_length = told(kcore_blank_state, &core, blank);
+    size_t blank_length = reported(kcore_blank_state, &core, blank);
     keep(words[1], "blank", blank, blank_length);
     need(kcore_blank_digest(&core, text[0], 31, used) == KCORE_NO_ROOM && *used == 0, 17);
     need(kcore_blank_digest(&core, text[0], 32, used) == KCORE_DONE && *used == 32, 18);
@@ -83,7 +83,7 @@ int main(int count, char **words) {
         need(status[0] == KCORE_DONE && status[1] == KCORE_DONE && used[0] == used[1], 20);
         need(memcmp(text[0], text[1], used[0]) == 0, 20);
     }
-    length = told(kcore_state, &core, state);
+    length = reported(kcore_state, &core, state);
     need(kcore_state(&second, again, ROOM, used) == KCORE_DONE && *used == length, 21);
     need(memcmp(again, state, length) == 0, 21);
     keep(words[1], "after", state, length);

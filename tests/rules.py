@@ -10,7 +10,7 @@ PAGE, GUEST_FRAMES, IMAGE_BYTES, LEAF, SHARES, RANGE = 4096, 262144, 1048576, 51
 SLOTS, FRAMES = {1: 16, 2: 64}, {1: 8192, 2: 65536}
 # The options that ask for more than custody.
 REMARKS = "--refused", "--accesses"
-# What the first line of custody names.
+# The version that the first line of custody names.
 VERSION = "2.0.0"
 # Why calls are refused, by number.
 REASONS = (
@@ -18,27 +18,27 @@ REASONS = (
     " image-full image-short no-fault mapped not-mapped not-host protected not-present tables-full share-full not-shared shared"
     " no-free"
 ).split()
-# What is said of a frame, in the order in which it is told.
+# What is reported of a frame, in this order.
 CUSTODY = operator.attrgetter("owner", "gfn", "share", "present")
-# The configuration that the program has where none is named.
+# The program's configuration if none is named.
 DEFAULT = {
     "version": 1, "frames": 8, "core": 1, "host": 4, "leaves": 1, "approved": [hashlib.sha256(b"abc").hexdigest()],
 }
 
 
-# What is said of a trace of another machine, whatever is asked for of its replay or its custody.
+# What replay and custody say of a trace of another machine, whatever else they are asked for.
 WARNING = "kcore: warning: more than half of the calls name frames or slots that the machine does not have\n"
 OUTSIDE = "refused bad-frame", "refused bad-vm"
 
 
 def lines_text(lines, replies):
-    """What is written of the calls on these lines of a trace with their replies."""
+    """What `replay --lines` writes of these calls of a trace and their replies."""
     pairs = enumerate(zip(lines, replies), 2)
     return "".join(json.dumps({"line": number, "call": call, "reply": reply}, separators=(",", ":")) + "\n" for number, (call, reply) in pairs)
 
 
 def warning_of(replies):
-    """What replay and custody say on standard error of calls that are answered so."""
+    """What replay and custody say on standard error of calls with these replies."""
     return WARNING if 2 * sum(it in OUTSIDE for it in replies) > len(replies) else ""
 
 
@@ -48,14 +48,14 @@ def denied_in(remarks):
 
 
 def noted(told, remarks, options):
-    """What is told of the calls of a trace, and the remarks that these options ask for: those of a call come first."""
+    """What is reported of the calls of a trace, and the remarks that these options ask for, a call's remarks first."""
     asked = [(vms, line) for option, vms, line in remarks if option in options]
     return sorted(asked + told, key=lambda it: it[1]["line"])
 
 
 def rows_of_volumes(sizes, digests=None):
-    """The lines that name volumes of so many calls, which were read one after another, perhaps with the digests of their
-    texts."""
+    """The lines that name volumes, read one after another, with these numbers of calls, and perhaps with the digests of
+    their texts."""
     rows, line = [], 2
     for number, size in enumerate(sizes, 1):
         rows.append({"volume": number, "line": line, "calls": size})
@@ -64,9 +64,9 @@ def rows_of_volumes(sizes, digests=None):
     return rows
 
 
-def placed(told, volumes):
-    """A line with the number of its volume before all else: how many volumes begin on it or before it."""
-    return {"volume": sum(it["line"] <= told["line"] for it in volumes)} | told if volumes else told
+def placed(reported, volumes):
+    """A line with the number of its volume before all else: how many volumes begin on or before it."""
+    return {"volume": sum(it["line"] <= reported["line"] for it in volumes)} | reported if volumes else reported
 
 
 class Refused(Exception):
@@ -83,7 +83,7 @@ def digest_of_page(page):
 
 
 class Frame:
-    """What is kept of a frame. Each frame of which something is set is noted, since any other is as it was."""
+    """What is kept of a frame. A frame is noted when anything of it is set: all others are as they were."""
 
     __slots__ = "owner", "share", "gfn", "present", "page", "number", "noted"
 
@@ -140,8 +140,8 @@ class Life:
 
 
 class Lives:
-    """The lives of VMs through calls on a core, in the order in which they begin: first those that are under way, which
-    have the header's line. After each call the frames that each VM has, and shares, are looked at."""
+    """The lives of VMs through calls on a core, in the order in which they begin: first those under way, which have the
+    header's line. After each call, the frames that each VM has and shares are looked at."""
 
     def __init__(self, core):
         self.core, self.lives = core, []
@@ -152,7 +152,7 @@ class Lives:
         self.look(1, self.current())
 
     def current(self):
-        """Of each slot the life that is not over, if any."""
+        """For each slot, the life that is not over, if any."""
         return {life.told["vm"]: life for life in self.lives if life.told["cleared"] is None}
 
     def look(self, number, current):
@@ -162,7 +162,7 @@ class Lives:
             life.look_at_shares(number, slot.table, [f for f in slot.list if self.core.frames[f].share > 0])
 
     def note(self, number, line, reply):
-        """Notes the call on a line, which the core has answered so."""
+        """Notes the call on a line and the core's reply to it."""
         name, *words = line.split(" ")
         at = int(words[0]) if words else 0
         frames = self.core.frames
@@ -192,7 +192,7 @@ def pages_of(length):
 
 
 def ask(*conditions):
-    """Refused for the first condition that holds; each is a function, so that none is asked too early."""
+    """Refuses a call for the first condition that holds; each is a function, so that none is asked too early."""
     for holds, name in conditions:
         if holds():
             raise Refused(name)
@@ -244,8 +244,8 @@ class Core:
         return self.no_vm(v), self.not_in(v, "active"), self.no_vcpu(v, c)
 
     def redacted(self, line):
-        """The call, which is the next one, with zeros in the place of the bytes that a virtual processor writes, or the host
-        to a frame of an active VM."""
+        """The next call, with zeros in place of the bytes that a virtual processor writes, or that the host writes to a
+        frame of an active VM."""
         name, *words = line.split(" ")
         if name != "hwrite" or int(words[0]) >= len(self.frames):
             return calls.redacted(line)
@@ -364,7 +364,7 @@ class Core:
 
     # A virtual processor's calls.
     def reach(self, v, c, g, offset, length):
-        """The frame at a guest frame; none where it is not mapped, and then the virtual processor waits for it."""
+        """The frame at a guest frame; None if it is not mapped, and then the virtual processor waits for it."""
         ask(self.bad_vm(v), self.bad_vcpu(c), self.bad_gfn(g), self.bad_range(offset, length), *self.guest(v, c))
         is_mapped = g in self.slots[v].table
         self.slots[v].vcpus[c] = None if is_mapped else g
@@ -420,7 +420,7 @@ class Core:
         return "done"
 
     def custody(self, lines):
-        """The replies to these calls of a trace, and all that is told of them: whose VMs' line it is, and the line."""
+        """The replies to these calls of a trace, and the lines of custody, each after the owners that it concerns."""
         replies, told, frames = [], [], list(map(CUSTODY, self.frames))
         phases = lambda: [slot.phase for slot in self.slots]
         before = phases()
@@ -436,7 +436,7 @@ class Core:
         return replies, told
 
     def moved(self, number, frames):
-        """What is told of the frames that a call changes, of which this is the custody before it; then that after it."""
+        """What is reported of the frames that a call changes. `frames` is the custody before it, and then after it."""
         told = []
         for f in sorted(self.noted):
             old, new = frames[f], CUSTODY(self.frames[f])
@@ -447,7 +447,7 @@ class Core:
         return told
 
     def turned(self, number, before, after, images):
-        """What is told of the slots whose phase a call turns, and which measured these images."""
+        """What is reported of the slots whose phase a call changes, with the images that it measured."""
         told, differing = [], enumerate(zip(before, after)) if before != after else ()
         for v, (old, new) in differing:
             if old != new:
@@ -456,8 +456,8 @@ class Core:
         return told
 
     def named(self, line):
-        """The numbers that a call names, by their letters, and the frame, if it exists: by its number, or by the guest
-        frame that it is mapped at, of a range by the first."""
+        """The numbers that a call names, by their letters, and its frame, if that exists: named by its number, or by
+        the guest frame at which it is mapped, of a range the first."""
         name, *words = line.split(" ")
         named = {letter: int(word) for letter, word in zip(calls.WORDS[name], words) if letter != "data"}
         f = named.get("f")
@@ -466,14 +466,14 @@ class Core:
         return named, f if f is not None and f < len(self.frames) else None
 
     def remarks(self, lines):
-        """What is reported of these calls of a trace beside custody: the option that asks for it, whose VMs' line it
-        is, and the line."""
+        """What is reported of these calls of a trace besides custody: each line, after the option that asks for it and
+        the slot and the owner that it concerns."""
         remarks = []
         for number, line in enumerate(lines, 2):
             name, *words = line.split(" ")
             named, f = self.named(line)
             slot = named.get("v")
-            # What the frame is before the call.
+            # The frame as it is before the call.
             exists = f is not None
             owner, gfn = (self.frames[f].owner, self.frames[f].gfn) if exists else (None, None)
             why, *what = self.answer(line).split(" ")
@@ -496,9 +496,9 @@ class Core:
         return lives.told()
 
     def text(self, kind, calls, counted, lines, named=None, is_unseen=False, volumes=()):
-        """The text of what is reported of calls, of which the number is given and how many were denied, its first line
-        and its last with it. Perhaps the texts that were read are named, or the machine's accesses are not in the
-        trace, or the calls came in these volumes."""
+        """The text of a report with its first and its last line. `calls` says how many calls there were, and how many
+        were denied. Perhaps the texts that were read are named, or the machine's accesses are not in the trace, or the
+        calls came in these volumes."""
         header = {kind: 2, "kcore": VERSION} | (named or {})
         header |= {"frames": len(self.frames), "core": self.config["core"], "host": self.config["host"]}
         header |= {"slots": len(self.slots)} | ({"accesses": "unseen"} if is_unseen else {})

@@ -1,4 +1,4 @@
-"""The commands that documents show with what they print: lines after '$ ', further ones after '> ', then the output."""
+"""The commands that documents show: a line after '$ ', further ones after '> ', then what the command prints."""
 import dataclasses
 import os
 import pathlib
@@ -9,7 +9,7 @@ import subprocess
 
 from listed import plain, section_of_page
 
-# Standard input is empty, and what is shown of standard error comes with standard output.
+# Standard input is empty, and standard error goes where standard output goes.
 STEP = "{{ {command}\n}} > {printed} 2>&1 < /dev/null\necho $? > {printed}.status\n"
 SECONDS = 120
 
@@ -25,7 +25,7 @@ class Step:
     status: int = None
 
     def lacks(self):
-        """The program of the command that is not here."""
+        """A program that the command needs and that is not here, if any."""
         tools = [tool for tool in ("jq", "parallel", "cc", "ssh-keygen") if re.search(rf"(^|\| ?){tool} ", self.command)]
         return next((tool for tool in tools if not shutil.which(tool)), None)
 
@@ -47,7 +47,7 @@ def steps_of(text, indent):
 
 
 def lay_out(tree, folder, program):
-    """A folder that looks like the repository to a command, in which bin/kcore is the program."""
+    """Makes a folder that looks like the repository to a command, and in which bin/kcore is the program."""
     for name in sorted({pathlib.PurePath(file).parts[0] for file in tree.files} - {"bin"}):
         (folder / name).symlink_to(tree.top / name)
     (folder / "bin").mkdir()
@@ -60,7 +60,7 @@ def lay_out(tree, folder, program):
 
 
 def run_all(steps, folder, work):
-    """Has one shell make all commands, one after another."""
+    """Has one shell run all commands, one after another."""
     printed = [shlex.quote(str(work / str(number))) for number in range(len(steps))]
     script = "".join(STEP.format(command=step.command, printed=file) for step, file in zip(steps, printed))
     names = {name: value for name, value in os.environ.items() if name not in ("CDPATH", "KCORE", "BASH_ENV")}
@@ -77,8 +77,8 @@ def run_all(steps, folder, work):
 
 
 def fault_of(step, shows_all):
-    """What a command did otherwise than shown. Of a command without output a page that does not show all promises only
-    that its status is 0."""
+    """What a command did that is not as shown. If a page does not show all, a command without output promises only that
+    its status is 0."""
     if step.status is None:
         return "it was not reached, or did not end"
     if not shows_all and not step.shown:
@@ -97,7 +97,7 @@ def steps_in(tree, document):
 
 
 def lacking(tree, documents):
-    """The programs of commands that are not here."""
+    """The programs that commands need and that are not here."""
     return sorted({step.lacks() for document in documents for step in steps_in(tree, document)} - {None})
 
 
@@ -115,7 +115,7 @@ def tried(tree, document, program, base):
     return steps
 
 
-# What stands in the files that the man page's examples name.
+# The contents of the files that the man page's examples name.
 PAGE_FILES = {
     "trace": "dump-of-two-vms",
     "dump": "dump-of-two-vms.stdout",

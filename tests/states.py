@@ -1,6 +1,7 @@
-"""The text of a state, written out once more in another language: how one is written, and why a text is none.
+"""The text of a state, written out once more in another language: how one is written, and why a text is not one.
 
-What is written is asked of a core of rules.py. What is wrong with a text is the first that applies, as kcore says it."""
+What is written is taken from a core of rules.py. What is wrong with a text is the first fault that applies, as kcore
+says it."""
 import operator
 import re
 
@@ -13,7 +14,7 @@ PHASES, OWNERS = ("empty", "booting", "active", "dead"), ("core", "host", "free"
 
 
 class Faulty(Exception):
-    """Why a text is no state's, as it is said after 'kcore: '."""
+    """Why a text is not a state's, as it is said after 'kcore: '."""
 
 
 def state_text(core):
@@ -30,7 +31,7 @@ def state_text(core):
 
 
 def blanked(text):
-    """The text of the state that differs from a state in the pages of active VMs, which are zero."""
+    """The text of the state that differs from the given one only in the pages of active VMs, which are zero."""
     lines = text.split("\n")
     words = [line.split(" ") for line in lines]
     active = {line[1] for line in words if line[0] == "vm" and line[2] == "active"}
@@ -42,21 +43,21 @@ def blanked(text):
 
 
 def number_of(word, limit=2 ** 32):
-    """The number below a limit that a word is, or None."""
+    """The number that a word is, if it is one below a limit, or None."""
     return int(word) if NUMERAL.fullmatch(word) and int(word) < limit else None
 
 
 def numbers_of(words, limit=2 ** 32):
-    """The numbers that all of these words are, or None."""
+    """The numbers that these words are, or None if one of them is not."""
     numbers = [number_of(word, limit) for word in words]
     return None if None in numbers else numbers
 
 
-# Lines. Each takes the words after the line's name, and gives what they say, or None where no line says so.
+# Lines. Each function takes the words after the line's name, and returns what they say, or None if no line has them.
 
 
 def sizes_of(words):
-    """How many slots, frames, frames of the host's at boot and approved digests there are: as many as any configuration has."""
+    """How many slots, frames, host frames at boot and approved digests there are: no more than a configuration has."""
     numbers = numbers_of(words) if len(words) == 4 else None
     limits = SLOTS[2], FRAMES[2], FRAMES[2], DIGESTS
     return numbers if numbers and all(map(operator.le, numbers, limits)) else None
@@ -84,7 +85,7 @@ def page_of(words):
 
 
 class Lines:
-    """The lines of a text from the front on; after the last newline there is none."""
+    """The lines of a text, taken from the front; after the last newline there are none."""
 
     def __init__(self, text):
         *self.lines, self.rest = text.split("\n")
@@ -101,7 +102,7 @@ class Lines:
         return Faulty("bad state line %d" % (self.taken + 1))
 
     def take(self, name, read):
-        """What the next line says, which has to be of this name."""
+        """What the next line says, which has to have this name."""
         words = self.words()
         said = read(words[1:]) if words and words[0] == name else None
         if said is None:
@@ -110,8 +111,8 @@ class Lines:
         return said
 
 
-class Told:
-    """What a text tells: the lines before its dump, and the dump."""
+class Parsed:
+    """What a text says: the lines before its dump, and the dump."""
 
     def __init__(self, text):
         lines = Lines(text)
@@ -139,7 +140,7 @@ class Told:
         return numbers if is_well else None
 
     def frame_or_dash(self, word):
-        """Nothing where there is none, in a list of its own; None where the word says neither."""
+        """A list of the frame, or of None for a dash; None if the word is neither."""
         if word == "-":
             return [None]
         number = number_of(word, self.size)
@@ -155,7 +156,7 @@ class Told:
         return (words[1], ends) if len(words) == 5 and words[0] == str(v) and words[1] in PHASES and ends else None
 
     def take_leaves(self, lines):
-        """Root slots, of each slot numbered on from 0."""
+        """The root slots, which are numbered from 0 in each slot."""
         at, count = 0, 0
         while lines.words() and lines.words()[0] == "leaf":
             words = numbers_of(lines.words()[1:])
@@ -168,7 +169,7 @@ class Told:
             lines.taken += 1
 
     def take_entries(self, lines):
-        """Mapped guest frames, rising."""
+        """The mapped guest frames, in rising order."""
         least = (0, 0)
         while lines.words() and lines.words()[0] == "entry":
             words = numbers_of(lines.words()[1:])
@@ -192,7 +193,7 @@ class Told:
         return int(words[0]), (owner, share, gfn[0], words[4] == "1", before[0], after[0], words[7])
 
     def take_frame(self, lines, f):
-        """The line of this frame; that of another, or no more text, is told as that."""
+        """The line of this frame; that of another one, or the end of the text, is a fault of its own."""
         words = lines.words()
         said = self.frame_of(words[1:]) if words and words[0] == "frame" else None
         if lines.is_at_end() or (said and said[0] != f):
@@ -203,53 +204,53 @@ class Told:
         return said[1]
 
 
-# What is judged, once all lines are read.
+# What is judged after all lines are read.
 
 
-def judge_sizes(told):
-    is_configuration = told.core + told.host <= told.size
-    if not is_configuration or len(told.pages) != told.size or len(told.rests) != len(told.vms):
+def judge_sizes(said):
+    is_configuration = said.core + said.host <= said.size
+    if not is_configuration or len(said.pages) != said.size or len(said.rests) != len(said.vms):
         raise Faulty("state of no configuration")
 
 
-def is_list(told, owner, ends):
+def is_list(said, owner, ends):
     """Whether ends and links spell a sequence of all the owner's frames, forwards and backwards."""
-    left, before, f = {f for f, line in enumerate(told.lines) if line[0] == owner}, None, ends[0]
+    left, before, f = {f for f, line in enumerate(said.lines) if line[0] == owner}, None, ends[0]
     if len(left) != ends[2]:
         return False
-    while f in left and told.lines[f][4] == before:
+    while f in left and said.lines[f][4] == before:
         left.remove(f)
-        before, f = f, told.lines[f][5]
+        before, f = f, said.lines[f][5]
     return not left and f is None and before == ends[1]
 
 
-def findings(told):
-    """What an audit finds, the first first."""
-    lines, frames = told.lines, range(told.size)
-    yield from ("core-owner %d" % f for f in frames if (lines[f][0] == "core") != (f < told.core))
+def findings(said):
+    """What an audit finds, in its order."""
+    lines, frames = said.lines, range(said.size)
+    yield from ("core-owner %d" % f for f in frames if (lines[f][0] == "core") != (f < said.core))
     yield from ("linked %d" % f for f in frames if lines[f][0] in ("core", "host") and lines[f][4:6] != (None, None))
-    lists = [("free", "free", told.free)] + [(str(v), v, ends) for v, (_, ends) in enumerate(told.vms)]
-    yield from ("chain " + name for name, owner, ends in lists if not is_list(told, owner, ends))
-    for v, entries in enumerate(told.entries):
+    lists = [("free", "free", said.free)] + [(str(v), v, ends) for v, (_, ends) in enumerate(said.vms)]
+    yield from ("chain " + name for name, owner, ends in lists if not is_list(said, owner, ends))
+    for v, entries in enumerate(said.entries):
         yield from ("entry %d %d" % (v, g) for g, f in entries if (lines[f][0], lines[f][2]) != (v, g))
-    tables = [set(entries) for entries in told.entries]
+    tables = [set(entries) for entries in said.entries]
     is_vm = lambda f: lines[f][0] not in OWNERS
     is_mapped = lambda f: is_vm(f) and (lines[f][2], f) in tables[lines[f][0]]
     yield from ("gfn %d" % f for f in frames if (not is_mapped(f) if is_vm(f) else lines[f][2] is not None))
     yield from ("share %d" % f for f in frames if lines[f][1] and not is_vm(f))
     yield from ("present %d" % f for f in frames if lines[f][3] and lines[f][0] != "host" and not lines[f][1])
-    for v, roots in enumerate(told.roots):
-        if len(roots) > told.leaves or len(set(roots)) < len(roots) or any(g // LEAF not in roots for g, _ in told.entries[v]):
+    for v, roots in enumerate(said.roots):
+        if len(roots) > said.leaves or len(set(roots)) < len(roots) or any(g // LEAF not in roots for g, _ in said.entries[v]):
             yield "leaves %d" % v
-    for v, (phase, ends) in enumerate(told.vms):
-        if phase == "empty" and (ends != (None, None, 0) or told.roots[v] or told.entries[v]):
+    for v, (phase, ends) in enumerate(said.vms):
+        if phase == "empty" and (ends != (None, None, 0) or said.roots[v] or said.entries[v]):
             yield "empty %d" % v
     yield from ("bytes %d" % f for f in frames if lines[f][0] == "free" and lines[f][6] != ZEROS)
 
 
-def is_slot(told, v):
+def is_slot(said, v):
     """Whether a lawful state may have this slot."""
-    phase, (waits, images) = told.vms[v][0], told.rests[v]
+    phase, (waits, images) = said.vms[v][0], said.rests[v]
     if phase == "empty":
         return waits == ["-"] * VCPUS and not images
     if phase != "active" and any(word not in ("-", ".") for word in waits):
@@ -263,28 +264,28 @@ def is_slot(told, v):
             return False
         spans.append((base, base + most))
     held = {g for base, _, pages in images for g in range(base, base + pages)}
-    return phase != "booting" or held == {g for g, _ in told.entries[v]}
+    return phase != "booting" or held == {g for g, _ in said.entries[v]}
 
 
-def is_frame(told, f):
+def is_frame(said, f):
     """Whether a lawful state may have this frame."""
-    owner, share, *_, digest = told.lines[f]
-    is_shared_in_order = owner in OWNERS or not share or told.vms[owner][0] == "active"
-    return digest == digest_of_page(told.pages[f]) and (owner != "free" or told.pages[f] == ZERO_PAGE) and is_shared_in_order
+    owner, share, *_, digest = said.lines[f]
+    is_shared_in_order = owner in OWNERS or not share or said.vms[owner][0] == "active"
+    return digest == digest_of_page(said.pages[f]) and (owner != "free" or said.pages[f] == ZERO_PAGE) and is_shared_in_order
 
 
 def fault_of(text):
-    """Why a text is no state's, or None where it is one's."""
+    """Why a text is not a state's, or None if it is."""
     try:
-        told = Told(text)
-        judge_sizes(told)
-        for finding in findings(told):
+        said = Parsed(text)
+        judge_sizes(said)
+        for finding in findings(said):
             raise Faulty("state with finding " + finding)
-        for v in range(len(told.vms)):
-            if not is_slot(told, v):
+        for v in range(len(said.vms)):
+            if not is_slot(said, v):
                 raise Faulty("bad slot %d" % v)
-        for f in range(told.size):
-            if not is_frame(told, f):
+        for f in range(said.size):
+            if not is_frame(said, f):
                 raise Faulty("bad frame %d" % f)
     except Faulty as fault:
         return str(fault)

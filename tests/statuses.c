@@ -28,7 +28,7 @@ static void holds(int fact, const char *what) {
 
 static uint32_t boot(kcore *core, const char *text) { return kcore_boot(core, (const uint8_t *)text, strlen(text)); }
 
-/* The buffer is as it was from the byte after those used, also if there is no answer. */
+/* After the bytes that are used, the buffer is as it was, even if there is no answer. */
 static uint32_t ended(uint32_t status, size_t room) {
     size_t at = used < ROOM ? used : ROOM;
     holds(status == KCORE_DONE ? used <= room : used == 0, "what is used");
@@ -127,7 +127,7 @@ int main(void) {
     is(boot(&core, "{"), KCORE_ALREADY_OPEN, "a second one");
     is(boot(&other, "{\"frames\":8,\"core\":1,\"host\":7,\"leaves\":1,\"approved\":[]}"),
        KCORE_DONE, "a second session");
-    is(ask(&core, "nonsense", sizeof out), KCORE_BAD_LINE, "a line that is no call");
+    is(ask(&core, "nonsense", sizeof out), KCORE_BAD_LINE, "a line that is not a call");
     is(ask(&core, "take\n", sizeof out), KCORE_BAD_LINE, "a line with its newline");
     is(ask(&core, "", sizeof out), KCORE_BAD_LINE, "an empty line");
     is((uint32_t)used, 0, "what a refused line uses");
@@ -158,7 +158,7 @@ int main(void) {
     for (int n = 5; n < 65536; n++)
         if (ask(&core, "give 5", sizeof out) != KCORE_DONE) is(1, 0, "a call that still has room in the history");
     is(ask(&core, "give 5", sizeof out), KCORE_HISTORY_FULL, "a call more than there may be");
-    is(ask(&core, "nonsense", sizeof out), KCORE_BAD_LINE, "no call, where the history is full");
+    is(ask(&core, "nonsense", sizeof out), KCORE_BAD_LINE, "not a call, with a full history");
     is(line(&core, 65536, sizeof out), KCORE_DONE, "the last call");
     is(line(&core, 65537, sizeof out), KCORE_NO_SUCH_LINE, "the line after it");
     is(kcore_turn(&core), KCORE_DONE, "the next volume");

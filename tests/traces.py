@@ -1,4 +1,4 @@
-"""Random traces that mean something: their calls are chosen by the state that those before them leave."""
+"""Random traces that make sense: each call is chosen by the state that those before it leave."""
 import hashlib
 
 import calls
@@ -6,7 +6,7 @@ from rules import FRAMES, GUEST_FRAMES, IMAGE_BYTES, PAGE, RANGE, SHARES, SLOTS,
 
 LENGTHS = [1, 3, 4095, 4096, 4097, 8192]
 APPROVED = [b"abc"] + [bytes(length) for length in LENGTHS if length != 4095]
-# The program starts threads for a wave in which the calls but the longest hash so many frames.
+# The program starts threads for a wave in which the calls other than the longest hash this many frames or more.
 FRAMES_WORTH_A_THREAD = 32
 
 
@@ -87,8 +87,8 @@ def any_call(rng, core):
 
 
 def boot_of(rng, v, frames):
-    """The lines that boot slot v from these frames, each with whether it names the slot, and the digests of the images
-    that are meant: now and then one is made with another byte, or lacks a page."""
+    """The lines that boot slot v from these frames, each with whether it names the slot, and the digests that the
+    images should have: now and then one has another byte, or lacks a page."""
     lines, pages, digests, base = [(True, f"regvm {v}")], [], [], rng.choice([0, 500, 512])
     turned, lacking = (rng.choice(frames) if rng.random() < chance else None for chance in (0.15, 0.1))
     sizes = [len(frames)] if len(frames) == 1 or rng.random() < 0.6 else [1, len(frames) - 1]
@@ -98,7 +98,7 @@ def boot_of(rng, v, frames):
         for f in frames[sum(sizes[:i]):][:size]:
             offset, data = rng.randrange(PAGE - 8), rng.choice([b"", b"abc", random_bytes(rng, 8)])
             image += bytes(offset) + data + bytes(PAGE - offset - len(data))
-            # The first byte of a page is always one of the image.
+            # The first byte of a page is always part of the image.
             writes = [(offset, data)] * bool(data) + [(0, b"\xff")] * (f == turned)
             pages += [(False, f"hfault {f}")] * bool(writes)
             pages += [(False, f"hwrite {f} {at} {some.hex()}") for at, some in writes]
@@ -109,8 +109,8 @@ def boot_of(rng, v, frames):
 
 
 def boots_case(rng, count=None):
-    """A configuration, perhaps of count frames in the second version, the lines of a trace that verifies several VMs in
-    one wave, beside other calls, and whether the program has workers to start for that."""
+    """A configuration, of the second version if a count of frames is given; the lines of a trace that verifies several
+    VMs in one wave, among other calls; and whether the program has to start workers for that."""
     a_size = lambda: rng.choice([rng.randrange(1, 71), rng.randrange(1, 71), rng.randrange(1, 9)])
     sizes = [a_size() for _ in range(rng.randrange(2, 7))]
     version, host, free = rng.choice([1, 2]), sum(sizes) + 2, rng.choice([rng.randrange(6), 100])
@@ -137,8 +137,9 @@ def boots_case(rng, count=None):
 
 
 def boot_orders(rng, boots, f, v):
-    """Lines of calls that each keep their order: of each slot as many name it before its verify as name the others, so
-    that all of these come in one wave; beside them takes, calls on frame f and on slot v, mostly up to that wave."""
+    """Lists of calls, each of which keeps its order. As many calls name each slot before its verify as name the others,
+    so that all verifies come in one wave. Besides, there are takes, calls on frame f and calls on slot v, mostly up to
+    that wave."""
     before, orders = 4 + max(sum(names_it for names_it, _ in lines) for _, lines in boots), []
     for vm, lines in boots:
         for _ in range(before - sum(names_it for names_it, _ in lines)):
@@ -154,7 +155,7 @@ def boot_orders(rng, boots, f, v):
 
 
 def shuffled(rng, orders):
-    """All of these lines in a random order that keeps each one's own."""
+    """The lines of all lists, in a random order in which each list keeps its own."""
     turns = [turn for order in orders for turn in [iter(order)] * len(order)]
     rng.shuffle(turns)
     return map(next, turns)
@@ -170,7 +171,7 @@ def random_case(rng):
     state, lines = Core(config), []
     for _ in range(rng.choice([rng.randrange(20), rng.randrange(200)])):
         line = (some_call if rng.random() < 0.9 else any_call)(rng, state)
-        # Now and then a grant is made until the frame cannot be shared once more.
+        # Now and then a grant is repeated until the frame cannot be shared once more.
         for _ in range(SHARES + 1 if line.startswith("grant") and rng.random() < 0.02 else 1):
             lines.append(line)
             state.answer(line)
@@ -178,7 +179,7 @@ def random_case(rng):
 
 
 def large_boots_case(rng):
-    """The same as boots_case, in a core of as many frames as there may be."""
+    """The same as boots_case, in a core with the most frames that there may be."""
     return boots_case(rng, FRAMES[2])
 
 
@@ -197,6 +198,6 @@ def slot_of(rng, lines, most=64):
 
 
 def has_actors(config, lines):
-    """Whether a live run may have these calls: each has an actor that is there."""
+    """Whether a live run may have these calls: the actor of each exists."""
     actors = filter(None, map(calls.actor_of, lines))
     return all(int(v) < SLOTS[config["version"]] and int(c) < 8 for v, c in actors)

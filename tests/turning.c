@@ -1,5 +1,5 @@
-/* A session of two volumes: what the core is asked, and in which volume. Each volume goes to the file that a word names,
- * the replies to standard output. */
+/* A session of two volumes: what the core is asked, and in which volume. Each volume goes to the file that an argument
+ * names, the replies to standard output. */
 #include <kcore.h>
 #include <stdio.h>
 #include <string.h>

@@ -1,6 +1,6 @@
-"""Volumes for tests/fuzz: a trace that is cut at any places, each piece replayed by itself, in any order, from the text
-of the state before it to that of the state after it; the same redacted, also of what the host wrote to frames of active
-VMs, between blank states; and such texts damaged."""
+"""Volumes for tests/fuzz: a trace is cut at random places, and each piece is replayed by itself, in any order, from the
+text of the state before it to that of the state after it. The same is tried with redacted pieces between blank states,
+also without what the host wrote to frames of active VMs; and with damaged texts."""
 import hashlib
 import os
 import random
@@ -12,7 +12,7 @@ from rules import PAGE, REMARKS, Core, Lives, denied_in, lines_text, noted, warn
 from states import blanked, fault_of, state_text
 
 WORKERS = (1, 2, 64)
-# How often a trace is cut: seldom often, since each volume takes a run. One of a large core is cut once.
+# How often a trace is cut: mostly once, since each volume takes a run. A trace of a large core is cut once.
 CUTS, LARGE = [1] * 14 + [2] * 4 + [7, 20], 1024
 ANOTHER = "kcore: another state\n"
 # What may take the place of a digit, and of a word.
@@ -27,7 +27,7 @@ class Volume:
 
     def __init__(self, core, lines, told, remarks, before):
         self.lines, self.before = lines, before
-        # Each without the bytes of guests and the host's in active VMs' frames, as they are when it is made.
+        # Each call without the bytes of guests, and without the host's in frames that are then an active VM's.
         self.hidden, answers, lives = [], [], Lives(core)
         for number, line in enumerate(lines, 2):
             self.hidden.append(core.redacted(line))
@@ -78,7 +78,7 @@ def one_of_four(rng, items, other):
 
 
 def sections_of(text):
-    """The lines of a text, each with its newline, those after one another of one name together."""
+    """The lines of a text, each with its newline; adjacent lines with the same name are a section."""
     sections = []
     for line in re.findall("[^\n]*\n", text):
         name = line.split(" ")[0]
@@ -89,7 +89,8 @@ def sections_of(text):
 
 
 def other_word(rng, place, words, section):
-    """A word for one of a line's: one near to it, from its place in another line of the section, of the line, or any."""
+    """Another word for one of a line: a number next to it, or a word from its place in another line of the section,
+    from the same line, or any."""
     lines = [line[:-1].split(" ") for line in section]
     some = [line[place] for line in rng.sample(lines, min(4, len(lines))) if place < len(line)]
     if re.fullmatch("[0-9]{1,9}", words[place]):
@@ -140,7 +141,7 @@ def once_damaged(rng, text):
 
 
 def damaged(rng, text):
-    """The text with one digit, word, line or section changed, dropped, doubled or swapped, or cut off; another text."""
+    """The text cut off, or with a digit, word, line or section changed, dropped, doubled or swapped; never the same."""
     other = text
     while other == text:
         other = once_damaged(rng, text)
@@ -151,7 +152,7 @@ def damaged(rng, text):
 
 
 class Program:
-    """The program on the traces of one configuration, with files for what it reads beside them."""
+    """The program on the traces of one configuration, with files for what else it reads."""
 
     def __init__(self, config, path):
         self.config, self.path = config, path
@@ -202,7 +203,7 @@ def blank_differs(rng, program, volume):
 
 
 def host_differs(rng, program, volume):
-    """What differs in a volume that is redacted of what the host writes to frames of active VMs too, or None."""
+    """What differs in a volume without what the host writes to frames of active VMs, which is redacted too, or None."""
     texts = ("from", volume.before), ("blank", blanked(volume.before))
     starts = [["--from", program.file(name, text)] for name, text in texts]
     if program.ran(volume.lines, "redact", "--host", *starts[rng.randrange(2)]) != (0, program.trace_of(volume.hidden), ""):
@@ -216,7 +217,7 @@ def host_differs(rng, program, volume):
 
 
 def end_differs(rng, program, volume):
-    """What differs where a volume is compared with another text than that of the state it leaves, or None."""
+    """What differs if a volume is compared with a text other than that of the state it leaves, or None."""
     other = volume.before if volume.before != volume.after and rng.random() < 0.3 else damaged(rng, volume.after)
     words = ["replay", "--from", program.file("from", volume.before), "--to", program.file("to", other)]
     said = volume.warning + ANOTHER
@@ -229,7 +230,7 @@ def end_differs(rng, program, volume):
 
 
 def damage_differs(rng, program, volume):
-    """What differs where a text is damaged, or None: it is refused for what is wrong with it, or is another state's."""
+    """What differs if a text is damaged, or None: it is refused for what is wrong with it, or is another state's."""
     text = damaged(rng, volume.before)
     fault, start = fault_of(text), ["--from", program.file("from", text)]
     if fault is None:
@@ -241,7 +242,7 @@ def damage_differs(rng, program, volume):
 
 
 def difference(case, program, told, remarks):
-    """What differs in a trace, of which custody tells this, that is cut into volumes, or None."""
+    """What differs if a trace with this custody is cut into volumes, or None."""
     config, lines = case
     rng = random.Random(config["cut_by"])
     volumes = volumes_of(rng, Core(config), lines, told, remarks)

@@ -1,6 +1,6 @@
-/* What is left of a page's bytes in memory when a session has ended, and in the memory that it gives back. Two calls each
- * write half of a secret into a page, so that only pages have it whole. Prints what is not as it should be. Linked with
- * --wrap=free. */
+/* What is left of a page's bytes in memory after a session has ended, and in the memory that it gives back. Two calls
+ * write half of a secret each into a page, so that only pages have it whole. Prints what is not as it should be. Linked
+ * with --wrap=free. */
 #include <kcore.h>
 #include <malloc.h>
 #include <stdio.h>
@@ -22,7 +22,7 @@ static int writes(kcore *core, const char *call, unsigned offset, const char *ha
     return ask(core, line) == KCORE_DONE && used == 5;
 }
 
-/* The halves, which are never side by side but in pages. */
+/* The halves, which are never side by side except in pages. */
 static const char front[] = "left after the end", back[] = " or given back";
 
 /* How often the second half follows the first between two places. */
@@ -42,7 +42,7 @@ void __wrap_free(void *block) {
     __real_free(block);
 }
 
-/* How often it is in what this process may write of its memory. */
+/* How often it is in the memory that this process may write to. */
 static int found(void) {
     FILE *maps = fopen("/proc/self/maps", "r");
     char line[512], rights[5];

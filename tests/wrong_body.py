@@ -1,4 +1,4 @@
-"""Reads the edits that give wrong bodies: of each the function that it turns, and where that one stands for rattle."""
+"""Reads the edits that make wrong bodies: which function each changes, and by which path rattle knows the function."""
 import dataclasses
 import pathlib
 import re
@@ -8,12 +8,12 @@ IMPL = re.compile(r"(?:unsafe )?impl(?:<.*?>)? (?:(\w+)(?:<(\w+).*>)? for )?(\w+
 
 
 class BadEdit(Exception):
-    """Why an edit gives no wrong body that could be tried."""
+    """Why an edit makes no wrong body that could be tried."""
 
 
 @dataclasses.dataclass(frozen=True)
 class Edit:
-    """A wrong body as it is written: its name, the file of the crate that it turns, and the lines after its name."""
+    """A wrong body as it is written: its name, the file of the crate that it changes, and the lines after its name."""
 
     crate: pathlib.Path
     name: str
@@ -39,8 +39,8 @@ class Function:
 
 @dataclasses.dataclass(frozen=True)
 class Body:
-    """A body that is tried, a wrong one or the right one: the whole text of its function, with the file that this stands
-    in and its path below the crate."""
+    """A body that is tried, a wrong one or the right one: the whole text of its function, the file that this is in, and
+    its path below the crate."""
 
     crate: pathlib.Path
     edit: str
@@ -94,12 +94,12 @@ def functions(text):
 
 
 def is_of_attribute(line):
-    """Returns whether a line above a function's head is of its attributes."""
+    """Returns whether a line above a function's head belongs to its attributes."""
     return bool(re.search(r"[^{};]$", line)) and not line.strip().startswith("//")
 
 
 def end_of(lines, start, depth):
-    """Returns the last line of a function: its brace at the depth of its head, or the semicolon where it has no body."""
+    """Returns the last line of a function: its brace at the depth of its head, or its semicolon if it has no body."""
     has_body = "{" in lines[start]
     if has_body and lines[start].endswith("}"):
         return start
@@ -111,7 +111,7 @@ def end_of(lines, start, depth):
 
 
 def bare(lines):
-    """Returns the code of lines without comments, and without space but in strings."""
+    """Returns the code of lines without comments, and without spaces except in strings."""
     code = re.sub(r"//[^\n]*", "", "\n".join(lines))
     return re.sub(r'("(?:[^"\\]|\\.)*")|\s+', lambda it: it[1] or "", code)
 
@@ -124,7 +124,7 @@ def head_of(lines):
 
 
 def outside(text, found):
-    """Returns the code of a file but for these functions, which are marked."""
+    """Returns the code of a file with a mark in place of each of these functions."""
     lines = text.split("\n")
     for it in reversed(found):
         lines[it.first : it.last + 1] = [f"fn {it.name}"]
@@ -132,7 +132,7 @@ def outside(text, found):
 
 
 def edits_of(crate):
-    """Returns the edits in a crate's wrong-bodies/. Those of src/PATH.rt stand in PATH.edits, with an empty line between
+    """Returns the edits in a crate's wrong-bodies/. Those of src/PATH.rt are in PATH.edits, with an empty line between
     them: a name on a line of its own, and the lines of the edit."""
     edits = []
     for file in sorted(it for it in (crate / "wrong-bodies").glob("**/*") if it.is_file()):
@@ -168,19 +168,19 @@ def applied(edit):
 
 
 def wrong_body(edit):
-    """Returns the wrong body that an edit makes of the one function whose body it turns."""
+    """Returns the wrong body that an edit makes of the one function whose body it changes."""
     crate, was = edit.crate, edit.path.read_text()
     now, without = applied(edit)
     old, new = functions(was), functions(now)
     if outside(was, old) != outside(now, new):
-        raise BadEdit("it turns what is outside of functions: such stand in must-fail/")
+        raise BadEdit("it changes what is outside functions: such edits belong in must-fail/")
     both = [(it, it.lines_of(was), other.lines_of(now)) for it, other in zip(old, new)]
     turned = [it for it in both if bare(it[1]) != bare(it[2])]
     if len(turned) != 1:
-        raise BadEdit(f"it turns {len(turned)} functions")
+        raise BadEdit(f"it changes {len(turned)} functions")
     function, right, wrong = turned[0]
     if head_of(right) != head_of(wrong):
-        raise BadEdit("it turns a signature or a clause")
+        raise BadEdit("it changes a signature or a clause")
     path = str(edit.path.relative_to(crate))
     where = place(crate, path, function)
     body = Body(crate, edit.name, path, function, tuple(wrong), where, without=without)
@@ -194,8 +194,8 @@ def wrong_body(edit):
 
 
 def without_answers(text, goals):
-    """Returns the text of an Answers.antt without the answers to some goals: the lines that begin with the goal's name, and
-    what goes on below them."""
+    """Returns the text of an Answers.antt without the answers to some goals: each is the line that begins with the
+    goal's name, and the lines that continue it."""
     kept, gone = [], False
     for line in text.split("\n"):
         head = re.match(r"(?:pub )?([^\s})\]]\S*)", line)
@@ -207,8 +207,9 @@ def without_answers(text, goals):
 
 
 def place(crate, path, function):
-    """Returns a function's path below the crate. A method is where its type is declared; one of a trait where the impl
-    is, under the names of the type, of the trait and of what the trait is applied to. Dropping is the type's own."""
+    """Returns a function's path below the crate. A method is in the module that declares its type. One of a trait is
+    in that of the impl, under the names of the type, of the trait and of what the trait is applied to; that of Drop is
+    under the type's name alone."""
     owner = IMPL.match(function.owner)
     if owner and not owner[1]:
         declares = re.compile(rf"(?m)^(?:pub(?:\([^)]*\))? )?(?:struct|enum) {owner[3]}\b")
@@ -217,7 +218,7 @@ def place(crate, path, function):
     modules = [it for it in pathlib.PurePath(path).with_suffix("").parts[1:] if it not in ("lib", "main", "mod")]
     names = []
     if owner:
-        # Of a name like u32x4 or u64, rattle's has a capital.
+        # In rattle's path, a name like u32x4 or u64 begins with a capital.
         own, trait, applied = (f"{it[:1].upper()}{it[1:]}" for it in (owner[3], owner[1] or "", owner[2] or ""))
         names = [own if trait == "Drop" else own + trait + applied]
     return (*modules, *names, function.name)

@@ -1,4 +1,4 @@
-/* A toy hypervisor: its guest reads pages, and each fault is asked of the core. The trace goes to standard output, for
+/* A toy hypervisor: its guest reads pages, and the core decides about each. The trace goes to standard output, for
  * `kcore replay`; what was asked and answered goes to standard error. */
 #include <kcore.h>
 #include <stdio.h>
@@ -11,7 +11,7 @@ static kcore core;
 static uint8_t *text;
 static size_t room;
 
-/* Asks the core. What is not answered ends the program. */
+/* Asks the core. If it does not answer, the program ends. */
 static const char *ask(const char *call) {
     size_t used;
     uint32_t status = kcore_call(&core, (const uint8_t *)call, strlen(call), text, room - 1, &used);
@@ -24,7 +24,7 @@ static const char *ask(const char *call) {
     return (const char *)text;
 }
 
-/* The guest reads a byte of a page. Where it has no such page, the hypervisor gives it a frame. */
+/* The guest reads a byte of a page. If it has no such page, the hypervisor gives it a frame. */
 static void guest_reads(unsigned page, unsigned frame) {
     char read[64], give[64];
     snprintf(read, sizeof read, "gread 0 0 %u 0 1", page);

@@ -17,14 +17,14 @@ double now(void) {
     return time.tv_sec * 1e6 + time.tv_nsec / 1e3;
 }
 
-/* A status that no caller of the monitor's can bring about. */
+/* Ends the program for a status that no caller of the monitor's can bring about. */
 static void expect(uint32_t status, const char *what) {
     if (status == KCORE_DONE) return;
     fprintf(stderr, "monitor: %s: status %u\n", what, (unsigned)status);
     exit(3);
 }
 
-/* The file of a volume: TRACE of the first, TRACE.N of volume N. */
+/* The file of a volume: TRACE for the first, TRACE.N for volume N. */
 static void volume_path(const struct core *core, unsigned volume, const char *end, char path[PATH_MAX]) {
     char number[16] = "";
     if (volume > 1) snprintf(number, sizeof number, ".%u", volume);
@@ -56,7 +56,7 @@ static void keep_state(struct core *core, unsigned volume) {
     if (munmap(text, room) || ftruncate(file, used) || close(file) || rename(part, path)) fail(path);
 }
 
-/* Each line is written at once, so that what is left of a monitor that is killed is a trace. */
+/* Writes each line at once, so that even a monitor that is killed leaves a trace. */
 static void write_trace(struct core *core) {
     uint32_t (*const line_of)(kcore *, size_t, uint8_t *, size_t, size_t *) =
         core->redacted ? kcore_redacted_line : kcore_line;
@@ -79,7 +79,7 @@ static void next_volume(struct core *core) {
 
 static bool is_full(const struct core *core) { return core->most && core->written > core->most; }
 
-/* What follows a call that was answered, before anything that it changed is done. */
+/* What follows a call that was answered, before anything that it changed is carried out. */
 static void answered(struct core *core, double begun) {
     write_trace(core);
     expect(kcore_changes(&core->session, core->changes, core->size.frames, &core->count), "kcore_changes");
@@ -98,7 +98,7 @@ static char *read_whole(const char *path, size_t *length) {
     return text;
 }
 
-/* Opens the session by the text of a state. */
+/* Opens the session from the text of a state. */
 static void resume(struct core *core, const char *path) {
     struct stat about;
     uint32_t place = 0, status;

@@ -171,7 +171,7 @@ static void begin_multiboot(struct kvm_sregs *s, struct kvm_regs *r) {
     *r = (struct kvm_regs){.rip = 0x10000, .rflags = 2};
 }
 
-/* A virtual processor begins as is said here: its registers are no less the guest's than its memory. */
+/* Sets how a virtual processor begins: its registers are no less the guest's than its memory. */
 static void set_registers(const struct vcpu *vcpu) {
     struct kvm_sregs s;
     struct kvm_regs r;
@@ -311,7 +311,7 @@ static bool answers(struct vcpu *vcpu) {
     case KVM_EXIT_MMIO: /* past the memory there is no device */
         if (!run->mmio.is_write) memset(run->mmio.data, 0xff, sizeof run->mmio.data);
         return true;
-    case KVM_EXIT_HLT: /* no interrupt comes: who takes some is woken for none, and another has ended */
+    case KVM_EXIT_HLT: /* no interrupt comes: one that takes interrupts is woken without any, another one has ended */
         if (run->if_flag) usleep(1000);
         return run->if_flag;
     default: report(vcpu); return false;

@@ -1,5 +1,5 @@
-/* The host: it loads images, supplies frames and, if it is hostile, tries what it may not. All that it does it does by
- * its two sockets and its own memory. */
+/* The host: it loads images, supplies frames and, if it is hostile, tries what it may not do. It does everything
+ * through its two sockets and its own memory. */
 #include "host.h"
 #include <errno.h>
 #include <fcntl.h>
@@ -130,7 +130,7 @@ static void supply(struct host *host, uint32_t vm, uint32_t vcpu, uint32_t gfn) 
         else if (!strcmp(reply, "refused not-host")) continue; /* given away in the storm */
         else if (frame == UINT32_MAX || !strcmp(reply, "refused tables-full"))
             printf("host: no frame for guest %u at %u, which waits: %s\n", vm, gfn, reply);
-        else ask(host, "give %u", frame); /* it waits for none any more, or was cleared */
+        else ask(host, "give %u", frame); /* it no longer waits, or was cleared */
         return;
     }
 }
@@ -139,7 +139,7 @@ static void clear(struct host *host, uint32_t vm) {
     if (is_done(ask(host, "clear %u", vm)) && vm < GUESTS) host->runs[vm] = false;
 }
 
-/* What it may not. */
+/* What it may not do. */
 
 /* What the host's memory has at a frame, as text. */
 static const char *text_at(const struct host *host, uint32_t frame) {
@@ -151,13 +151,13 @@ static const char *text_at(const struct host *host, uint32_t frame) {
     return text;
 }
 
-/* Goes for a frame by both doors: it asks the core, and it reads its memory. */
+/* Goes for a frame in both ways: it asks the core, and it reads its memory. */
 static void look(struct host *host, const char *what, uint32_t frame) {
     const char *reply = ask(host, "hfault %u", frame);
     printf("host: looks at %s: %s, its memory has \"%s\"\n", what, reply, text_at(host, frame));
 }
 
-/* A pipe keeps a page, as no mapping does. */
+/* Has a pipe keep a page, as no mapping does. */
 static void pin(struct host *host, uint32_t vm, uint32_t frame) {
     struct iovec page = {at(host, frame), PAGE};
     if (pipe(host->pipes[vm]) || vmsplice(host->pipes[vm][1], &page, 1, 0) != PAGE) stop("vmsplice");
@@ -171,7 +171,7 @@ static void read_pin(struct host *host, uint32_t vm) {
     close(host->pipes[vm][1]);
 }
 
-/* Lines that are no calls, or of nobody's: none may be done. */
+/* Sends lines that are not calls, or that it may not make: none may be done. */
 static void send_rubbish(struct host *host) {
     static const char *const lines[] = {"hfault", "hfault  1", "hfault 4294967296", "remap 0 0 4294967295",
                                         "remap 0 0 x", "run 0 9", "run 99 0", "regvm 4294967295", "clear 63",
@@ -182,10 +182,10 @@ static void send_rubbish(struct host *host) {
     memset(longest, 'a', sizeof longest);
     done += is_done(send_line(host, longest, sizeof longest));
     done += is_done(send_line(host, "take\0", 5));
-    printf("host: sends %u lines that are no call of its own: %u done\n", count + 2, done);
+    printf("host: sends %u lines that are not calls of its own: %u done\n", count + 2, done);
 }
 
-/* Doors beside the core: the monitor's memory, and KVM. */
+/* Tries ways around the core: the monitor's memory, and tracing the monitor. */
 static void try_doors(void) {
     char path[40];
     snprintf(path, sizeof path, "/proc/%d/mem", (int)getppid());
@@ -255,7 +255,7 @@ static void attack_revoked(struct host *host, uint32_t vm) {
     read_pin(host, vm);
 }
 
-/* A guest says how far it is, and waits. */
+/* A guest says how far it has come, and waits. */
 static void serve_notice(struct host *host, uint32_t vm, uint32_t number) {
     if (number == 2 || number == 5) read_letter(host, vm, number == 2);
     if (!host->plan->is_hostile) return;
@@ -290,7 +290,7 @@ static void send_by_chance(struct host *host) {
     send_line(host, line, length);
 }
 
-/* A call or a touch, whatever comes of it. Slots from 2 on are cleared too, while their guests run. */
+/* A random call or access, whatever comes of it. Slots from 2 on are also cleared, while their guests run. */
 static void storm_once(struct host *host) {
     uint32_t frame = by_chance(host, host->plan->frames), other = 2 + by_chance(host, 3), any = by_chance(host, 5);
     switch (by_chance(host, 16)) {

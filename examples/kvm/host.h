@@ -20,10 +20,10 @@ struct plan {
     struct boot boots[GUESTS];
     unsigned count;
     bool is_hostile;
-    unsigned storm; /* calls and touches by chance */
+    unsigned storm; /* random calls and accesses */
 };
 
-/* Boots the guests, supplies them with frames until all have ended, and exits. By `calls` a line is sent for each call,
- * and its reply received; by `events` lines come. Frame f is at f * 4,096 in the memory. */
+/* Boots the guests, supplies them with frames until all have ended, and exits. Through `calls` a line is sent for each
+ * call, and its reply received; through `events` lines come. Frame f is at f * 4,096 in the memory. */
 _Noreturn void host_main(int memory, int calls, int events, const struct plan *plan);
 #endif

@@ -1,6 +1,6 @@
 #!/usr/bin/env python3
-"""Writes the configuration of a machine to standard output, as docs/TEXTS.md has it, that approves boot files: each MiB
-of them is an image.
+"""Writes to standard output the configuration of a machine (docs/TEXTS.md) that approves these boot files: each MiB of
+them is an image.
 
 usage: machine.py FRAMES HOST FILE..   HOST is how many frames the host has at boot
 """

@@ -1,9 +1,9 @@
 /* The MMU: it follows the record of each frame, and knows nothing else.
  *
  * The bytes of a frame are in the host's file exactly while the record says that the host reaches it, and those of a
- * guest's other frames in the guest's file. They cross by copy, and the old page is punched out: a page that the host
- * has pinned (in a pipe, for a disk) never becomes a guest's. While a page moves it is protected against writing, so
- * that no write of another virtual processor is lost. */
+ * guest's other frames in the guest's file. They move by being copied, and the old page is punched out: a page that the
+ * host has pinned (in a pipe, for a disk) never becomes a guest's. While a page moves it is protected against writing,
+ * so that no write of another virtual processor is lost. */
 #include "monitor.h"
 #include <errno.h>
 #include <fcntl.h>
@@ -77,7 +77,7 @@ static struct memory *memory_of(struct mmu *mmu, const kcore_record *record) {
     return record->owner == KCORE_VM ? mmu->of[record->vm] : NULL;
 }
 
-/* Does what a change says: a frame's bytes go from one place to another, and it stays a guest's, becomes a guest's or
+/* Carries out a change: a frame's bytes go from one place to another, and it stays a guest's, becomes a guest's or
  * leaves a guest. */
 static void follow(struct mmu *mmu, const kcore_frame_change *change, const uint8_t *copy) {
     enum place from = place_of(&change->before), to = place_of(&change->after);
@@ -110,7 +110,7 @@ void mmu_zero_end(struct mmu *mmu, uint32_t vm, uint32_t gfn, uint32_t offset) {
     if (pwrite(mmu->of[vm]->pages, zero, length, offset_of(gfn) + offset) != length) fail("a page is not written");
 }
 
-/* A file in memory, whose size nobody changes. */
+/* A file in memory, whose size nobody can change. */
 static int open_pages(const char *name, uint32_t count) {
     int file = memfd_create(name, MFD_CLOEXEC | MFD_ALLOW_SEALING);
     if (file < 0 || ftruncate(file, offset_of(count)) ||
@@ -164,7 +164,7 @@ void memory_close(struct memory *memory) {
 
 /* The comparison. It asks the kernel what is mapped where and what each file has, not what was done. */
 
-/* What a guest sees at a guest frame: its own file's page there; as N + 1, the host's page of frame N; else another. */
+/* What a guest sees at a guest frame: its own file's page there; as N + 1, the host's page of frame N; or another. */
 enum { OWN = 0, ELSE = UINT32_MAX };
 
 static bool is_file(int file, unsigned long long inode) {
@@ -173,7 +173,7 @@ static bool is_file(int file, unsigned long long inode) {
     return it.st_ino == inode;
 }
 
-/* Marks what a guest sees by a mapping of this process, which a line of /proc/self/maps is. */
+/* Marks what a guest sees by a mapping of this process, given as a line of /proc/self/maps. */
 static void mark(struct mmu *mmu, struct memory *memory, const char *line, uint32_t *seen) {
     unsigned long long begin, end, offset, inode, base = (uintptr_t)memory->seen;
     if (sscanf(line, "%llx-%llx %*s %llx %*s %llu", &begin, &end, &offset, &inode) != 4) return;

@@ -32,7 +32,7 @@ struct options {
     enum mode modes[GUESTS];
 };
 
-/* What runs if no guest is named, if it is there. */
+/* What runs if no guest is named, as far as it exists. */
 static const char *const usual[][2] = {{"out/talk", "bare:out/talk@0*2"},
                                        {"out/talk", "bare:out/talk@0*2"},
                                        {"out/bios", "bios:out/bios@0xe0"},
@@ -108,14 +108,14 @@ static struct options read_options(char **words) {
 
 /* The host's process. */
 
-/* Gives up what an untrusted process has: its user, if that is root, and what it could get by other programs. */
+/* Gives up what an untrusted process may not have: its user, if that is root, and what other programs could give it. */
 static void give_up(void) {
     if (!geteuid() && (setgroups(0, NULL) || setresgid(NOBODY, NOBODY, NOBODY) || setresuid(NOBODY, NOBODY, NOBODY)))
         fail("the host's user");
     if (prctl(PR_SET_NO_NEW_PRIVS, 1, 0, 0, 0) || prctl(PR_SET_PDEATHSIG, SIGKILL)) fail("the host's process");
 }
 
-/* Starts it, before this process has anything that it could inherit. Returns the socket of its calls. */
+/* Starts it, before this process has anything that it could inherit. *calls is the socket of its calls. */
 static pid_t start_host(struct monitor *monitor, const struct plan *plan, int *calls) {
     int call_ends[2], event_ends[2];
     if (socketpair(AF_UNIX, SOCK_SEQPACKET | SOCK_CLOEXEC, 0, call_ends) ||
@@ -151,7 +151,7 @@ void monitor_event(struct monitor *monitor, const char *name, const struct vcpu 
 
 /* The host's calls. */
 
-/* Whether a line is this call, with `count` numbers. Whether it is a call at all the core decides. */
+/* Whether a line is this call, with `count` numbers. The core decides whether it is a call at all. */
 static bool is_call(const char *line, const char *name, unsigned count, uint32_t *numbers) {
     size_t length = strlen(name);
     if (strncmp(line, name, length)) return false;
@@ -168,8 +168,8 @@ static bool is_call(const char *line, const char *name, unsigned count, uint32_t
     return !*at;
 }
 
-/* Before a page of an image is handed over it is copied, and the core gets that copy: so the guest has what is
- * measured, whatever the host writes meanwhile. Returns whether there is one. */
+/* Copies a page of an image before it is handed over. The core gets that copy, so the guest has what is measured,
+ * whatever the host writes meanwhile. Returns whether there is such a page. */
 static bool copy_page(struct monitor *monitor, uint32_t frame, uint8_t *copy) {
     if (frame >= monitor->core.size.frames) return false;
     kcore_record record = core_record_of(&monitor->core, frame);
@@ -183,7 +183,7 @@ static bool copy_page(struct monitor *monitor, uint32_t frame, uint8_t *copy) {
     return true;
 }
 
-/* What the monitor keeps of a call that was done, beside what the MMU follows. */
+/* Keeps what the monitor needs of a call that was done, besides what the MMU follows. */
 static void note(struct monitor *monitor, const char *line, const char *reply) {
     uint32_t n[3];
     bool is_done = !strcmp(reply, "done");
@@ -212,8 +212,8 @@ static const char *answer(struct monitor *monitor, const char *line, size_t leng
     return reply;
 }
 
-/* Receives a line, and sends the reply. Returns whether the host is there, and has room for it. A message that is
- * longer than the buffer is cut off, and still longer than any call. */
+/* Receives a line, and sends the reply. Returns whether the host is still there, and has room for it. A message that is
+ * longer than the buffer is cut off, and is still longer than any call. */
 static bool serve(struct monitor *monitor, int calls) {
     char line[LONGEST_MESSAGE + 1];
     ssize_t length = recv(calls, line, LONGEST_MESSAGE, 0);
@@ -313,7 +313,7 @@ static void open_kvm(struct monitor *monitor) {
     monitor->run_size = size;
 }
 
-/* Takes up the core of a monitor that was killed, in a state that this one kept. The processors of its guests are gone
+/* Takes up the core of a monitor that was killed, in a state that it had kept. The processors of its guests are gone
  * with it, so all guests are cleared: their frames are zeroed and given back. */
 static int take_up(const struct options *options) {
     struct core core = {.keeps_states = options->keeps_states};
@@ -334,7 +334,7 @@ int main(int count, char **words) {
     struct monitor monitor = {.lock = PTHREAD_MUTEX_INITIALIZER, .moved = PTHREAD_COND_INITIALIZER};
     memcpy(monitor.modes, options.modes, sizeof options.modes);
     setvbuf(stdout, NULL, _IOLBF, 0);
-    if (prctl(PR_SET_DUMPABLE, 0, 0, 0, 0)) fail("prctl"); /* not even the same user looks into this process */
+    if (prctl(PR_SET_DUMPABLE, 0, 0, 0, 0)) fail("prctl"); /* not even the same user may look into this process */
     monitor.core.most = options.calls;
     monitor.core.keeps_states = options.keeps_states;
     core_open(&monitor.core, options.configuration, false);

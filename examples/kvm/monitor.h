@@ -1,5 +1,6 @@
 /* A monitor of real virtual machines under Linux KVM: which page is whose is decided by kcore, and by nothing here.
- * docs/MONITOR.md says how its parts fit. One lock, the monitor's, is held round each call and what it changes. */
+ * docs/MONITOR.md says how its parts fit together. One lock, the monitor's, is held during each call and until what it
+ * changed is carried out. */
 #ifndef MONITOR_H
 #define MONITOR_H
 #include <kcore.h>
@@ -29,31 +30,31 @@ struct core {
     int trace;
     unsigned volume;
     size_t written; /* lines of the volume that are in its file */
-    size_t most;    /* calls of a volume, if not as many as it holds */
+    size_t most;    /* calls of a volume; 0 for as many as it holds */
     bool redacted, keeps_states;
     uint64_t calls;
     double asking; /* microseconds in the core, and in writing the trace */
 };
 
-/* In the boot state of a configuration, or in the state that a text tells. */
+/* Opens a core in the boot state of a configuration, or in the state of a text. */
 void core_open(struct core *core, const char *path, bool is_state);
-/* Begins the trace, which each call is written to, and keeps the states in which its volumes begin, if they are kept. */
+/* Begins the trace, to which each call is written, and keeps the states in which its volumes begin, if asked for. */
 void core_trace(struct core *core, const char *trace, bool redacted);
 void core_close(struct core *core);
 
-/* Asks a line of the host's. Returns the reply, or why there is none, which stays until the next call. Then the line is
- * in the trace, and what it changed in `changes`. */
+/* Makes the call on a line of the host's. Returns the reply, or why there is none, which stays until the next call.
+ * Then the line is in the trace, and what it changed in `changes`. */
 const char *core_ask(struct core *core, const char *line, size_t length);
 
-/* Makes a call of virtual processor `vcpu` of slot `vm` or, for KCORE_NONE, of the host, and for a write with a page of
- * bytes, else NULL. */
+/* Makes a call of virtual processor `vcpu` of slot `vm` or, for KCORE_NONE, of the host. `page` is the page of bytes of
+ * a write, else NULL. */
 kcore_answer core_do(struct core *core, uint32_t vm, uint32_t vcpu, kcore_request request, const uint8_t *page);
 
 kcore_record core_record_of(struct core *core, uint32_t frame);
 
 /* The MMU (mmu.c): where the bytes of frames are, and who sees them. */
 
-/* What a guest sees: its private pages, each at its guest frame, and in between the host's that it shares. */
+/* What a guest sees: its private pages, each at its guest frame, and in between those of the host's that it shares. */
 struct memory {
     int pages; /* the file of the private ones */
     uint8_t *seen;
@@ -79,8 +80,8 @@ void memory_close(struct memory *memory);
 /* Lets whoever waits at a guest frame try again. */
 void memory_wake(struct memory *memory, uint32_t gfn);
 
-/* Does what a call changed. If a page of the host's goes to a guest, `copy` has its bytes, or is NULL: then they are
- * read now. */
+/* Carries out what a call changed. If a page of the host's goes to a guest, `copy` has its bytes, or is NULL: then they
+ * are read now. */
 void mmu_follow(struct mmu *mmu, const kcore_frame_change *changes, size_t count, const uint8_t *copy);
 void mmu_read_host(struct mmu *mmu, uint32_t frame, uint8_t *bytes);
 /* Zeroes the bytes of a private page from an offset on. */
@@ -99,7 +100,7 @@ struct devices {
 void device_out(struct devices *devices, unsigned vm, uint16_t port, uint32_t value);
 uint32_t device_in(struct devices *devices, uint16_t port);
 
-/* Guests (guest.c): the life of a VM, from its registering until it is cleared and its threads are gone. */
+/* Guests (guest.c): the life of a VM, from its registration until it is cleared and its threads are gone. */
 
 /* How its virtual processors begin. The host has no say in it. */
 enum mode { BARE, BIOS, MULTIBOOT };

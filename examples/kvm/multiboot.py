@@ -1,6 +1,6 @@
 #!/usr/bin/env python3
-"""Makes what the monitor boots of a multiboot kernel (ELF, perhaps compressed by gzip): OUT, its segments as they are in
-memory with their zeros, and OUT.boot, a page that is loaded at guest frame 0x10: a few instructions that load the
+"""Makes what the monitor boots from a multiboot kernel (ELF, perhaps compressed by gzip): OUT, its segments as they are
+in memory with their zeros, and OUT.boot, a page that is loaded at guest frame 0x10: a few instructions that load the
 registers that the kernel wants and jump to it, the multiboot information, and the command line.
 
 usage: multiboot.py KERNEL OUT COMMAND-LINE   prints the first guest frame of OUT
@@ -16,7 +16,7 @@ LOADED = 1
 
 
 def segments(elf, is_wide):
-    """Of each segment that is loaded: its physical address and its bytes."""
+    """For each segment that is loaded: its physical address and its bytes."""
     (start,) = struct.unpack_from("<Q" if is_wide else "<I", elf, 32 if is_wide else 28)
     size, count = struct.unpack_from("<HH", elf, 54 if is_wide else 42)
     for at in range(start, start + size * count, size):

@@ -2,9 +2,9 @@
 """The trusted core from Python: a session of libkcore, by ctypes over a shared object, which 'make' builds.
 
 The example below answers a trace on standard input, line by line, and prints the replies, as kcore replay does. With
---changes, what each call changed of the custody of frames comes before its reply.
+--changes, what each call changed in the custody of frames comes before its reply.
 
-usage: kcore.py [--changes] CONFIGURATION < TRACE     LIBKCORE_SO names the shared object; else out/libkcore.so is
+usage: kcore.py [--changes] CONFIGURATION < TRACE     LIBKCORE_SO names the shared object (default: out/libkcore.so)
 """
 import ctypes
 import os
@@ -46,7 +46,7 @@ class KCoreError(Exception):
 
 
 class Session:
-    """A core, and the volume of the calls that it answered. One thread at a time uses it; with 'with' it is ended."""
+    """A core, and the volume of the calls that it answered. One thread at a time may use it; 'with' ends it."""
 
     def __init__(self, configuration, library=None):
         place = library or os.environ.get("LIBKCORE_SO") or pathlib.Path(__file__).resolve().parent / "out" / "libkcore.so"
@@ -76,12 +76,12 @@ class Session:
 
     def call(self, line, asker=None):
         """The reply to a call as a trace spells it, without newlines. The asker is a slot and a virtual processor, or
-        (NONE, 0) for the host, whose call it then has to be; None does not test who asks."""
+        (NONE, 0) for the host, whose call it then has to be; with None, who asks is not checked."""
         name, who = ("call_by", [ctypes.c_uint32(it) for it in asker]) if asker else ("call", [])
         return self.bytes_of(name, *who, line, ctypes.c_size_t(len(line))).removesuffix(b"\n")
 
     def changes(self):
-        """What the last call changed of the custody of frames."""
+        """What the last call changed in the custody of frames."""
         made, count = (Change * self.sizes().frames)(), ctypes.c_size_t()
         self.ask("changes", made, ctypes.c_size_t(len(made)), ctypes.byref(count))
         return made[: count.value]

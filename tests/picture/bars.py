@@ -1,4 +1,4 @@
-"""The bars of a picture: all that the rules say and no other, their looks and their names."""
+"""The bars of a picture: all that the rules say and no others, their looks and their names."""
 import collections
 import re
 
@@ -10,16 +10,16 @@ from picture.told import title_of
 
 class Bars(Case):
     def rows_of_bars(self):
-        """All bars are there and no other, each where it should be; where the row of each frame begins and ends."""
+        """All bars are there and no others, each where it should be. Returns where each frame's row begins and ends."""
         drawn = [it for it in self.picture.titles if it.startswith("frame")]
         wanted = {title_of(it): it for it in self.bars}
         lacking, more = wanted.keys() - set(drawn), set(drawn) - wanted.keys()
-        said = f"bars that are lacking: {sorted(lacking)[:3]}, and that are none: {sorted(more)[:3]}"
+        said = f"bars that are missing: {sorted(lacking)[:3]}, and that should not be there: {sorted(more)[:3]}"
         want(not lacking and not more, said)
         rows = {}
         for title, bar in wanted.items():
             first, *parts = self.picture.titles[title]
-            want(first.kind == "rect", f"'{title}' is no rectangle")
+            want(first.kind == "rect", f"'{title}' is not a rectangle")
             left, top, right, bottom = first.box
             is_there = self.is_at(left, bar.first) and self.is_at(right, bar.last + 1)
             want(is_there, f"'{title}' is drawn from {left} to {right}")
@@ -30,7 +30,7 @@ class Bars(Case):
         return rows
 
     def try_bars(self):
-        """The bars of all frames are in rows, by the frames' numbers."""
+        """The bars of all frames are in rows, in the order of the frames' numbers."""
         rows = self.rows_of_bars()
         order = [rows[it] for it in sorted(rows)]
         want(all(one[1] <= other[0] for one, other in zip(order, order[1:])), "the rows of frames meet, or do not rise")
@@ -55,9 +55,9 @@ class Bars(Case):
             title = title_of(bar)
             first, *others = self.picture.titles[title]
             fill = first.looks["fill"]
-            want(colours.setdefault(bar.owner, fill) == fill, f"'{title}' has another colour than its owner's")
+            want(colours.setdefault(bar.owner, fill) == fill, f"'{title}' has a colour other than its owner's")
             is_hatched = any(it.looks["fill"].startswith("url(") and it.box == first.box for it in others)
-            want(is_hatched == (bar.share > 0), f"'{title}' is {'not' if bar.share else 'to be not'} hatched")
+            want(is_hatched == (bar.share > 0), f"'{title}' is {'not' if bar.share else 'wrongly'} hatched")
             wide = (first.box[0], first.box[2])
             has_foot = any(it.looks["fill"] == INK and (it.box[0], it.box[2]) == wide for it in others)
             want(has_foot == bar.present, f"'{title}' has {'no' if bar.present else 'a'} foot")
@@ -66,7 +66,7 @@ class Bars(Case):
             want(colour_of(owner) in (None, fill), f"{owner} has the colour {fill}")
 
     def try_names(self):
-        """Words within a bar name its owner, and are read on what is below them."""
+        """Words within a bar name its owner, and can be read on what is below them."""
         rows = collections.defaultdict(list)
         for it in self.bars:
             left, top, right, bottom = self.picture.titles[title_of(it)][0].box
@@ -84,7 +84,7 @@ class Bars(Case):
                 want(is_read, f"'{it.element.text}' is written in {fill} on {under}")
 
     def fill_below(self, shape, x, y):
-        """The colour that is drawn at a point before a shape."""
+        """The colour at a point before a shape is drawn there."""
         for it in reversed(self.picture.shapes[: self.places[id(shape.element)]]):
             left, top, right, bottom = it.box
             if it.kind == "rect" and left < x < right and top < y < bottom:

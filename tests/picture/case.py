@@ -1,4 +1,4 @@
-"""A picture beside what the rules say of its trace: its headings, its axis and its legend."""
+"""A picture and what the rules say of its trace: its headings, its axis and its legend."""
 import collections
 import functools
 import re
@@ -15,7 +15,7 @@ def count_of(number, name):
 
 
 class Case:
-    """A picture, perhaps of one VM alone, and what the rules say of its trace; and what its foot is to say."""
+    """A picture, perhaps of one VM alone, what the rules say of its trace, and what its foot has to say."""
 
     def __init__(self, picture, config, told, reported, vm, foot):
         self.picture, self.config, self.told, self.vm, self.foot = picture, config, told, vm, foot
@@ -88,7 +88,7 @@ class Case:
         return f"Frames of vm {self.vm}, by number"
 
     def try_foot(self):
-        """Its last words, below all else, say of what it is; above them one of all VMs says what it lacks."""
+        """Its last words, below all else, say what it is of; above them, a picture of all VMs says what it lacks."""
         *before, last = self.picture.texts
         want(last.element.text == self.foot, f"its foot is '{last.element.text}'")
         want(all(it.box[3] < last.box[1] for it in self.picture.shapes if it is not last and it.kind != "rect"),
@@ -129,7 +129,7 @@ class Case:
         want(len(marks) >= min(4, self.last), f"the axis has only {sorted(marks)}")
 
     def try_legend(self):
-        """Each word of the legend has a sample to its left which is what it says, and is said where it is needed."""
+        """Each word of the legend has a sample to its left that is what it says, and is there if it is needed."""
         wanted = self.samples()
         axis = max(it.box[3] for it in self.picture.texts if it.element.text.startswith("line of the trace"))
         below = [it for it in self.picture.shapes if it.box[1] > axis]
@@ -167,7 +167,7 @@ class Case:
         return words
 
     def hue_of_legend(self):
-        """The colour that the legend says is that of a VM which never had a frame."""
+        """The colour that the legend gives for a VM that never had a frame."""
         word = next((it for it in self.picture.texts if it.element.text == "the VM's"), None)
         if word is None:
             return None

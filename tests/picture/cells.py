@@ -10,7 +10,7 @@ from picture.told import lines_in
 
 
 def painted(picture, plot, rows, columns):
-    """Of each cell the colour in its upper half and that at its foot, as shapes are drawn over each other."""
+    """For each cell, the colour in its upper half and that at its foot, as shapes are drawn over each other."""
     left, top, right, bottom = plot
     width, height = (right - left) / columns, (bottom - top) / rows
     shown = [[["#ffffff", "#ffffff"] for _ in range(columns)] for _ in range(rows)]
@@ -46,8 +46,8 @@ class Cells(Case):
 
     @functools.cached_property
     def weights(self):
-        """How much each owner has of each cell, a frame's line being as many parts as there are columns; in which cells
-        a frame is shared; and how many parts the cells of each row have."""
+        """How many parts of each cell each owner has (a frame's line has as many parts as there are columns); in which
+        cells a frame is shared; and how many parts the cells of each row have."""
         _, rows, columns = self.grid
         parts = [[collections.Counter() for _ in range(columns)] for _ in range(rows)]
         shared, size = [[False] * columns for _ in range(rows)], [0] * rows
@@ -81,7 +81,7 @@ class Cells(Case):
         return {nearer(255, SEVERAL if whose == "several" else colour_of_vm(whose), PALER[5 * vms // size[row]])}
 
     def try_cells(self):
-        """Each cell has its colour, and is underlined where a VM shared any of it."""
+        """Each cell has its colour, and is underlined if a VM shared any of it."""
         plot, rows, columns = self.grid
         shown = painted(self.picture, plot, rows, columns)
         parts, shared, size = self.weights
@@ -92,8 +92,8 @@ class Cells(Case):
                 raise Wrong(f"{at} is {fill} and {'' if mark == INK else 'not '}underlined")
 
     def try_titles_of_cells(self):
-        """Each cell has one title, which says its frames, the lines that fall into it and its neighbours of the same
-        kind, and whose they are."""
+        """Each cell has one title, which names its frames, the lines that fall into it and its neighbours of the same
+        kind, and says whose they are."""
         plot, rows, columns = self.grid
         left, top, right, bottom = plot
         titled = collections.Counter()
@@ -142,7 +142,7 @@ class Cells(Case):
         want(drawn == wanted, f"edges that are lacking or too many: {sorted(drawn ^ wanted)[:4]}")
 
     def try_rows(self):
-        """The numbers of some frames, from the first to the last rows, are each beside its row."""
+        """The numbers of some frames, from the first rows to the last, are beside their rows."""
         (left, top, _, bottom), rows, _ = self.grid
         frames, numbered = self.config["frames"], []
         for it in self.picture.texts:

@@ -57,5 +57,5 @@ def lab(colour):
 
 
 def distance(one, other):
-    """How far two colours are apart in CIELAB; less than some 2.3 is not seen."""
+    """How far apart two colours are in CIELAB; less than about 2.3 is not seen."""
     return sum((a - b) ** 2 for a, b in zip(lab(one), lab(other))) ** 0.5

@@ -13,14 +13,14 @@ MOST_LANES_WITH_WORDS, SINGLE_LIVES = 6, 40
 class Lanes(Case):
     @functools.cache
     def height_of_lane(self, vm):
-        """From the top of a lane to its base line, as high as any life in it."""
+        """How high a lane is from its base line to its top: as high as each life in it."""
         tops = {it.box[1] for title, shapes in self.picture.titles.items() for it in shapes
                 if title.startswith(f"vm {vm}:") and it.looks["fill"] == LIFE}
         want(len(tops) == 1, f"lives in the lane of vm {vm} begin at {tops}")
         return self.bases[vm] - tops.pop()
 
     def try_lives(self):
-        """Each VM that ever was has a lane, with its lives and the marks of each, or with lives that are joined."""
+        """Each VM that ever existed has a lane, with its lives and the marks of each, or with lives that are joined."""
         want(set(self.bases) == set(self.lives), f"there are lanes of {sorted(self.bases)}")
         drawn = [it for it in self.picture.titles if it.startswith("vm ") and "dead" not in it.split(":")[0]]
         wanted = set()
@@ -33,7 +33,7 @@ class Lanes(Case):
         want(set(drawn) - deaths == wanted, f"lanes lack or have {sorted((set(drawn) - deaths) ^ wanted)[:4]}")
 
     def try_groups(self, vm, lives, joined):
-        """Each life is drawn by itself, or is one of several that are drawn as one; the titles that are wanted."""
+        """Each life is drawn by itself, or is one of several that are drawn as one. Returns the wanted titles."""
         groups = {int(first): (int(count), int(last), it) for it in joined
                   for count, first, last in [re.findall(r"\d+", it)[1:]]}
         wanted, at = set(), 0
@@ -73,7 +73,7 @@ class Lanes(Case):
             want(is_high, f"'{title}' is {bottom - top} high")
 
     def deaths_of(self, vm):
-        """The marks of dead VMs in a lane: the lines of the first and the last of each, and its shape."""
+        """The marks of dead VMs in a lane: of each, its first and last line, how many VMs it is of, and its shape."""
         found = []
         for title, shapes in self.picture.titles.items():
             if not title.startswith(f"vm {vm}"):
@@ -87,7 +87,7 @@ class Lanes(Case):
         return sorted(found, key=lambda it: it[0])
 
     def try_deaths(self):
-        """Each boot that was rejected has a mark, the loudest: in its own colour, wider, higher, above all else."""
+        """Each rejected boot has a mark, the most conspicuous: in its own colour, wider, higher, above all else."""
         for vm, lives in self.lives.items():
             lines = [it.dead for it in lives if it.dead and it.dead > 1]
             for first, last, count, shape in self.deaths_of(vm):
@@ -142,8 +142,9 @@ class Lanes(Case):
                     want(any(abs(x - at) <= 70 for _, at, *_ in words), f"the mark of vm {vm} at {x} has no word")
 
     def try_heights(self):
-        """Lanes are in each column as high as the VM has frames on a line that falls into it, at most, and of them
-        shares. A column is a line, or, of a long trace, a point; the lane with most frames is as high as lanes are."""
+        """In each column, a lane is as high as the most frames that the VM has on a line that falls into it, and its
+        shared part as the most that it shares. A column is a line, or, of a long trace, a point; the lane with the most
+        frames is as high as lanes are."""
         columns = min(self.last, PLOT)
         top = max((step.frames for vm in self.lives for step in self.told.steps[vm]), default=0)
         for vm in self.bases:
@@ -162,7 +163,7 @@ class Lanes(Case):
                         raise Wrong(f"{at} is {high} high for {count} of {top} {which}")
 
     def columns_of(self, paths, columns):
-        """How low a path is in each column over which it goes."""
+        """How low a path is in each column that it crosses."""
         drawn = {}
         for path in paths:
             for begin, y, end in levels_of(path.element.get("d")):
@@ -175,8 +176,8 @@ class Lanes(Case):
         return drawn
 
     def try_underlines(self):
-        """A lane is underlined along each column into which a line falls on which the VM shares a frame, and no other;
-        by a line that is longer than its columns at both ends, by half its width."""
+        """A lane is underlined along each column that has a line on which the VM shares a frame, and along no other.
+        The underline is longer than its columns at both ends, by half its width."""
         columns = min(self.last, PLOT)
         for vm, base in self.bases.items():
             below = [it for it in self.picture.shapes if it.kind == "path" and is_near(it.box[3], base + 2)]

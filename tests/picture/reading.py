@@ -33,10 +33,10 @@ def number(element, key):
 
 
 class Picture:
-    """All that is drawn, in order; and by title the shapes that have it."""
+    """All that is drawn, in order; and for each title, the shapes that have it."""
 
     def __init__(self, text):
-        want(text.isascii() and text.endswith(b"\n"), "it is no text of ASCII")
+        want(text.isascii() and text.endswith(b"\n"), "it is not a text in ASCII")
         self.root = xml.etree.ElementTree.fromstring(text)
         self.width, self.height = number(self.root, "width"), number(self.root, "height")
         self.shapes, self.titles = [], collections.defaultdict(list)
@@ -44,7 +44,7 @@ class Picture:
         self.texts = [it for it in self.shapes if it.kind == "text"]
 
     def walk(self, element, inherited, title):
-        """Goes over an element and what it has in it, with the attributes that it has of those round it."""
+        """Goes over an element and those in it, with the attributes that it inherits from those around it."""
         looks = inherited | {key: element.get(key) for key in LOOKS if element.get(key)}
         own = next((it.text for it in element if name_of(it) == "title"), title)
         title = own if element is not self.root else None
@@ -63,9 +63,9 @@ class Picture:
     def try_form(self):
         """It is an SVG of plain shapes within its edges, with nothing from elsewhere."""
         root = self.root
-        want(root.tag == "{http://www.w3.org/2000/svg}svg" and root.get("version") == "1.1", "it is no SVG 1.1")
+        want(root.tag == "{http://www.w3.org/2000/svg}svg" and root.get("version") == "1.1", "it is not SVG 1.1")
         box = f"0 0 {root.get('width')} {root.get('height')}"
-        want(root.get("viewBox") == box, "it has another view box than its size")
+        want(root.get("viewBox") == box, "its view box is not its size")
         names = {it.get("id") for it in root.iter()}
         for it in root.iter():
             want(name_of(it) in ELEMENTS, f"it has a {it.tag}")
@@ -85,7 +85,7 @@ def box_of_rect(it):
 
 
 def box_of_text(it):
-    """About where a text is: a letter is some half of its size wide."""
+    """About where a text is: a letter is about half as wide as its size."""
     x, y, size = (number(it, key) for key in ("x", "y", "font-size"))
     width = 0.5 * size * len(it.text)
     x -= {"start": 0, "middle": width / 2, "end": width}[it.get("text-anchor", "start")]

@@ -20,7 +20,7 @@ class Rows(Case):
         return list(dict.fromkeys(it.frame for it in self.bars)) if self.has_bars else []
 
     def place(self):
-        """Where the row of other calls begins, where that of the first frame does, and how high each of these is."""
+        """Where the row of other calls begins, where that of the first frame begins, and how high a frame's row is."""
         said = "other calls" if self.has_bars else "calls"
         name = next(it.element for it in self.picture.texts if it.element.text == said)
         want(number(name, "x") < LEFT, f"'{said}' is at {number(name, 'x')}")
@@ -28,7 +28,7 @@ class Rows(Case):
         return top, top + 18, next(high for most, high in ((16, 22), (64, 12), (250, 7), (1000, 4)) if count <= most)
 
     def try_rows_of_vm(self):
-        """Each frame of the VM's has a row with its bars, in the order in which they came."""
+        """Each of the VM's frames has a row with its bars, in the order in which they came."""
         drawn, (_, top, high) = self.rows_of_bars(), self.place()
         for at, frame in enumerate(self.frames()):
             begin, end = top + at * high, top + (at + 1) * high
@@ -51,7 +51,7 @@ class Rows(Case):
         want(numbered == [*range(0, len(frames), step)], f"rows {numbered[:9]} have numbers, and not each of {step}")
 
     def try_underlined_rows(self, top, high):
-        """Each row is underlined where its frame is shared, by a line that is longer than that at both ends."""
+        """Each row is underlined where its frame is shared, by a line that is longer than the share at both ends."""
         wanted, drawn = collections.defaultdict(list), collections.defaultdict(list)
         for it in self.bars:
             if it.share:
@@ -68,7 +68,7 @@ class Rows(Case):
             want(all(near) and len(stretches) == len(drawn[frame]), f"the row of frame {frame} is underlined elsewhere")
 
     def wanted_marks(self):
-        """By row and kind the lines that have marks there, with their titles."""
+        """By row and kind, the lines that have marks there, with their titles."""
         rows, wanted = {frame: at for at, frame in enumerate(self.frames())}, collections.defaultdict(list)
         for line in self.remarks:
             is_access = "vm" in line
@@ -79,7 +79,7 @@ class Rows(Case):
         return wanted
 
     def drawn_marks(self):
-        """By row and kind the marks that are drawn, from left to right."""
+        """By row and kind, the marks that are drawn, from left to right."""
         drawn, (above, top, high) = collections.defaultdict(list), self.place()
         for it in self.picture.shapes:
             one = re.match(r"line \d+: (\w+) (of|refused|rejected)", it.title or "")
@@ -94,7 +94,7 @@ class Rows(Case):
         return {place: sorted(marks, key=lambda it: it[0].box[0]) for place, marks in drawn.items()}
 
     def try_look(self, shape, kind, row):
-        """A mark looks as its kind, and is as high as its row, or, of a rejected boot, as all."""
+        """A mark looks like its kind, and is as high as its row, or, if it is of a rejected boot, as all rows."""
         looks = shape.kind, shape.looks["fill"], shape.looks["stroke"]
         want(looks == LOOKS[kind], f"the mark '{shape.title}' looks {looks}")
         _, top, _, bottom = shape.box
@@ -109,8 +109,8 @@ class Rows(Case):
             want(is_near(top, row[0]) and is_near(bottom, row[1]), f"the mark '{shape.title}' is {bottom - top} high")
 
     def try_marks(self):
-        """Each line of what was refused or served has a mark on its line, in the row of its frame if that is the VM's,
-        or is one of several that are close, which one mark stands for; and no other has."""
+        """Each line of what was refused or served has a mark on its line, in the row of its frame if that is the VM's;
+        several that are close may have one mark together. There are no other marks."""
         wanted, drawn = self.wanted_marks(), self.drawn_marks()
         want(set(wanted) == set(drawn), f"marks that are lacking or too many: {list(set(wanted) ^ set(drawn))[:4]}")
         count = sum(map(len, drawn.values()))

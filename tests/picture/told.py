@@ -21,7 +21,7 @@ class Life:
     cleared: int = None
 
     def ticks(self):
-        """The titles of its marks, but that of a dead VM, and none of what came before the first call."""
+        """The titles of its marks, except those of a dead VM and of what came before the first call."""
         turns = ("registered", self.registered), ("measured and active", self.active), ("cleared", self.cleared)
         yield from [f"vm {self.vm} {turn} at line {line}" for turn, line in turns if line and line > 1]
 
@@ -70,7 +70,7 @@ class Told:
         return it.owner, it.gfn, it.share, it.present
 
     def make(self, line, call):
-        """Makes a call, and looks at the frames of which it sets something."""
+        """Makes a call, and looks at the frames in which it sets something."""
         name, *words = call.split(" ")
         self.core.noted.clear()
         reply = self.core.answer(call)
@@ -88,7 +88,7 @@ class Told:
         self.count(line, now, 1)
 
     def count(self, line, custody, more):
-        """Counts a frame of this custody as one more or one fewer of its VM's, if it is a VM's."""
+        """Counts a frame with this custody as one more or one fewer of its VM's, if it is a VM's."""
         owner, _, share, _ = custody
         if isinstance(owner, int):
             self.counts[owner, "all"] += more
@@ -96,7 +96,7 @@ class Told:
             self.steps[owner].append(Step(line, self.counts[owner, "all"], self.counts[owner, "shared"]))
 
     def live(self, line, name, vm, reply):
-        """Keeps what a call says of a life."""
+        """Keeps what a call changes in a life."""
         mine = [it for it in self.lives[-1:] if it.vm == vm] or [it for it in self.lives if it.vm == vm]
         if name == "regvm" and reply == "done":
             self.lives.append(Life(vm, line))

@@ -1,4 +1,4 @@
-# A guest's image, from guest frame 0 on: descriptors, task, tables that map the first GiB where it is, then the code.
+# A guest's image, from guest frame 0 on: descriptors, task, tables that map the first GiB to itself, then the code.
         .globl  _start
         .section .boot, "awx"
         .quad   0, 0, 0                         # 0x00 to 0x10

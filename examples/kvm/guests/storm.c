@@ -1,5 +1,6 @@
 /* A guest that does with pages what chance says: writes and reads them, shares them, takes them back, gives them up.
- * What it wrote to a page that was private since then has to be there. The first words of private pages are marked. */
+ * What it wrote to a page that has been private since then has to be there. The first words of private pages are
+ * marked. */
 #include "guest.h"
 
 enum { FIRST = 256, PAGES = 32, STEPS = 1500, WORDS = 8 };
@@ -33,7 +34,7 @@ static void look(struct storm *storm, uint32_t page) {
         }
 }
 
-/* Before a page is shared its marks go. */
+/* Before a page is shared, its marks are removed. */
 static void share(struct storm *storm, uint16_t call, uint32_t page, uint32_t count) {
     for (uint32_t n = page; n < page + (count ? count : 1); n++) {
         storm->shares[n]++;

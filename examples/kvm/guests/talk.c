@@ -1,5 +1,5 @@
 /* A guest with a secret, a page that it shares for a while, and one that it gives up. Its second virtual processor
- * counts in the shared page all the while, and looks whether a count is lost when the page moves. */
+ * counts in the shared page all the while, and checks whether a count is lost when the page moves. */
 #include "guest.h"
 
 enum { LAST = 4, SECRET = 512, LETTER, THROWN, COMMON, NEW = 1024, MOVES = 100 };
@@ -63,7 +63,7 @@ static void move(void) {
 
 static void say_secret(void) { say("the secret is still \""), say((const char *)page(SECRET)), say("\"\n"); }
 
-/* Counts in the letter's page until the other one says stop, and in slot 1 for ever. */
+/* Counts in the letter's page until the other one says stop, and in slot 1 forever. */
 static void count(uint32_t slot) {
     volatile uint64_t *counter = words(LETTER) + 256, *stop = words(COMMON);
     uint64_t counted = 0, lost = 0;
