@@ -10,6 +10,11 @@ use Rattle.kc_model.proofs.Safe.Safe.{safe}
 use Rattle.kc_model.proofs.Safe.Alone.{passed_on}
 use Rattle.kc_model.proofs.Safe.Starting.{started}
 use Rattle.kc_model.proofs.Safe.Available.{available}
+use Rattle.kc_model.proofs.States.Sizes.{config-after}
+use Rattle.kc_model.proofs.Safe.Arriving.{arrived}
+use Rattle.kc_model.proofs.Safe.Serving.{serving}
+use Rattle.kc_model.proofs.Safe.Sharing.{shared}
+use Rattle.kc_model.proofs.Safe.Writing.{written-only}
 use Rattle.kc_model.proofs.Custody.Written.{own_memory}
 use Rattle.kc_model.proofs.Blind.HostBlind.{host_is_blind}
 use Rattle.kc_model.proofs.Undisturbed.Traces.{undisturbed}
@@ -24,6 +29,11 @@ promises_kept m calls is = record {
   own_memory = own_memory m calls is;
   started = started m calls is;
   available = available m calls is;
+  arrived = arrived m calls is;
+  serving = serving m calls is;
+  shared = shared m calls is;
+  written = written-only m calls is;
+  config = config-after m calls;
   blind = stays_blind m calls is;
   undisturbed = undisturbed m calls is;
 }

@@ -5,3 +5,7 @@ pub mod Alone
 pub mod Trimming
 pub mod Starting
 pub mod Available
+pub mod Serving
+pub mod Writing
+pub mod Sharing
+pub mod Arriving

@@ -34,3 +34,7 @@ pub mod Redaction
 pub mod LeavingOut
 pub mod Blanking
 pub mod Summaries
+pub mod Serving
+pub mod Writing
+pub mod Sharing
+pub mod Arriving

@@ -1,8 +1,13 @@
 -- What every trace keeps, whatever the host and the VMs call.
-use Rattle.std.specs.Prelude.{ℕ, ◌≤◌, List, length, drop}
+use Rattle.std.specs.Prelude.{ℕ, ◌≡◌, ◌≤◌, List, length, drop}
 use Rattle.kc_types.specs.declared.call.Call.{Call}
 use Rattle.kc_model.specs.State.{State}
 use Rattle.kc_model.specs.Footprints.{state_at}
+use Rattle.kc_model.specs.Next.{state_after}
+use Rattle.kc_model.specs.Arriving.{IsArrived}
+use Rattle.kc_model.specs.Serving.{IsServing}
+use Rattle.kc_model.specs.Sharing.{IsShared}
+use Rattle.kc_model.specs.Writing.{IsWritten}
 use Rattle.kc_model.specs.Safety.{IsSafe}
 use Rattle.kc_model.specs.Passing.{IsPassedOn}
 use Rattle.kc_model.specs.OwnMemory.{IsOwnMemory}
@@ -22,5 +27,11 @@ pub record KeepsPromises (m : State) (calls : List Call) : Type 0 where
   pub own_memory : IsOwnMemory m calls
   pub started : IsStarted m calls
   pub available : IsAvailable m calls
+  pub arrived : IsArrived m calls
+  pub serving : IsServing m calls
+  pub shared : IsShared m calls
+  pub written : IsWritten m calls
+  -- the machine, and what it approves, stay as they were
+  pub config : (state_after m calls).config ≡ m.config
   pub blind : HostStaysBlind m calls
   pub undisturbed : IsUndisturbed m calls

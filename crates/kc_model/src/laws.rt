@@ -9,6 +9,10 @@ ghost use Rattle.kc_model.specs.Passing.{IsPassedOn};
 ghost use Rattle.kc_model.specs.OwnMemory.{IsOwnMemory};
 ghost use Rattle.kc_model.specs.Starting.{IsStarted};
 ghost use Rattle.kc_model.specs.Availability.{IsAvailable};
+ghost use Rattle.kc_model.specs.Arriving.{IsArrived};
+ghost use Rattle.kc_model.specs.Serving.{IsServing};
+ghost use Rattle.kc_model.specs.Sharing.{IsShared};
+ghost use Rattle.kc_model.specs.Writing.{IsWritten};
 ghost use Rattle.kc_model.specs.Blind.{HostIsBlind};
 ghost use Rattle.kc_model.specs.Undisturbed.{IsUndisturbed, IsUndisturbedFromBoot};
 ghost use Rattle.kc_model.specs.Promises.{KeepsPromises};
@@ -49,6 +53,30 @@ pub fn starting()
 /// never refused for a slot that is not empty. Only `clear` and the VM's own `drop` take a page from it.
 pub fn availability()
     ensures { (m : State) (calls : List Call) → IsLawful m → IsAvailable m calls }
+{}
+
+/// The bytes of a frame that stays with its owner, shared or not, change only by the host's served writes to it and by
+/// its own VM's served writes at its guest frame, and by the `verify` that zeroes what follows a boot image.
+pub fn writing()
+    ensures { (m : State) (calls : List Call) → IsLawful m → IsWritten m calls }
+{}
+
+/// A page comes to a VM unshared, and while the VM has it only the VM's own grants and revokes change how often it is
+/// shared, each by one.
+pub fn sharing()
+    ensures { (m : State) (calls : List Call) → IsLawful m → IsShared m calls }
+{}
+
+/// A page comes to a running VM only at a guest frame for which one of its virtual processors waits, and to a booting one
+/// only as the next page of an image.
+pub fn arriving()
+    ensures { (m : State) (calls : List Call) → IsLawful m → IsArrived m calls }
+{}
+
+/// Only an active VM is served; it may always take back what it shares and give up what it does not; and a revoke leaves
+/// one grant less.
+pub fn serving()
+    ensures { (m : State) (calls : List Call) → IsLawful m → IsServing m calls }
 {}
 
 /// A trace that grants none of a slot's secret guest frames shows the host nothing of their bytes.

@@ -38,7 +38,7 @@ not-free m v f k mine free same = let h : (frame_at m k).owner ≡ Vm v = subst 
 not-shared : (m : State) (f k : ℕ) → (frame_at m f).share ≡ 0 → 0 < (frame_at m k).share → f ≡ k → ⊥
 not-shared m f k private shared same = let h : (frame_at m k).share ≡ 0 = subst (λ x. (frame_at m x).share ≡ 0) same private in omega (arith, h, shared)
 
-not-theirs : (m : State) (v w f k : ℕ) → (frame_at m f).owner ≡ Vm v → (frame_at m k).owner ≡ Vm w → (w ≡ v → ⊥) → f ≡ k → ⊥
+pub not-theirs : (m : State) (v w f k : ℕ) → (frame_at m f).owner ≡ Vm v → (frame_at m k).owner ≡ Vm w → (w ≡ v → ⊥) → f ≡ k → ⊥
 not-theirs m v w f k mine theirs differ same = differ (vm-same w v (sym theirs ∙ subst (λ x. (frame_at m x).owner ≡ Vm v) same mine))
 
 -- the frame is not the one that the host marks or writes
@@ -87,7 +87,7 @@ verifies m w None v is served differ ne =
 verifies m w (Some i) v is served differ ne = one m _ v (slot-elsewhere m w _ v ne) (λ f mine private. refl)
 
 -- the frames at the guest frames of a range, none of which is this frame
-each-kept : (change : Frame → Frame) (mapped : map.FinMap nat_cmp ℕ) (frames : List Frame) (g n f : ℕ) → ((h : ℕ) → g ≤ h → h < g + n → f ≡ backing (map.get mapped h) → ⊥)
+pub each-kept : (change : Frame → Frame) (mapped : map.FinMap nat_cmp ℕ) (frames : List Frame) (g n f : ℕ) → ((h : ℕ) → g ≤ h → h < g + n → f ≡ backing (map.get mapped h) → ⊥)
     → get_or (changed_each change frames (frames_under mapped (range_with_len g n))) f (untouched Core) ≡ get_or frames f (untouched Core)
 each-kept change mapped frames g zero f away = refl
 each-kept change mapped frames g (suc n) f away =

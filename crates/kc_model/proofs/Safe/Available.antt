@@ -29,7 +29,7 @@ use Rattle.kc_model.proofs.Safe.Safe.{every_step}
 below : (n k : ℕ) → n < k → nat_le k n ≡ false
 below n k lt = grind (arith, common_steps, lt)
 
-slot-exists : (m : State) (v : ℕ) → IsLawful m → ((slot_at m v).phase ≡ Empty → ⊥) → v < slot_count m.config
+pub slot-exists : (m : State) (v : ℕ) → IsLawful m → ((slot_at m v).phase ≡ Empty → ⊥) → v < slot_count m.config
 slot-exists m v is there = elim (cases_lt v (slot_count m.config)) [
   | inl lt ↦ lt
   | inr past ↦ absurd (there (ap (λ (s : Slot). s.phase) (slot-past m v is.slots past)))
@@ -87,7 +87,7 @@ serves m (Clear v) is = λ v_in there. clear-done m v (clear-served m v v_in the
 serves m _ is = tt
 
 -- a slot is written, and the guest frame is mapped in it as before
-same-entry : (m : State) (w : ℕ) (slot : Slot) (v g : ℕ) → map.get slot.mapped g ≡ mapped_at m w g → mapped_at (with_slot m w slot) v g ≡ mapped_at m v g
+pub same-entry : (m : State) (w : ℕ) (slot : Slot) (v g : ℕ) → map.get slot.mapped g ≡ mapped_at m w g → mapped_at (with_slot m w slot) v g ≡ mapped_at m v g
 same-entry m w slot v g same = part-set (λ (s : Slot). map.get s.mapped g) m.slots w slot empty_slot same v
 
 -- a page is mapped at a guest frame that had none
@@ -100,19 +100,19 @@ hands m w h k v g f free mapped = elim (cases_eq g h) [
     slot-at-other : (m : State) (w h k v g f : ℕ) → (v ≡ w → ⊥) → mapped_at m v g ≡ Some f → mapped_at (hand m w h k) v g ≡ Some f
     slot-at-other m w h k v g f ne mapped = ap (λ (s : Slot). map.get s.mapped g) (slot-elsewhere m w _ v ne) ∙ mapped
 
-takes : (m : State) (free : List ℕ) (v g : ℕ) → mapped_at (host_takes m free).1 v g ≡ mapped_at m v g
+pub takes : (m : State) (free : List ℕ) (v g : ℕ) → mapped_at (host_takes m free).1 v g ≡ mapped_at m v g
 takes m [] v g = refl
 takes m (k ∷ rest) v g = refl
 
-reads : (m : State) (w c h off len : ℕ) (at : Option ℕ) (v g : ℕ) → mapped_at (guest_read m w c h off len at).1 v g ≡ mapped_at m v g
+pub reads : (m : State) (w c h off len : ℕ) (at : Option ℕ) (v g : ℕ) → mapped_at (guest_read m w c h off len at).1 v g ≡ mapped_at m v g
 reads m w c h off len None v g = same-entry m w _ v g refl
 reads m w c h off len (Some k) v g = same-entry m w _ v g refl
 
-writes : (m : State) (w c h off : ℕ) (bytes : List ℕ) (at : Option ℕ) (v g : ℕ) → mapped_at (guest_written m w c h off bytes at).1 v g ≡ mapped_at m v g
+pub writes : (m : State) (w c h off : ℕ) (bytes : List ℕ) (at : Option ℕ) (v g : ℕ) → mapped_at (guest_written m w c h off bytes at).1 v g ≡ mapped_at m v g
 writes m w c h off bytes None v g = same-entry m w _ v g refl
 writes m w c h off bytes (Some k) v g = same-entry m w _ v g refl
 
-verifies : (m : State) (w : ℕ) (first : Option ℕ) (v g : ℕ) → mapped_at (verified m w first).1 v g ≡ mapped_at m v g
+pub verifies : (m : State) (w : ℕ) (first : Option ℕ) (v g : ℕ) → mapped_at (verified m w first).1 v g ≡ mapped_at m v g
 verifies m w None v g =
     same-entry (all_trimmed m w (slot_at m w).images) w _ v g refl
     ∙ ap (λ (slots : List Slot). map.get (get_or slots v empty_slot).mapped g) (slots-trimmed m w (slot_at m w).images)
