@@ -1,5 +1,5 @@
 pub mod Unseen
-pub mod Blinds
+pub mod AsView
 pub mod Private
 pub mod HostBlind
 pub mod Told

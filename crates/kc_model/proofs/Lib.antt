@@ -3,6 +3,7 @@ pub mod Refusals
 pub mod Lawful
 pub mod Safe
 pub mod Blind
+pub mod Views
 pub mod Redaction
 pub mod Local
 pub mod Footprints

@@ -1,6 +1,4 @@
-pub mod Alike
-pub mod Steps
-pub mod Told
+pub mod AsView
 pub mod Traces
 pub mod Lacking
 pub mod Blank

@@ -2,82 +2,45 @@
 use Rattle.std.proofs.Common.{ℕ, ◌≡◌, ◌<◌, Bool, true, false, ◌&&◌, List, [], ◌∷◌, refl, sym, ap, subst, ◌∙◌, Option, None, Some}
 use Rattle.std.specs.List.{AllByRecursion}
 use Rattle.kc_types.specs.declared.call.Call.{Call}
-use Rattle.kc_types.specs.declared.call.Call.TheVariants.{GuestWrite}
 use Rattle.kc_types.specs.declared.reply.Reply.{Reply}
-use Rattle.kc_types.specs.declared.refusal.Refusal.{Refusal}
 use Rattle.kc_model.specs.State.{State, Frame, Slot, frame_at, mapped_at}
-use Rattle.kc_model.specs.Refusals.{refusal, is_active}
-use Rattle.kc_model.specs.Next.{next, unless_refused, replies_from, state_after}
+use Rattle.kc_model.specs.Refusals.{is_active}
+use Rattle.kc_model.specs.Next.{next, replies_from, state_after}
 use Rattle.kc_model.specs.Lawful.{IsLawful, same_owner}
 use Rattle.kc_model.specs.Blind.{Secret, has_gfn, is_secret, is_running, hidden, hidden_call, reads_secret, grants_secret, IsPrivate, AreAlike, AlikeTraces, SeesTheSame, HostIsBlind, ShowsNothing, ShowsNothingFromBoot}
 use Rattle.kc_model.proofs.Lawful.Keeps.{lawful-next}
-use Rattle.kc_model.proofs.Blind.Unseen.{refusal-hidden, frame-hidden, and-false}
-use Rattle.kc_model.proofs.Blind.Blinds.{blind-effect, hidden-again}
+use Rattle.kc_model.proofs.Views.Steps.{bytes_of, IsStep, step}
+use Rattle.kc_model.proofs.Views.Calls.{all-kept}
+use Rattle.kc_model.proofs.Blind.Unseen.{and-false}
+use Rattle.kc_model.proofs.Blind.AsView.{view_of, is_view, running-alike, frames-hidden, to-view, from-view, calls-form, calls-may, reads-shown}
 use Rattle.kc_model.proofs.Blind.Private.{private-next, secret-owner}
 use Rattle.kc_model.proofs.Lawful.AtBoot.{slot_at-boot}
 use Rattle.kc_model.specs.Boot.{boot}
 use Rattle.kc_types.specs.Configuration.{Configuration, slot_count}
 use Rattle.kc_types.specs.declared.owner.Owner.TheVariants.{Vm}
 
--- the same of a call that may be refused
-record IsBlindStep (s : Secret) (refused : Option Refusal) (m : State) (call : Call) : Type 0 where
-  state : hidden s (unless_refused refused m call).1 ≡ hidden s (unless_refused refused (hidden s m) (hidden_call s call)).1
-  answer : reads_secret s call ≡ false → (unless_refused refused m call).0 ≡ (unless_refused refused (hidden s m) (hidden_call s call)).0
-
-blind-unless : (refused : Option Refusal) (s : Secret) (m : State) (call : Call) → IsLawful m → IsPrivate s m → grants_secret s call ≡ false → refusal m call ≡ refused → IsBlindStep s refused m call
-blind-unless None s m call is private grants served = let blind = blind-effect s m call is private grants served in record { state = blind.state; answer = blind.answer }
-blind-unless (Some r) s m call is private grants served = record { state = hidden-again s m; answer = λ _. refl }
-
-blind-state : (s : Secret) (m : State) (call : Call) → IsLawful m → IsPrivate s m → grants_secret s call ≡ false → hidden s (next m call).1 ≡ hidden s (next (hidden s m) (hidden_call s call)).1
-unfolding next
-blind-state s m call is private grants =
-    (blind-unless (refusal m call) s m call is private grants refl).state
-    ∙ ap (λ refused. hidden s (unless_refused refused (hidden s m) (hidden_call s call)).1) (sym (refusal-hidden s m call))
-
-blind-answer : (s : Secret) (m : State) (call : Call) → IsLawful m → IsPrivate s m → grants_secret s call ≡ false → reads_secret s call ≡ false → (next m call).0 ≡ (next (hidden s m) (hidden_call s call)).0
-unfolding next
-blind-answer s m call is private grants reads =
-    (blind-unless (refusal m call) s m call is private grants refl).answer reads
-    ∙ ap (λ refused. (unless_refused refused (hidden s m) (hidden_call s call)).0) (sym (refusal-hidden s m call))
-
--- what a call does with secrets does not depend on its bytes
-grants-hidden : (s : Secret) (call : Call) → grants_secret s (hidden_call s call) ≡ grants_secret s call
-grants-hidden s (GuestWrite v c g off bytes) = refl
-grants-hidden s _ = refl
-
-reads-hidden : (s : Secret) (call : Call) → reads_secret s (hidden_call s call) ≡ reads_secret s call
-reads-hidden s (GuestWrite v c g off bytes) = refl
-reads-hidden s _ = refl
-
 -- of two alike states both are private
 pub private-alike : (s : Secret) (m n : State) → hidden s m ≡ hidden s n → IsPrivate s m → IsPrivate s n
 private-alike s m n same private f e =
-    let running : is_running m s.vm ≡ is_running n s.vm = ap (λ (x : State). is_running x s.vm) same in
-    let at = ap (λ (x : State). frame_at x f) same in
-    let frames = sym (frame-hidden s m f) ∙ at ∙ frame-hidden s n f in
+    let frames = frames-hidden s m n same f in
     let shares : (frame_at m f).share ≡ (frame_at n f).share = ap (λ (x : Frame). x.share) frames in
     let secrets : is_secret s (is_running n s.vm) (frame_at m f) ≡ is_secret s (is_running n s.vm) (frame_at n f) = ap (is_secret s (is_running n s.vm)) frames in
-    sym shares ∙ private f (subst (λ t. is_secret s t (frame_at m f) ≡ true) (sym running) (secrets ∙ e))
+    sym shares ∙ private f (subst (λ t. is_secret s t (frame_at m f) ≡ true) (sym (running-alike s m n same)) (secrets ∙ e))
+
+-- the same call with other secret bytes, on the other state
+pub both-step : (s : Secret) (m n : State) (call other : Call) → IsLawful m → IsLawful n → AreAlike s m n → hidden_call s call ≡ hidden_call s other → IsStep (view_of s) m call (next m call) (next n other)
+both-step s m n call other m_is n_is alike calls =
+    subst (λ (x : Call). IsStep (view_of s) m call (next m call) (next n x)) (calls-form s call other calls)
+    (step (view_of s) m n call (bytes_of other) (is_view s) m_is n_is (to-view s m n alike.same) (calls-may s m call other m_is calls) (all-kept call))
 
 pub alike-next : (s : Secret) (m n : State) (call other : Call) → IsLawful m → IsLawful n → AreAlike s m n → hidden_call s call ≡ hidden_call s other → grants_secret s call ≡ false → AreAlike s (next m call).1 (next n other).1
-alike-next s m n call other m_is n_is alike calls grants =
-    let grants_other : grants_secret s other ≡ false = sym (grants-hidden s other) ∙ ap (grants_secret s) (sym calls) ∙ grants-hidden s call ∙ grants in
-    record {
-      same = blind-state s m call m_is alike.private grants
-          ∙ ap (λ (x : State). hidden s (next x (hidden_call s call)).1) alike.same
-          ∙ ap (λ (x : Call). hidden s (next (hidden s n) x).1) calls
-          ∙ sym (blind-state s n other n_is (private-alike s m n alike.same alike.private) grants_other);
-      private = private-next s m call m_is alike.private grants;
-    }
+alike-next s m n call other m_is n_is alike calls grants = record {
+  same = from-view s (next m call).1 (next n other).1 (both-step s m n call other m_is n_is alike calls).states;
+  private = private-next s m call m_is alike.private grants;
+}
 
-pub same-answer : (s : Secret) (m n : State) (call other : Call) → IsLawful m → IsLawful n → AreAlike s m n → hidden_call s call ≡ hidden_call s other → grants_secret s call ≡ false → reads_secret s call ≡ false → (next m call).0 ≡ (next n other).0
-same-answer s m n call other m_is n_is alike calls grants reads =
-    let grants_other : grants_secret s other ≡ false = sym (grants-hidden s other) ∙ ap (grants_secret s) (sym calls) ∙ grants-hidden s call ∙ grants in
-    let reads_other : reads_secret s other ≡ false = sym (reads-hidden s other) ∙ ap (reads_secret s) (sym calls) ∙ reads-hidden s call ∙ reads in
-    blind-answer s m call m_is alike.private grants reads
-    ∙ ap (λ (x : State). (next x (hidden_call s call)).0) alike.same
-    ∙ ap (λ (x : Call). (next (hidden s n) x).0) calls
-    ∙ sym (blind-answer s n other n_is (private-alike s m n alike.same alike.private) grants_other reads_other)
+same-answer : (s : Secret) (m n : State) (call other : Call) → IsLawful m → IsLawful n → AreAlike s m n → hidden_call s call ≡ hidden_call s other → reads_secret s call ≡ false → (next m call).0 ≡ (next n other).0
+same-answer s m n call other m_is n_is alike calls reads = sym ((both-step s m n call other m_is n_is alike calls).answer.whole (reads-shown s m call m_is alike.private reads))
 
 blind-from : (s : Secret) (m n : State) (calls others : List Call) → IsLawful m → IsLawful n → AreAlike s m n → AlikeTraces s calls others
     → AllByRecursion (λ call. grants_secret s call ≡ false) calls → SeesTheSame s m n calls others
@@ -89,7 +52,7 @@ blind-from s m n (call ∷ calls) (other ∷ others) m_is n_is alike traces gran
     let rest : AlikeTraces s calls others = cc in
     let later = blind-from s (next m call).1 (next n other).1 calls others (lawful-next m call m_is) (lawful-next n other n_is) (alike-next s m n call other m_is n_is alike first grants.0) rest grants.1 in
     record {
-      replies = (same-answer s m n call other m_is n_is alike first grants.0, later.replies);
+      replies = (same-answer s m n call other m_is n_is alike first, later.replies);
       states = later.states;
     }
 

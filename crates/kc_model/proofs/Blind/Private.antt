@@ -26,8 +26,7 @@ use Rattle.kc_model.proofs.States.Frames.{part-set}
 use Rattle.kc_model.proofs.Lawful.HandCalls.{remap-served, map-served}
 use Rattle.kc_model.proofs.Lawful.Verifies.{verify-served, each_last_page, lawful-all_trimmed, slots-trimmed, exists-trimmed}
 use Rattle.kc_model.proofs.Lawful.Clears.{after, slot-kept}
-use Rattle.kc_model.proofs.Blind.Unseen.{open-mapped}
-use Rattle.kc_model.proofs.Blind.Blinds.{running-kept, running-elsewhere}
+use Rattle.kc_model.proofs.Blind.Unseen.{open-mapped, running-kept, running-elsewhere}
 use Rattle.kc_types.specs.Configuration.{slot_count}
 
 -- a state whose slot runs or not, as `b` says

@@ -1,8 +1,8 @@
 -- States in which the pages of active VMs are zeroed.
-use Rattle.std.proofs.Common.{ℕ, zero, suc, ◌≡◌, ◌<◌, Bool, true, false, cond, not, List, [], ◌∷◌, map, length, replicate, Option, get_or, refl, sym, ap, subst, ◌∙◌, arith}
+use Rattle.std.proofs.Common.{ℕ, ◌≡◌, ◌<◌, Bool, true, false, cond, not, List, [], ◌∷◌, map, length, replicate, get_or, refl, sym, ap, subst, ◌∙◌}
 use Rattle.std.proofs.lemmas.List.{length-map, length-replicate}
 use Rattle.kc_types.specs.declared.call.Call.{Call}
-use Rattle.kc_types.specs.declared.call.Call.TheVariants.{Remap, HostWrite, GuestWrite}
+use Rattle.kc_types.specs.declared.call.Call.TheVariants.{HostWrite, GuestWrite}
 use Rattle.kc_types.specs.declared.owner.Owner.{Owner}
 use Rattle.kc_types.specs.declared.owner.Owner.TheVariants.{Core, Host, Free, Vm}
 use Rattle.kc_types.specs.declared.custody.Custody.{Custody}
@@ -10,11 +10,13 @@ use Rattle.kc_model.specs.State.{State, Frame, Slot, frame_at, zero_page, untouc
 use Rattle.kc_model.specs.Refusals.{is_active}
 use Rattle.kc_model.specs.Next.{next, state_after}
 use Rattle.kc_model.specs.Lawful.{IsLawful, IsLawfulFrame, IsPage}
-use Rattle.kc_model.specs.Redaction.{blanked, redacted_call, redacted, redacted_in, DifferInCalls, all_frames, keeps_images, KeepsImages, counts, AreAlike, DifferInBytes, TellTheSame}
+use Rattle.kc_model.specs.Redaction.{blanked, redacted_call, redacted, redacted_in, DifferInCalls, all_frames, KeepsImages, counts, AreAlike, DifferInBytes, TellTheSame}
 use Rattle.kc_model.specs.Blanking.{is_guests, blank_frame, blank_state, redacted_from, TellsBlank, IsAuditedBlank}
 use Rattle.kc_model.proofs.States.ZeroPage.{zero_page-is}
 use Rattle.kc_model.proofs.Blind.Unseen.{at-map}
-use Rattle.kc_model.proofs.Redaction.Alike.{differ-itself}
+use Rattle.kc_model.proofs.Views.Alike.{same-filled, maps-alike}
+use Rattle.kc_model.proofs.Views.Calls.{all-kept}
+use Rattle.kc_model.proofs.Redaction.AsView.{itself}
 use Rattle.kc_model.proofs.Redaction.Traces.{bytes_decide_nothing}
 
 frame-blank : (m : State) (f : ℕ) → frame_at (blank_state m) f ≡ blank_frame m (frame_at m f)
@@ -79,29 +81,8 @@ lawful-blank m is = record {
 -- states that differ only in such bytes have the same blank state
 frame-same : (m : State) (f : ℕ) (x y : Frame) → AreAlike (counts all_frames m f x.owner) x y → blank_frame m y ≡ blank_frame m x
 frame-same m f x y alike =
-    let owner = ap (λ (c : Custody). c.owner) alike.custody in
-    let gfn = ap (λ (c : Custody). c.gfn) alike.custody in
-    let share = ap (λ (c : Custody). c.share) alike.custody in
-    let present = ap (λ (c : Custody). c.present) alike.custody in
-    let bytes : cond (is_guests m x.owner) zero_page y.bytes ≡ cond (is_guests m x.owner) zero_page x.bytes = by-test (is_guests m x.owner) refl in
-    let one : blank_frame m y ≡ made x.owner x.share x.gfn x.present (cond (is_guests m x.owner) zero_page y.bytes) = rw (owner, gfn, share, present) refl in
-    one ∙ ap (made x.owner x.share x.gfn x.present) bytes
-  where
-    made : Owner → ℕ → Option ℕ → Bool → List ℕ → Frame
-    made owner share gfn present bytes = record { owner = owner; share = share; gfn = gfn; present = present; bytes = bytes }
-
-    by-test : (b : Bool) → is_guests m x.owner ≡ b → cond b zero_page y.bytes ≡ cond b zero_page x.bytes
-    by-test true e = refl
-    by-test false e = alike.bytes (counted-is m f x.owner ∙ ap not e)
-
-maps-same : (change other : Frame → Frame) (xs ys : List Frame) (d : Frame) → length ys ≡ length xs → ((f : ℕ) → f < length xs → other (get_or ys f d) ≡ change (get_or xs f d)) → map other ys ≡ map change xs
-maps-same change other [] [] d number same = refl
-maps-same change other [] (y ∷ ys) d number same = absurd cc
-maps-same change other (x ∷ xs) [] d number same = absurd cc
-maps-same change other (x ∷ xs) (y ∷ ys) d number same =
-    let first = same zero (omega arith) in
-    let rest = maps-same change other xs ys d (omega (arith, number)) (λ f lt. same (suc f) (omega arith)) in
-    cc
+    ap (λ o. record y { bytes = cond (is_guests m o) zero_page y.bytes }) (ap (λ (c : Custody). c.owner) alike.custody)
+    ∙ same-filled zero_page (is_guests m x.owner) x y (subst (λ b. AreAlike b x y) (counted-is m f x.owner) alike)
 
 guests-by : (m n : State) → n.slots ≡ m.slots → (x : Frame) → blank_frame n x ≡ blank_frame m x
 guests-by m n slots x = ap (λ b. record x { bytes = cond b zero_page x.bytes }) (by-owner x.owner)
@@ -117,7 +98,7 @@ blank-same m n differ =
     let config = differ.config in
     let free = differ.free in
     let slots = differ.slots in
-    let frames : map (blank_frame n) n.frames ≡ map (blank_frame m) m.frames = maps-same (blank_frame m) (blank_frame n) m.frames n.frames (untouched Core) differ.number
+    let frames : map (blank_frame n) n.frames ≡ map (blank_frame m) m.frames = maps-alike (blank_frame m) (blank_frame n) m.frames n.frames (untouched Core) differ.number
     (λ f lt. guests-by m n differ.slots (frame_at n f) ∙ frame-same m f (frame_at m f) (frame_at n f) (differ.frames f)) in
     ap (λ xs. record n { frames = xs }) frames ∙ others config free slots
   where
@@ -140,13 +121,9 @@ pub redacted-differ : (m : State) (calls : List Call) → DifferInCalls all_fram
 redacted-differ m [] = tt
 redacted-differ m (call ∷ calls) = (call-twice m call, redacted-differ (next m call).1 calls)
 
-keeps-call : (call : Call) → keeps_images all_frames call ≡ true
-keeps-call (Remap v i f) = refl
-keeps-call _ = refl
-
 keeps-all : (calls : List Call) → KeepsImages all_frames calls
 keeps-all [] = tt
-keeps-all (call ∷ calls) = (keeps-call call, keeps-all calls)
+keeps-all (call ∷ calls) = (all-kept call, keeps-all calls)
 
 -- redacting twice is redacting once
 bytes-twice : (b : Bool) (bytes : List ℕ) → cond b (cond b bytes (blanked bytes)) (blanked (cond b bytes (blanked bytes))) ≡ cond b bytes (blanked bytes)
@@ -164,7 +141,7 @@ wholly-differ m (call ∷ calls) = (again m call, wholly-differ (next m call).1 
 
 -- from one state both have the same custody, replies and events
 pub told_alike : (m : State) (calls : List Call) → IsLawful m → TellTheSame all_frames m m calls (redacted calls)
-told_alike m calls is = bytes_decide_nothing m calls is all_frames m (redacted calls) is (differ-itself all_frames m) (redacted-differ m calls) (keeps-all calls)
+told_alike m calls is = bytes_decide_nothing m calls is all_frames m (redacted calls) is (itself all_frames m) (redacted-differ m calls) (keeps-all calls)
 
 tells-blank : (m : State) (calls others : List Call) → IsLawful m → DifferInCalls all_frames m calls others → TellsBlank m calls others
 tells-blank m calls others is alike =

@@ -24,8 +24,9 @@ use Rattle.kc_model.proofs.Lawful.Keeps.{lawful-next}
 use Rattle.kc_model.proofs.Lawful.GuestCalls.{guest_access-served, owner-mapped}
 use Rattle.kc_model.proofs.Custody.Same.{not-moved, not-turned}
 use Rattle.kc_model.proofs.Custody.Events.{changes-of-call}
-use Rattle.kc_model.proofs.Redaction.Alike.{alike-itself, alike-unseen, AlikeFrames, frames-set, differ-itself, differ-back, differ-then}
-use Rattle.kc_model.proofs.Redaction.Told.{changes-told}
+use Rattle.kc_model.proofs.Views.Alike.{alike-itself, alike-unseen, AlikeFrames, frames-set}
+use Rattle.kc_model.proofs.Views.Events.{changes-told}
+use Rattle.kc_model.proofs.Redaction.AsView.{view_of, seen-is, to-view, from-view, itself, back, then}
 use Rattle.kc_model.proofs.Redaction.Traces.{pair}
 
 -- one frame gets other bytes, which do not count
@@ -33,14 +34,14 @@ other-bytes : (kept : ℕ → Bool) (m : State) (f : ℕ) (bytes : List ℕ) →
 other-bytes kept m f bytes none =
     let x = frame_at m f in
     let y : Frame = record x { bytes = bytes } in
-    record {
+    from-view kept m (with_frame m f y) (record {
       config = refl;
       free = refl;
       slots = refl;
       number = length-set m.frames f y;
-      frames = subst (λ xs. AlikeFrames kept m xs (set m.frames f y)) (set-get_or m.frames f (untouched Core))
-          (frames-set kept m m.frames m.frames f x y refl (λ k. alike-itself _ (frame_at m k)) (alike-unseen _ x y none refl));
-    }
+      frames = subst (λ xs. AlikeFrames (view_of kept) m xs (set m.frames f y)) (set-get_or m.frames f (untouched Core))
+          (frames-set (view_of kept) m m.frames m.frames f x y refl (λ k. alike-itself _ (frame_at m k)) (alike-unseen _ x y (seen-is kept m f x.owner x.gfn ∙ none) refl));
+    })
 
 -- a virtual processor that waits for no page goes on
 same-vcpu : (vcpu : Vcpu) → is_none vcpu.fault ≡ true → record vcpu { fault = None } ≡ vcpu
@@ -59,7 +60,7 @@ goes-on m v c none =
 
 reads-nothing : (kept : ℕ → Bool) (m : State) (v c g off len : ℕ) (at : Option ℕ) → is_none (vcpu_at m v c).fault ≡ true → is_some at ≡ true → DifferInBytes kept m (guest_read m v c g off len at).1
 reads-nothing kept m v c g off len None none some = absurd cc
-reads-nothing kept m v c g off len (Some f) none some = subst (DifferInBytes kept m) (sym (goes-on m v c none)) (differ-itself kept m)
+reads-nothing kept m v c g off len (Some f) none some = subst (DifferInBytes kept m) (sym (goes-on m v c none)) (itself kept m)
 
 writes-unseen : (kept : ℕ → Bool) (m : State) (v c g off : ℕ) (bytes : List ℕ) (at : Option ℕ) → IsLawful m → v < slot_count m.config → (slot_at m v).phase ≡ Active → mapped_at m v g ≡ at → is_none (vcpu_at m v c).fault ≡ true → is_some at ≡ true
     → DifferInBytes kept m (guest_written m v c g off bytes at).1
@@ -74,7 +75,7 @@ not-counted false h = refl
 not-counted true h = cc
 
 lacks-effect : (kept : ℕ → Bool) (m : State) (call : Call) → IsLawful m → may_lack kept m call ≡ true → refusal m call ≡ None → DifferInBytes kept m (effect m call).1
-lacks-effect kept m (HostRead f off len) is may served = differ-itself kept m
+lacks-effect kept m (HostRead f off len) is may served = itself kept m
 lacks-effect kept m (HostWrite f off bytes) is may served = other-bytes kept m f _ (not-counted (counts kept m f (frame_at m f).owner) may)
 lacks-effect kept m (GuestRead v c g off len) is may served =
     let parts = and_parts (is_none (vcpu_at m v c).fault) (is_some (mapped_at m v g)) may in
@@ -101,7 +102,7 @@ lacks-effect kept m (Clear v) is may served = absurd cc
 
 lacks-unless : (refused : Option Refusal) (kept : ℕ → Bool) (m : State) (call : Call) → IsLawful m → may_lack kept m call ≡ true → refusal m call ≡ refused → DifferInBytes kept m (unless_refused refused m call).1
 lacks-unless None kept m call is may served = lacks-effect kept m call is may served
-lacks-unless (Some r) kept m call is may served = differ-itself kept m
+lacks-unless (Some r) kept m call is may served = itself kept m
 
 -- an access that may be left out changes only bytes that do not count
 lacks-next : (kept : ℕ → Bool) (m : State) (call : Call) → IsLawful m → may_lack kept m call ≡ true → DifferInBytes kept m (next m call).1
@@ -119,7 +120,7 @@ nothing-told line m =
     (ap (map change.Phase) (none-picked (has_turned m m) (phase_change line m m) (range_with_len 0 (slot_count m.config)) (λ v. not-turned m m v refl)))
 
 untold : (kept : ℕ → Bool) (line : ℕ) (m n : State) → DifferInBytes kept m n → changes_by line m n ≡ []
-untold kept line m n differ = changes-told kept line m m m n (differ-itself kept m) differ (λ v turned. refl) ∙ nothing-told line m
+untold kept line m n differ = changes-told (view_of kept) line m m m n (to-view kept m m (itself kept m)) (to-view kept m n differ) (λ v turned. refl) ∙ nothing-told line m
 
 -- a call that is in both traces
 same-told : (kept : ℕ → Bool) (line : ℕ) (m n : State) (call : Call) → IsLawful m → IsLawful n → DifferInBytes kept m n → keeps_images kept call ≡ true → changes_by line n (next n call).1 ≡ changes_by line m (next m call).1
@@ -153,7 +154,7 @@ tells-all kept m n (true ∷ marks) (call ∷ calls) is other_is differ may keep
     both later (line ∷ lines) number = ap₂ ◌++◌ (same-told kept line m n call is other_is differ keeps.0) (later lines (omega (arith, number)))
 tells-all kept m n (false ∷ marks) (call ∷ calls) is other_is differ may keeps =
     let quiet = lacks-next kept m call is may.0 in
-    let after = differ-then kept (next m call).1 m n (differ-back kept m (next m call).1 quiet) differ in
+    let after = then kept (next m call).1 m n (back kept m (next m call).1 quiet) differ in
     let later = tells-all kept (next m call).1 n marks calls (lawful-next m call is) other_is after may.1 keeps.1 in
     record {
       custody = λ lines number. rest quiet later.custody lines number;

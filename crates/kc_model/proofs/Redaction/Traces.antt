@@ -1,35 +1,17 @@
 -- Traces that differ only in bytes that do not count have the same replies, events and custody.
-use Rattle.std.proofs.Common.{ℕ, suc, ◌≡◌, ◌+◌, Bool, true, false, cond, ◌&&◌, List, [], ◌∷◌, ◌++◌, length, refl, sym, ap, ap₂, subst, ◌∙◌}
+use Rattle.std.proofs.Common.{ℕ, suc, ◌≡◌, ◌+◌, Bool, true, List, [], ◌∷◌, ◌++◌, length, refl, sym, ap, ap₂, subst, ◌∙◌}
 use Rattle.kc_types.specs.declared.call.Call.{Call}
-use Rattle.kc_types.specs.declared.call.Call.TheVariants.{HostWrite, GuestWrite}
 use Rattle.kc_model.specs.State.{State}
 use Rattle.kc_model.specs.Next.{next, replies_from, state_after}
 use Rattle.kc_model.specs.Lawful.{IsLawful}
 use Rattle.kc_model.specs.Custody.{first_line}
 use Rattle.kc_model.specs.Events.{events_by, events_from, changes_in}
-use Rattle.kc_model.specs.Redaction.{blanked, redacted_in, DifferInCalls, keeps_images, KeepsImages, DifferInBytes, is_read, redacted_reply, IsSameReply, AreSameReplies, BytesDecideNothing}
+use Rattle.kc_model.specs.Redaction.{redacted_in, DifferInCalls, keeps_images, KeepsImages, DifferInBytes, IsSameReply, AreSameReplies, BytesDecideNothing}
 use Rattle.kc_model.proofs.Lawful.Keeps.{lawful-next}
 use Rattle.kc_model.proofs.Custody.Events.{changes-of-events}
-use Rattle.kc_model.proofs.Redaction.Alike.{counted, differ-itself, differ-back, differ-then}
-use Rattle.kc_model.proofs.Redaction.Steps.{step}
-use Rattle.kc_model.proofs.Redaction.Told.{events-told}
-
--- the kind of a call does not depend on its bytes
-keeps-redacted : (kept : ℕ → Bool) (m : State) (call : Call) → keeps_images kept (redacted_in kept m call) ≡ keeps_images kept call
-keeps-redacted kept m (HostWrite f off bytes) = refl
-keeps-redacted kept m (GuestWrite v c g off bytes) = refl
-keeps-redacted kept m _ = refl
-
-reads-redacted : (kept : ℕ → Bool) (m : State) (call : Call) → is_read (redacted_in kept m call) ≡ is_read call
-reads-redacted kept m (HostWrite f off bytes) = refl
-reads-redacted kept m (GuestWrite v c g off bytes) = refl
-reads-redacted kept m _ = refl
-
--- a call is redacted in the same way in both states
-redacted-by : (kept : ℕ → Bool) (m n : State) (call : Call) → DifferInBytes kept m n → redacted_in kept n call ≡ redacted_in kept m call
-redacted-by kept m n (HostWrite f off bytes) differ = ap (λ b. HostWrite f off (cond (kept f && b) bytes (blanked bytes))) (counted kept m n differ f)
-redacted-by kept m n (GuestWrite v c g off bytes) differ = refl
-redacted-by kept m n _ differ = refl
+use Rattle.kc_model.proofs.Views.Steps.{bytes_of, IsStep, step}
+use Rattle.kc_model.proofs.Views.Events.{events-told}
+use Rattle.kc_model.proofs.Redaction.AsView.{view_of, is_view, to-view, from-view, calls-form, calls-may, reply-is}
 
 -- two calls that are the same once redacted
 pub record IsPair (kept : ℕ → Bool) (m n : State) (call other : Call) : Type 0 where
@@ -39,21 +21,14 @@ pub record IsPair (kept : ℕ → Bool) (m n : State) (call other : Call) : Type
 
 pub pair : (kept : ℕ → Bool) (m n : State) (call other : Call) → IsLawful m → IsLawful n → DifferInBytes kept m n → redacted_in kept m other ≡ redacted_in kept m call → keeps_images kept call ≡ true → IsPair kept m n call other
 pair kept m n call other is other_is differ alike keeps =
-    let same : redacted_in kept n other ≡ redacted_in kept m call = redacted-by kept m n other differ ∙ alike in
-    let other_keeps : keeps_images kept other ≡ true = sym (keeps-redacted kept m other) ∙ ap (keeps_images kept) alike ∙ keeps-redacted kept m call ∙ keeps in
-    let itself = differ-itself kept n in
-    let first = step kept m n call is other_is differ keeps in
-    let second = step kept n n other other_is other_is itself other_keeps in
-    let back = differ-back kept (next n other).1 (next n (redacted_in kept n other)).1 second.states in
+    let view = view_of kept in
+    let form = calls-form kept m call other alike in
+    let may = calls-may kept m call other is alike in
+    let both : IsStep view m call (next m call) (next n other) = subst (λ (x : Call). IsStep view m call (next m call) (next n x)) form (step view m n call (bytes_of other) (is_view kept) is other_is (to-view kept m n differ) may keeps) in
     record {
-      states = differ-then kept (next m call).1 (next n (redacted_in kept m call)).1 (next n other).1 first.states (subst (λ (x : Call). DifferInBytes kept (next n x).1 (next n other).1) same back);
-      answer = record {
-        form = sym second.answer.form ∙ ap (λ (x : Call). redacted_reply (next n x).0) same ∙ first.answer.form;
-        whole = λ h.
-            let other_reads : is_read other ≡ false = sym (reads-redacted kept m other) ∙ ap is_read alike ∙ reads-redacted kept m call ∙ h in
-            sym (second.answer.whole other_reads) ∙ ap (λ (x : Call). (next n x).0) same ∙ first.answer.whole h;
-      };
-      told = λ k. sym (events-told kept k n n other other_is other_is itself other_keeps) ∙ ap (events_by k n) same ∙ events-told kept k m n call is other_is differ keeps;
+      states = from-view kept (next m call).1 (next n other).1 both.states;
+      answer = reply-is kept m call (next m call).0 (next n other).0 both.answer;
+      told = λ k. ap (events_by k n) (sym form) ∙ events-told view k m n call (bytes_of other) (is_view kept) is other_is (to-view kept m n differ) may keeps;
     }
 
 -- the same without custody, from any line

@@ -18,7 +18,7 @@ use Rattle.kc_model.proofs.States.Slots.{none-at}
 use Rattle.kc_model.proofs.Lawful.GuestCalls.{exists-mapped}
 use Rattle.kc_model.proofs.Lawful.Verifies.{HasLastPage, last_gfn, lawful-trimmed, each_last_page, verify-served, backing-of}
 use Rattle.kc_model.proofs.Local.VerifyLocal.{pages-same}
-use Rattle.kc_model.proofs.Blind.Blinds.{held}
+use Rattle.kc_model.proofs.Views.Steps.{held}
 
 snoc : (f : ℕ → List ℕ) (b k : ℕ) → flat_map f (range_with_len b (suc k)) ≡ flat_map f (range_with_len b k) ++ f (b + k)
 snoc f b zero = let here : b + 0 ≡ b = omega arith in rw here (append-nil (f b))

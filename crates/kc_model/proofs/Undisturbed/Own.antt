@@ -24,7 +24,7 @@ use Rattle.kc_model.proofs.Lawful.RangeCalls.{guest_range-served}
 use Rattle.kc_model.proofs.Lawful.Verifies.{HasLastPage, last_gfn, each_last_page, verify-served, slots-trimmed, backing-of}
 use Rattle.kc_model.proofs.Local.VerifyLocal.{pages-same}
 use Rattle.kc_model.proofs.States.Slots.{none-at}
-use Rattle.kc_model.proofs.Blind.Blinds.{held, failing-same}
+use Rattle.kc_model.proofs.Views.Steps.{held, failing-same}
 use Rattle.std.proofs.lemmas.List.Folds.{list_any_at}
 use Rattle.kc_model.proofs.Undisturbed.Pages.{HasFrames, frames-with, changed-same, slots-same, under-none, under-page, page-by, page-bytes, page-other}
 

@@ -1,0 +1,4 @@
+pub mod Alike
+pub mod Steps
+pub mod Events
+pub mod Calls

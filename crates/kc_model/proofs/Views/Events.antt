@@ -1,0 +1,197 @@
+-- The events of a call on two states that differ only in bytes that do not count.
+use Rattle.std.proofs.Common.{ℕ, zero, suc, ◌≡◌, ◌<◌, ◌⊎◌, inl, inr, Bool, true, false, cond, not, List, [], ◌∷◌, ◌++◌, length, map, filter, get_or, refl, sym, ap, ap₂, subst, ◌∙◌, arith, Option, None, Some, get_or-set_other}
+use Rattle.std.proofs.lemmas.Bool.{cases_eq}
+use Rattle.std.specs.List.{range_with_len}
+use Rattle.sha2.specs.Sha256.{sha256}
+use Rattle.kc_types.specs.Configuration.{Configuration, slot_count}
+use Rattle.kc_types.specs.declared.call.Call.{Call}
+use Rattle.kc_types.specs.declared.call.Call.TheVariants.{Take, Give, HostFault, HostRead, HostWrite, RegisterVm, RegisterVcpu, SetBoot, Remap, Verify, Map, GuestRead, GuestWrite, Grant, Revoke, GrantRange, RevokeRange, Drop, Clear}
+use Rattle.kc_types.specs.declared.reply.Reply.{Reply}
+use Rattle.kc_types.specs.declared.reply.Reply.TheVariants as reply
+use Rattle.kc_types.specs.declared.refusal.Refusal.{Refusal}
+use Rattle.kc_types.specs.declared.custody.Event.TheVariants as event
+use Rattle.kc_types.specs.declared.custody.Change.TheVariants as change
+use Rattle.kc_types.specs.declared.custody.MeasuredImage.{MeasuredImage}
+use Rattle.kc_model.specs.State.{State, Frame, Slot, frame_at, slot_at, with_slot, empty_slot}
+use Rattle.kc_model.specs.Refusals.{refusal, next_gfn, pending}
+use Rattle.kc_model.specs.Effects.{effect, host_takes, hand, guest_read, guest_written, verified, all_trimmed, first_failing, is_approved}
+use Rattle.kc_model.specs.Next.{next, unless_refused}
+use Rattle.kc_model.specs.Lawful.{IsLawful}
+use Rattle.kc_model.specs.Custody.{same_custody, has_moved, frame_change, frame_changes_by, same_phase, has_turned, measured_image, measured_images, images_for, phase_change, phase_changes_by, changes_by}
+use Rattle.kc_model.specs.Events.{of_owner, access_by, events_by}
+use Rattle.kc_model.specs.Redaction.{keeps_images, redacted_reply}
+use Rattle.kc_model.proofs.States.Frames.{part-set}
+use Rattle.kc_model.proofs.Safe.Measured.{set-here}
+use Rattle.kc_model.proofs.Lawful.Verifies.{slots-trimmed, verify-served}
+use Rattle.kc_model.proofs.Custody.Same.{not-turned}
+use Rattle.kc_model.proofs.Views.Alike.{View, Alike, beside, beside-is, owner-alike}
+use Rattle.kc_model.proofs.Views.Steps.{IsView, with_bytes, MayWrite, IsReply, step, image-same}
+
+-- what is picked by equal tests and made by equal functions is the same
+picked-same : {X Y : Type 0} (p q : X → Bool) (g h : X → Y) (xs : List X) → ((x : X) → p x ≡ q x) → ((x : X) → p x ≡ true → g x ≡ h x) → map g (filter p xs) ≡ map h (filter q xs)
+picked-same p q g h [] same each = refl
+picked-same p q g h (x ∷ xs) same each = step-of (picked-same p q g h xs same each) (p x) (each x) ∙ ap (λ b. map h (cond b (x ∷ filter q xs) (filter q xs))) (same x)
+  where
+    step-of : map g (filter p xs) ≡ map h (filter q xs) → (b : Bool) → (b ≡ true → g x ≡ h x) → map g (cond b (x ∷ filter p xs) (filter p xs)) ≡ map h (cond b (x ∷ filter q xs) (filter q xs))
+    step-of rest true here = ap₂ ◌∷◌ (here refl) rest
+    step-of rest false here = rest
+
+maps-same : {X Y : Type 0} (g h : X → Y) (xs : List X) → ((i : ℕ) (d : X) → i < length xs → g (get_or xs i d) ≡ h (get_or xs i d)) → map g xs ≡ map h xs
+maps-same g h [] same = refl
+maps-same g h (x ∷ xs) same = ap₂ ◌∷◌ (same zero x (omega arith)) (maps-same g h xs (λ i d lt. same (suc i) d (omega arith)))
+
+-- what is reported of frames
+frames-told : (view : View) (line : ℕ) (m n m' n' : State) → Alike view m n → Alike view m' n' → frame_changes_by line n n' ≡ frame_changes_by line m m'
+frames-told view line m n m' n' before after =
+    let config = before.config in
+    picked-same (has_moved n n') (has_moved m m') (frame_change line n n') (frame_change line m m') (range_with_len 0 n.config.frames)
+    (λ f. ap₂ (λ a b. not (same_custody a b)) (before.frames f).custody (after.frames f).custody)
+    (λ f h. ap₂ (λ a b. record { line = line; frame = f; before = a; after = b }) (before.frames f).custody (after.frames f).custody)
+    ∙ ap (λ (c : Configuration). map (frame_change line m m') (filter (has_moved m m') (range_with_len 0 c.frames))) config
+
+-- the images of a slot that the call turns are the same if they are reported
+abbrev pub SameImages : State → State → State → Type 0
+SameImages m n m' = (v : ℕ) → has_turned m m' v ≡ true → images_for (slot_at m' v).phase (measured_images n v) ≡ images_for (slot_at m' v).phase (measured_images m v)
+
+-- what is reported of slots
+slots-told : (view : View) (line : ℕ) (m n m' n' : State) → Alike view m n → Alike view m' n' → SameImages m n m' → phase_changes_by line n n' ≡ phase_changes_by line m m'
+slots-told view line m n m' n' before after images =
+    let config = before.config in
+    let first = before.slots in
+    let second = after.slots in
+    let turned : (v : ℕ) → has_turned n n' v ≡ has_turned m m' v = λ v. ap₂ (λ (a b : List Slot). not (same_phase (get_or a v empty_slot).phase (get_or b v empty_slot).phase)) first second in
+    picked-same (has_turned n n') (has_turned m m') (phase_change line n n') (phase_change line m m') (range_with_len 0 (slot_count n.config)) turned
+    (λ v h.
+    ap (λ (slots : List Slot). record { line = line; vm = v; phase = (get_or slots v empty_slot).phase; images = images_for (get_or slots v empty_slot).phase (measured_images n v) }) second
+    ∙ ap (λ told. record { line = line; vm = v; phase = (slot_at m' v).phase; images = told }) (images v (sym (turned v) ∙ h)))
+    ∙ ap (λ (c : Configuration). map (phase_change line m m') (filter (has_turned m m') (range_with_len 0 (slot_count c)))) config
+
+-- what is reported of a call
+pub changes-told : (view : View) (line : ℕ) (m n m' n' : State) → Alike view m n → Alike view m' n' → SameImages m n m' → changes_by line n n' ≡ changes_by line m m'
+changes-told view line m n m' n' before after images =
+    ap₂ ◌++◌ (ap (map change.Frame) (frames-told view line m n m' n' before after)) (ap (map change.Phase) (slots-told view line m n m' n' before after images))
+
+-- a slot that is reported without images: it stays in its phase, or is booting or empty after the call
+abbrev IsQuiet : State → State → ℕ → Type 0
+IsQuiet m m' v = ((slot_at m' v).phase ≡ (slot_at m v).phase) ⊎ ((images : List MeasuredImage) → images_for (slot_at m' v).phase images ≡ [])
+
+quiet-images : (m n m' : State) (v : ℕ) → IsQuiet m m' v → has_turned m m' v ≡ true → images_for (slot_at m' v).phase (measured_images n v) ≡ images_for (slot_at m' v).phase (measured_images m v)
+quiet-images m n m' v quiet turned = elim quiet [
+  | inl same ↦ let still = not-turned m m' v same in absurd cc
+  | inr none ↦ none (measured_images n v) ∙ sym (none (measured_images m v))
+]
+
+view-phase : (m : State) (w : ℕ) (slot : Slot) (v : ℕ) → slot.phase ≡ (slot_at m w).phase → (slot_at (with_slot m w slot) v).phase ≡ (slot_at m v).phase
+view-phase m w slot v same = part-set (λ (s : Slot). s.phase) m.slots w slot empty_slot same v
+
+-- a slot is written in a phase without images
+written-quiet : (m : State) (w : ℕ) (slot : Slot) (v : ℕ) → ((images : List MeasuredImage) → images_for slot.phase images ≡ []) → IsQuiet m (with_slot m w slot) v
+written-quiet m w slot v none = elim (cases_eq v w) [
+  | inl same ↦ elim (set-here m.slots w slot empty_slot) [
+    | inl is ↦ inr (λ images. ap (λ k. images_for (slot_at (with_slot m w slot) k).phase images) same ∙ ap (λ (s : Slot). images_for s.phase images) is ∙ none images)
+    | inr is ↦ inr (λ images. ap (λ k. images_for (slot_at (with_slot m w slot) k).phase images) same ∙ ap (λ (s : Slot). images_for s.phase images) is)
+  ]
+  | inr other ↦ inl (ap (λ (s : Slot). s.phase) (get_or-set_other m.slots w v slot empty_slot other))
+]
+
+quiet-takes : (m : State) (free : List ℕ) (v : ℕ) → IsQuiet m (host_takes m free).1 v
+quiet-takes m [] v = inl refl
+quiet-takes m (f ∷ rest) v = inl refl
+
+quiet-reads : (m : State) (w c g off len : ℕ) (at : Option ℕ) (v : ℕ) → IsQuiet m (guest_read m w c g off len at).1 v
+quiet-reads m w c g off len None v = inl (view-phase m w _ v refl)
+quiet-reads m w c g off len (Some f) v = inl (view-phase m w _ v refl)
+
+quiet-writes : (m : State) (w c g off : ℕ) (bytes : List ℕ) (at : Option ℕ) (v : ℕ) → IsQuiet m (guest_written m w c g off bytes at).1 v
+quiet-writes m w c g off bytes None v = inl (view-phase m w _ v refl)
+quiet-writes m w c g off bytes (Some f) v = inl (view-phase m w _ v refl)
+
+-- a slot other than the measured one
+verifies-other : (m : State) (w : ℕ) (first : Option ℕ) (v : ℕ) → (v ≡ w → ⊥) → (slot_at (verified m w first).1 v).phase ≡ (slot_at m v).phase
+verifies-other m w None v other =
+    ap (λ (s : Slot). s.phase) (get_or-set_other (all_trimmed m w (slot_at m w).images).slots w v _ empty_slot other)
+    ∙ ap (λ (slots : List Slot). (get_or slots v empty_slot).phase) (slots-trimmed m w (slot_at m w).images)
+verifies-other m w (Some i) v other = ap (λ (s : Slot). s.phase) (get_or-set_other m.slots w v _ empty_slot other)
+
+-- the images of the slot that is measured
+verify-images : (view : View) (m : State) (ys : List Frame) (w : ℕ) → IsLawful m → IsLawful (beside m ys) → Alike view m (beside m ys) → refusal m (Verify w) ≡ None → measured_images (beside m ys) w ≡ measured_images m w
+verify-images view m ys w is other_is differ served =
+    let seen = verify-served m w served in
+    maps-same (measured_image (beside m ys) w) (measured_image m w) (slot_at m w).images (λ i d lt.
+    let image = get_or (slot_at m w).images i d in
+    ap (λ bytes. record { base = image.base; len = image.len; digest = sha256 bytes }) (image-same view m ys is other_is differ.number differ.frames w seen.0 seen.1 seen.2 i d lt))
+
+by-quiet : (m : State) (ys : List Frame) (call : Call) (v : ℕ) → IsQuiet m (effect m call).1 v → has_turned m (effect m call).1 v ≡ true → images_for (slot_at (effect m call).1 v).phase (measured_images (beside m ys) v) ≡ images_for (slot_at (effect m call).1 v).phase (measured_images m v)
+by-quiet m ys call v quiet turned = quiet-images m (beside m ys) (effect m call).1 v quiet turned
+
+images-effect : (view : View) (m : State) (ys : List Frame) (call : Call) → IsLawful m → IsLawful (beside m ys) → Alike view m (beside m ys) → refusal m call ≡ None → SameImages m (beside m ys) (effect m call).1
+images-effect view m ys Take is other_is differ served v turned = by-quiet m ys Take v (quiet-takes m m.free v) turned
+images-effect view m ys (Give f) is other_is differ served v turned = by-quiet m ys (Give f) v (inl refl) turned
+images-effect view m ys (HostFault f) is other_is differ served v turned = by-quiet m ys (HostFault f) v (inl refl) turned
+images-effect view m ys (HostRead f off len) is other_is differ served v turned = by-quiet m ys (HostRead f off len) v (inl refl) turned
+images-effect view m ys (HostWrite f off bytes) is other_is differ served v turned = by-quiet m ys (HostWrite f off bytes) v (inl refl) turned
+images-effect view m ys (RegisterVm w) is other_is differ served v turned = by-quiet m ys (RegisterVm w) v (written-quiet m w _ v (λ images. refl)) turned
+images-effect view m ys (RegisterVcpu w c) is other_is differ served v turned = by-quiet m ys (RegisterVcpu w c) v (inl (view-phase m w _ v refl)) turned
+images-effect view m ys (SetBoot w base len) is other_is differ served v turned = by-quiet m ys (SetBoot w base len) v (inl (view-phase m w _ v refl)) turned
+images-effect view m ys (Remap w i f) is other_is differ served v turned = by-quiet m ys (Remap w i f) v (inl (view-phase (hand m w (next_gfn m w i) f) w _ v refl ∙ view-phase m w _ v refl)) turned
+images-effect view m ys (Verify w) is other_is differ served v turned = elim (cases_eq v w) [
+  | inl same ↦ ap (images_for (slot_at (effect m (Verify w)).1 v).phase) (subst (λ k. measured_images (beside m ys) k ≡ measured_images m k) (sym same) (verify-images view m ys w is other_is differ served))
+  | inr other ↦ by-quiet m ys (Verify w) v (inl (verifies-other m w (first_failing (is_approved m w) (slot_at m w).images) v other)) turned
+]
+images-effect view m ys (Map w c f) is other_is differ served v turned = by-quiet m ys (Map w c f) v (inl (view-phase (hand m w (pending m w c) f) w _ v refl ∙ view-phase m w _ v refl)) turned
+images-effect view m ys (GuestRead w c g off len) is other_is differ served v turned = by-quiet m ys (GuestRead w c g off len) v (quiet-reads m w c g off len _ v) turned
+images-effect view m ys (GuestWrite w c g off bytes) is other_is differ served v turned = by-quiet m ys (GuestWrite w c g off bytes) v (quiet-writes m w c g off bytes _ v) turned
+images-effect view m ys (Grant w c g) is other_is differ served v turned = by-quiet m ys (Grant w c g) v (inl refl) turned
+images-effect view m ys (Revoke w c g) is other_is differ served v turned = by-quiet m ys (Revoke w c g) v (inl refl) turned
+images-effect view m ys (GrantRange w c g n) is other_is differ served v turned = by-quiet m ys (GrantRange w c g n) v (inl refl) turned
+images-effect view m ys (RevokeRange w c g n) is other_is differ served v turned = by-quiet m ys (RevokeRange w c g n) v (inl refl) turned
+images-effect view m ys (Drop w c g) is other_is differ served v turned = by-quiet m ys (Drop w c g) v (inl (view-phase m w _ v refl)) turned
+images-effect view m ys (Clear w) is other_is differ served v turned = by-quiet m ys (Clear w) v (written-quiet m w empty_slot v (λ images. refl)) turned
+
+images-unless : (refused : Option Refusal) (view : View) (m : State) (ys : List Frame) (call : Call) → IsLawful m → IsLawful (beside m ys) → Alike view m (beside m ys) → refusal m call ≡ refused → SameImages m (beside m ys) (unless_refused refused m call).1
+images-unless None view m ys call is other_is differ served v turned = images-effect view m ys call is other_is differ served v turned
+images-unless (Some r) view m ys call is other_is differ served v turned = quiet-images m (beside m ys) m v (inl refl) turned
+
+images-next : (view : View) (m n : State) (call : Call) → IsLawful m → IsLawful n → Alike view m n → SameImages m n (next m call).1
+unfolding next
+images-next view m n call is other_is differ =
+    let same = beside-is view m n differ in
+    subst (λ (x : State). SameImages m x (next m call).1) same
+    (images-unless (refusal m call) view m n.frames call is (subst IsLawful (sym same) other_is) (subst (λ (x : State). Alike view m x) (sym same) differ) refl)
+
+-- the host's accesses
+
+is_data : Reply → Bool
+is_data (reply.Data bytes) = true
+is_data _ = false
+
+read-told : (m : State) (f off len : ℕ) (answer : Reply) → access_by m (HostRead f off len) answer ≡ cond (is_data answer) (of_owner event.Read (frame_at m f).owner) []
+unfolding is_data
+read-told m f off len (reply.Data bytes) = refl
+read-told m f off len _ = refl
+
+data-form : (answer : Reply) → is_data (redacted_reply answer) ≡ is_data answer
+unfolding is_data
+data-form (reply.Data bytes) = refl
+data-form _ = refl
+
+write-told : (m n : State) (f off : ℕ) (bytes written : List ℕ) (answer : Reply) → (frame_at n f).owner ≡ (frame_at m f).owner → access_by n (HostWrite f off written) answer ≡ access_by m (HostWrite f off bytes) answer
+write-told m n f off bytes written reply.Done owner = ap (of_owner event.Write) owner
+write-told m n f off bytes written _ owner = refl
+
+access-told : (view : View) (m n : State) (call : Call) (other : List ℕ) (answer reply : Reply) → Alike view m n → IsReply view m call answer reply → access_by n (with_bytes call other) reply ≡ access_by m call answer
+access-told view m n (HostRead f off len) other answer reply differ same =
+    let owner = owner-alike _ _ _ (differ.frames f) in
+    let form : is_data reply ≡ is_data answer = sym (data-form reply) ∙ ap is_data same.form ∙ data-form answer in
+    read-told n f off len reply ∙ ap₂ (λ b o. cond b (of_owner event.Read o) []) form owner ∙ sym (read-told m f off len answer)
+access-told view m n (HostWrite f off bytes) other answer reply differ same =
+    ap (access_by n (HostWrite f off other)) (same.whole (λ reads. absurd cc)) ∙ write-told m n f off bytes other answer (owner-alike _ _ _ (differ.frames f))
+access-told view m n (GuestWrite v c g off bytes) other answer reply differ same = refl
+access-told view m n _ other answer reply differ same = refl
+
+-- the events of a call
+pub events-told : (view : View) (k : ℕ) (m n : State) (call : Call) (other : List ℕ) → IsView view → IsLawful m → IsLawful n → Alike view m n → MayWrite view m call other → keeps_images view.kept call ≡ true → events_by k n (with_bytes call other) ≡ events_by k m call
+events-told view k m n call other is_view is other_is differ may keeps =
+    let both = step view m n call other is_view is other_is differ may keeps in
+    ap₂ ◌++◌ (access-told view m n call other (next m call).0 (next n (with_bytes call other)).0 differ both.answer)
+    (ap (map event.Change) (changes-told view k m n (next m call).1 (next n (with_bytes call other)).1 differ both.states (images-next view m n call is other_is differ)))
