@@ -14,3 +14,4 @@ pub mod Sizes
 pub mod Counts
 pub mod Places
 pub mod Owners
+pub mod Phases

@@ -4,7 +4,7 @@ use Rattle.std.specs.List.{range_with_len}
 use Rattle.std.proofs.lemmas.Bool.{and_parts}
 use Rattle.std.proofs.lemmas.List.{set-get_or, length-set}
 use Rattle.kc_types.specs.declared.call.Call.{Call}
-use Rattle.kc_types.specs.declared.call.Call.TheVariants.{Take, Give, HostFault, HostRead, HostWrite, RegisterVm, RegisterVcpu, SetBoot, Remap, Verify, Map, GuestRead, GuestWrite, Grant, Revoke, GrantRange, RevokeRange, Drop, Clear}
+use Rattle.kc_types.specs.declared.call.Call.TheVariants.{HostRead, HostWrite, GuestRead, GuestWrite}
 use Rattle.kc_types.specs.declared.refusal.Refusal.{Refusal}
 use Rattle.kc_types.specs.declared.owner.Owner.TheVariants.{Core}
 use Rattle.kc_types.specs.declared.slot.Phase.TheVariants.{Active}
@@ -84,21 +84,7 @@ lacks-effect kept m (GuestWrite v c g off bytes) is may served =
     let parts = and_parts (is_none (vcpu_at m v c).fault) (is_some (mapped_at m v g)) may in
     let seen = (guest_access-served m v c g off (length bytes) served).0 in
     writes-unseen kept m v c g off bytes (mapped_at m v g) is seen.vm seen.active refl parts.0 parts.1
-lacks-effect kept m Take is may served = absurd cc
-lacks-effect kept m (Give f) is may served = absurd cc
-lacks-effect kept m (HostFault f) is may served = absurd cc
-lacks-effect kept m (RegisterVm v) is may served = absurd cc
-lacks-effect kept m (RegisterVcpu v c) is may served = absurd cc
-lacks-effect kept m (SetBoot v base len) is may served = absurd cc
-lacks-effect kept m (Remap v i f) is may served = absurd cc
-lacks-effect kept m (Verify v) is may served = absurd cc
-lacks-effect kept m (Map v c f) is may served = absurd cc
-lacks-effect kept m (Grant v c g) is may served = absurd cc
-lacks-effect kept m (Revoke v c g) is may served = absurd cc
-lacks-effect kept m (GrantRange v c g n) is may served = absurd cc
-lacks-effect kept m (RevokeRange v c g n) is may served = absurd cc
-lacks-effect kept m (Drop v c g) is may served = absurd cc
-lacks-effect kept m (Clear v) is may served = absurd cc
+lacks-effect kept m _ is may served = absurd cc
 
 lacks-unless : (refused : Option Refusal) (kept : ℕ → Bool) (m : State) (call : Call) → IsLawful m → may_lack kept m call ≡ true → refusal m call ≡ refused → DifferInBytes kept m (unless_refused refused m call).1
 lacks-unless None kept m call is may served = lacks-effect kept m call is may served

@@ -3,13 +3,13 @@ use Rattle.std.proofs.Common.{ℕ, ◌≡◌, ◌⊎◌, inl, inr, zero, suc, �
 use Rattle.std.proofs.lemmas.Bool.{cases_eq}
 use Rattle.std.specs.List.{list_all}
 use Rattle.std.specs.Option.{option_map}
-use Rattle.kc_types.specs.declared.call.Call.TheVariants.{Take, Give, HostFault, HostRead, HostWrite, RegisterVm, RegisterVcpu, SetBoot, Remap, Verify, Map, GuestRead, GuestWrite, Grant, Revoke, GrantRange, RevokeRange, Drop, Clear}
+use Rattle.kc_types.specs.declared.call.Call.TheVariants.{RegisterVm, Verify, Clear}
 use Rattle.kc_types.specs.declared.reply.Reply.{Reply}
 use Rattle.kc_types.specs.declared.reply.Reply.TheVariants as reply
 use Rattle.kc_types.specs.declared.refusal.Refusal.{Refusal}
-use Rattle.kc_model.specs.Refusals.{refusal, next_gfn, pending}
-use Rattle.kc_model.specs.Effects.{effect, host_takes, hand, guest_read, guest_written, verified, all_trimmed, is_approved, first_failing}
-use Rattle.kc_model.proofs.States.Frames.{part-set}
+use Rattle.kc_model.specs.Refusals.{refusal}
+use Rattle.kc_model.specs.Effects.{effect, verified, all_trimmed, is_approved, first_failing}
+use Rattle.kc_model.proofs.States.Phases.{phase-effect}
 use Rattle.kc_model.proofs.Lawful.Verifies.{slots-trimmed}
 use Rattle.kc_types.specs.declared.call.Call.{Call}
 use Rattle.kc_types.specs.declared.slot.Phase.TheVariants.{Active}
@@ -33,24 +33,8 @@ written-active m w slot v active = elim (cases_eq v w) [
   | inr other ↦ inr (other, sym (ap (λ (s : Slot). s.phase) (get_or-set_other m.slots w v slot empty_slot other)) ∙ active)
 ]
 
--- a written slot that keeps its phase
-kept-active : (m : State) (w : ℕ) (slot : Slot) (v : ℕ) → slot.phase ≡ (slot_at m w).phase → IsActive (with_slot m w slot) v → IsActive m v
-kept-active m w slot v same active = sym (part-set (λ (s : Slot). s.phase) m.slots w slot empty_slot same v) ∙ active
-
 Becomes : ℕ → State → Call → Reply → Type 0
 Becomes v m call answer = ((Clears v call answer → ⊥) × IsActive m v) ⊎ Measures v m call answer
-
-takes-active : (v : ℕ) (m : State) (free : List ℕ) → IsActive (host_takes m free).1 v → IsActive m v
-takes-active v m [] active = active
-takes-active v m (f ∷ rest) active = active
-
-reads-active : (v : ℕ) (m : State) (w c g off len : ℕ) (at : Option ℕ) → IsActive (guest_read m w c g off len at).1 v → IsActive m v
-reads-active v m w c g off len None active = kept-active m w _ v refl active
-reads-active v m w c g off len (Some f) active = kept-active m w _ v refl active
-
-writes-active : (v : ℕ) (m : State) (w c g off : ℕ) (bytes : List ℕ) (at : Option ℕ) → IsActive (guest_written m w c g off bytes at).1 v → IsActive m v
-writes-active v m w c g off bytes None active = kept-active m w _ v refl active
-writes-active v m w c g off bytes (Some f) active = kept-active m w _ v refl active
 
 pass_rest : {X : Type 0} (p : X → Bool) (xs : List X) (rest : Option ℕ) → first_failing p xs ≡ rest → option_map (λ place. place + 1) rest ≡ None → first_failing p xs ≡ None
 pass_rest p xs None is e = is
@@ -78,31 +62,16 @@ verifies-active v m w (Some i) e active = elim (written-active m w _ v active) [
 
 effect-active : (v : ℕ) (m : State) (call : Call) → IsActive (effect m call).1 v → Becomes v m call (effect m call).0
 unfolding Becomes
-effect-active v m Take active = inl (λ h. h, takes-active v m m.free active)
-effect-active v m (Give f) active = inl (λ h. h, active)
-effect-active v m (HostFault f) active = inl (λ h. h, active)
-effect-active v m (HostRead f off len) active = inl (λ h. h, active)
-effect-active v m (HostWrite f off bytes) active = inl (λ h. h, active)
 effect-active v m (RegisterVm w) active = elim (written-active m w _ v active) [
   | inl set ↦ absurd (let h = set.1 in cc)
   | inr other ↦ inl (λ h. h, other.1)
 ]
-effect-active v m (RegisterVcpu w c) active = inl (λ h. h, kept-active m w _ v refl active)
-effect-active v m (SetBoot w base len) active = inl (λ h. h, kept-active m w _ v refl active)
-effect-active v m (Remap w i f) active = inl (λ h. h, kept-active m w _ v refl (kept-active (hand m w (next_gfn m w i) f) w _ v refl active))
 effect-active v m (Verify w) active = verifies-active v m w _ refl active
-effect-active v m (Map w c f) active = inl (λ h. h, kept-active m w _ v refl (kept-active (hand m w (pending m w c) f) w _ v refl active))
-effect-active v m (GuestRead w c g off len) active = inl (λ h. h, reads-active v m w c g off len _ active)
-effect-active v m (GuestWrite w c g off bytes) active = inl (λ h. h, writes-active v m w c g off bytes _ active)
-effect-active v m (Grant w c g) active = inl (λ h. h, active)
-effect-active v m (Revoke w c g) active = inl (λ h. h, active)
-effect-active v m (GrantRange w c g n) active = inl (λ h. h, active)
-effect-active v m (RevokeRange w c g n) active = inl (λ h. h, active)
-effect-active v m (Drop w c g) active = inl (λ h. h, kept-active m w _ v refl active)
 effect-active v m (Clear w) active = elim (written-active m w empty_slot v active) [
   | inl set ↦ absurd (let h = set.1 in cc)
   | inr other ↦ inl (λ h. other.0 (sym h), other.1)
 ]
+effect-active v m call active = inl (λ h. h, sym (phase-effect m call v (λ e. cc)) ∙ active)
 
 refused-clears : (v : ℕ) (call : Call) (r : Refusal) → Clears v call (reply.Refused r) → ⊥
 refused-clears v (Clear w) r h = h

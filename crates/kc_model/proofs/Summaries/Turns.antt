@@ -1,24 +1,24 @@
 -- How one call turns a slot's phase.
-use Rattle.std.proofs.Common.{ℕ, ◌≡◌, ◌<◌, inl, inr, List, [], ◌∷◌, length, get_or, Option, None, Some, refl, sym, ap, subst, ◌∙◌}
+use Rattle.std.proofs.Common.{ℕ, ◌≡◌, ◌<◌, inl, inr, List, [], length, get_or, Option, None, Some, refl, sym, ap, subst, ◌∙◌}
 use Rattle.std.proofs.lemmas.Bool.{cases_eq}
 use Rattle.kc_types.specs.Configuration.{slot_count}
 use Rattle.kc_types.specs.declared.refusal.Refusal.{Refusal}
 use Rattle.kc_types.specs.declared.slot.Phase.TheVariants.{Empty, Booting, Active, Dead}
 use Rattle.kc_types.specs.declared.call.Call.{Call}
-use Rattle.kc_types.specs.declared.call.Call.TheVariants.{Take, Give, HostFault, HostRead, HostWrite, RegisterVm, RegisterVcpu, SetBoot, Remap, Verify, Map, GuestRead, GuestWrite, Grant, Revoke, GrantRange, RevokeRange, Drop, Clear}
+use Rattle.kc_types.specs.declared.call.Call.TheVariants.{RegisterVm, Verify, Clear}
 use Rattle.kc_types.specs.declared.reply.Reply.{Reply}
-use Rattle.kc_model.specs.State.{State, Slot, slot_at, mapped_at, with_slot, empty_slot}
+use Rattle.kc_model.specs.State.{State, Slot, slot_at, with_slot, empty_slot}
 use Rattle.kc_model.specs.Slot.{in_phase}
-use Rattle.kc_model.specs.Refusals.{refusal, conditions, next_gfn, pending}
-use Rattle.kc_model.specs.Effects.{effect, host_takes, hand, guest_read, guest_written, verified, all_trimmed, first_failing, is_approved}
+use Rattle.kc_model.specs.Refusals.{refusal, conditions}
+use Rattle.kc_model.specs.Effects.{effect, verified, all_trimmed, first_failing, is_approved}
 use Rattle.kc_model.specs.Next.{next, unless_refused}
 use Rattle.kc_model.specs.Lawful.{IsLawful}
 use Rattle.kc_model.specs.Safety.{Clears}
 use Rattle.kc_model.specs.Summaries.{registered_by}
 use Rattle.kc_model.proofs.Refusals.Served.{none-of}
 use Rattle.kc_model.proofs.Refusals.Answered.{vm-in, was-empty}
-use Rattle.kc_model.proofs.States.Frames.{part-set}
-use Rattle.kc_model.proofs.States.Changes.{slot-here, slot-elsewhere}
+use Rattle.kc_model.proofs.States.Phases.{phase-effect, phase-elsewhere}
+use Rattle.kc_model.proofs.States.Changes.{slot-here}
 use Rattle.kc_model.proofs.Lawful.Verifies.{slots-trimmed, verify-served}
 
 -- the slot keeps its phase, is registered without frames, is measured, or is cleared
@@ -29,27 +29,8 @@ pub data Turns (v : ℕ) (m : State) (call : Call) (answer : Reply) (new : State
   rejects : (slot_at m v).phase ≡ Booting → (slot_at new v).phase ≡ Dead → Turns v m call answer new
   clears : Clears v call answer → (slot_at new v).phase ≡ Empty → Turns v m call answer new
 
--- a written slot that keeps its phase, and another slot
-phase-kept : (m : State) (w : ℕ) (slot : Slot) (v : ℕ) → slot.phase ≡ (slot_at m w).phase → (slot_at (with_slot m w slot) v).phase ≡ (slot_at m v).phase
-phase-kept m w slot v same = part-set (λ (s : Slot). s.phase) m.slots w slot empty_slot same v
-
-phase-elsewhere : (m : State) (w : ℕ) (slot : Slot) (v : ℕ) → (v ≡ w → ⊥) → (slot_at (with_slot m w slot) v).phase ≡ (slot_at m v).phase
-phase-elsewhere m w slot v other = ap (λ (s : Slot). s.phase) (slot-elsewhere m w slot v other)
-
 phase-here : (m : State) (w : ℕ) (slot : Slot) (v : ℕ) → w < length m.slots → v ≡ w → slot_at (with_slot m w slot) v ≡ slot
 phase-here m w slot v low same = ap (λ k. slot_at (with_slot m w slot) k) same ∙ slot-here m w slot low
-
-takes : (v : ℕ) (m : State) (free : List ℕ) → (slot_at (host_takes m free).1 v).phase ≡ (slot_at m v).phase
-takes v m [] = refl
-takes v m (f ∷ rest) = refl
-
-reads : (v : ℕ) (m : State) (w c g off len : ℕ) (at : Option ℕ) → (slot_at (guest_read m w c g off len at).1 v).phase ≡ (slot_at m v).phase
-reads v m w c g off len None = phase-kept m w _ v refl
-reads v m w c g off len (Some f) = phase-kept m w _ v refl
-
-writes : (v : ℕ) (m : State) (w c g off : ℕ) (bytes : List ℕ) (at : Option ℕ) → (slot_at (guest_written m w c g off bytes at).1 v).phase ≡ (slot_at m v).phase
-writes v m w c g off bytes None = phase-kept m w _ v refl
-writes v m w c g off bytes (Some f) = phase-kept m w _ v refl
 
 turns-verify : (v : ℕ) (m : State) (w : ℕ) (first : Option ℕ) → w < length m.slots → (slot_at m w).phase ≡ Booting → Turns v m (Verify w) (verified m w first).0 (verified m w first).1
 turns-verify v m w None low booting =
@@ -87,25 +68,10 @@ turns-clear v m w is served =
     ]
 
 turns-effect : (v : ℕ) (m : State) (call : Call) → IsLawful m → refusal m call ≡ None → Turns v m call (effect m call).0 (effect m call).1
-turns-effect v m Take is served = stays (takes v m m.free)
-turns-effect v m (Give g) is served = stays refl
-turns-effect v m (HostFault g) is served = stays refl
-turns-effect v m (HostRead g off len) is served = stays refl
-turns-effect v m (HostWrite g off bytes) is served = stays refl
 turns-effect v m (RegisterVm w) is served = turns-register v m w is served
-turns-effect v m (RegisterVcpu w c) is served = stays (phase-kept m w _ v refl)
-turns-effect v m (SetBoot w base len) is served = stays (phase-kept m w _ v refl)
-turns-effect v m (Remap w i g) is served = stays (phase-kept (hand m w (next_gfn m w i) g) w _ v refl ∙ phase-kept m w _ v refl)
 turns-effect v m (Verify w) is served = turns-verify v m w (first_failing (is_approved m w) (slot_at m w).images) (rw is.slots (verify-served m w served).0) (verify-served m w served).1
-turns-effect v m (Map w c g) is served = stays (phase-kept (hand m w (pending m w c) g) w _ v refl ∙ phase-kept m w _ v refl)
-turns-effect v m (GuestRead w c g off len) is served = stays (reads v m w c g off len (mapped_at m w g))
-turns-effect v m (GuestWrite w c g off bytes) is served = stays (writes v m w c g off bytes (mapped_at m w g))
-turns-effect v m (Grant w c g) is served = stays refl
-turns-effect v m (Revoke w c g) is served = stays refl
-turns-effect v m (GrantRange w c g n) is served = stays refl
-turns-effect v m (RevokeRange w c g n) is served = stays refl
-turns-effect v m (Drop w c g) is served = stays (phase-kept m w _ v refl)
 turns-effect v m (Clear w) is served = turns-clear v m w is served
+turns-effect v m call is served = stays (phase-effect m call v (λ e. cc))
 
 turns-unless : (refused : Option Refusal) (v : ℕ) (m : State) (call : Call) → IsLawful m → refusal m call ≡ refused → Turns v m call (unless_refused refused m call).0 (unless_refused refused m call).1
 turns-unless None v m call is served = turns-effect v m call is served

@@ -5,7 +5,7 @@ use Rattle.std.specs.List.{range_with_len}
 use Rattle.sha2.specs.Sha256.{sha256}
 use Rattle.kc_types.specs.Configuration.{Configuration, slot_count}
 use Rattle.kc_types.specs.declared.call.Call.{Call}
-use Rattle.kc_types.specs.declared.call.Call.TheVariants.{Take, Give, HostFault, HostRead, HostWrite, RegisterVm, RegisterVcpu, SetBoot, Remap, Verify, Map, GuestRead, GuestWrite, Grant, Revoke, GrantRange, RevokeRange, Drop, Clear}
+use Rattle.kc_types.specs.declared.call.Call.TheVariants.{HostRead, HostWrite, RegisterVm, Verify, GuestWrite, Clear}
 use Rattle.kc_types.specs.declared.reply.Reply.{Reply}
 use Rattle.kc_types.specs.declared.reply.Reply.TheVariants as reply
 use Rattle.kc_types.specs.declared.refusal.Refusal.{Refusal}
@@ -13,16 +13,16 @@ use Rattle.kc_types.specs.declared.custody.Event.TheVariants as event
 use Rattle.kc_types.specs.declared.custody.Change.TheVariants as change
 use Rattle.kc_types.specs.declared.custody.MeasuredImage.{MeasuredImage}
 use Rattle.kc_model.specs.State.{State, Frame, Slot, frame_at, slot_at, with_slot, empty_slot}
-use Rattle.kc_model.specs.Refusals.{refusal, next_gfn, pending}
-use Rattle.kc_model.specs.Effects.{effect, host_takes, hand, guest_read, guest_written, verified, all_trimmed, first_failing, is_approved}
+use Rattle.kc_model.specs.Refusals.{refusal}
+use Rattle.kc_model.specs.Effects.{effect}
 use Rattle.kc_model.specs.Next.{next, unless_refused}
 use Rattle.kc_model.specs.Lawful.{IsLawful}
 use Rattle.kc_model.specs.Custody.{same_custody, has_moved, frame_change, frame_changes_by, same_phase, has_turned, measured_image, measured_images, images_for, phase_change, phase_changes_by, changes_by}
 use Rattle.kc_model.specs.Events.{of_owner, access_by, events_by}
 use Rattle.kc_model.specs.Redaction.{keeps_images, redacted_reply}
-use Rattle.kc_model.proofs.States.Frames.{part-set}
+use Rattle.kc_model.proofs.States.Phases.{phase-effect}
 use Rattle.kc_model.proofs.Safe.Measured.{set-here}
-use Rattle.kc_model.proofs.Lawful.Verifies.{slots-trimmed, verify-served}
+use Rattle.kc_model.proofs.Lawful.Verifies.{verify-served}
 use Rattle.kc_model.proofs.Custody.Same.{not-turned}
 use Rattle.kc_model.proofs.Views.Alike.{View, Alike, beside, beside-is, owner-alike}
 use Rattle.kc_model.proofs.Views.Steps.{IsView, with_bytes, MayWrite, IsReply, step, image-same}
@@ -81,9 +81,6 @@ quiet-images m n m' v quiet turned = elim quiet [
   | inr none ↦ none (measured_images n v) ∙ sym (none (measured_images m v))
 ]
 
-view-phase : (m : State) (w : ℕ) (slot : Slot) (v : ℕ) → slot.phase ≡ (slot_at m w).phase → (slot_at (with_slot m w slot) v).phase ≡ (slot_at m v).phase
-view-phase m w slot v same = part-set (λ (s : Slot). s.phase) m.slots w slot empty_slot same v
-
 -- a slot is written in a phase without images
 written-quiet : (m : State) (w : ℕ) (slot : Slot) (v : ℕ) → ((images : List MeasuredImage) → images_for slot.phase images ≡ []) → IsQuiet m (with_slot m w slot) v
 written-quiet m w slot v none = elim (cases_eq v w) [
@@ -93,25 +90,6 @@ written-quiet m w slot v none = elim (cases_eq v w) [
   ]
   | inr other ↦ inl (ap (λ (s : Slot). s.phase) (get_or-set_other m.slots w v slot empty_slot other))
 ]
-
-quiet-takes : (m : State) (free : List ℕ) (v : ℕ) → IsQuiet m (host_takes m free).1 v
-quiet-takes m [] v = inl refl
-quiet-takes m (f ∷ rest) v = inl refl
-
-quiet-reads : (m : State) (w c g off len : ℕ) (at : Option ℕ) (v : ℕ) → IsQuiet m (guest_read m w c g off len at).1 v
-quiet-reads m w c g off len None v = inl (view-phase m w _ v refl)
-quiet-reads m w c g off len (Some f) v = inl (view-phase m w _ v refl)
-
-quiet-writes : (m : State) (w c g off : ℕ) (bytes : List ℕ) (at : Option ℕ) (v : ℕ) → IsQuiet m (guest_written m w c g off bytes at).1 v
-quiet-writes m w c g off bytes None v = inl (view-phase m w _ v refl)
-quiet-writes m w c g off bytes (Some f) v = inl (view-phase m w _ v refl)
-
--- a slot other than the measured one
-verifies-other : (m : State) (w : ℕ) (first : Option ℕ) (v : ℕ) → (v ≡ w → ⊥) → (slot_at (verified m w first).1 v).phase ≡ (slot_at m v).phase
-verifies-other m w None v other =
-    ap (λ (s : Slot). s.phase) (get_or-set_other (all_trimmed m w (slot_at m w).images).slots w v _ empty_slot other)
-    ∙ ap (λ (slots : List Slot). (get_or slots v empty_slot).phase) (slots-trimmed m w (slot_at m w).images)
-verifies-other m w (Some i) v other = ap (λ (s : Slot). s.phase) (get_or-set_other m.slots w v _ empty_slot other)
 
 -- the images of the slot that is measured
 verify-images : (view : View) (m : State) (ys : List Frame) (w : ℕ) → IsLawful m → IsLawful (beside m ys) → Alike view m (beside m ys) → refusal m (Verify w) ≡ None → measured_images (beside m ys) w ≡ measured_images m w
@@ -124,29 +102,17 @@ verify-images view m ys w is other_is differ served =
 by-quiet : (m : State) (ys : List Frame) (call : Call) (v : ℕ) → IsQuiet m (effect m call).1 v → has_turned m (effect m call).1 v ≡ true → images_for (slot_at (effect m call).1 v).phase (measured_images (beside m ys) v) ≡ images_for (slot_at (effect m call).1 v).phase (measured_images m v)
 by-quiet m ys call v quiet turned = quiet-images m (beside m ys) (effect m call).1 v quiet turned
 
+same-slot : (w v : ℕ) → Some w ≡ Some v → v ≡ w
+same-slot w v e = cc
+
 images-effect : (view : View) (m : State) (ys : List Frame) (call : Call) → IsLawful m → IsLawful (beside m ys) → Alike view m (beside m ys) → refusal m call ≡ None → SameImages m (beside m ys) (effect m call).1
-images-effect view m ys Take is other_is differ served v turned = by-quiet m ys Take v (quiet-takes m m.free v) turned
-images-effect view m ys (Give f) is other_is differ served v turned = by-quiet m ys (Give f) v (inl refl) turned
-images-effect view m ys (HostFault f) is other_is differ served v turned = by-quiet m ys (HostFault f) v (inl refl) turned
-images-effect view m ys (HostRead f off len) is other_is differ served v turned = by-quiet m ys (HostRead f off len) v (inl refl) turned
-images-effect view m ys (HostWrite f off bytes) is other_is differ served v turned = by-quiet m ys (HostWrite f off bytes) v (inl refl) turned
 images-effect view m ys (RegisterVm w) is other_is differ served v turned = by-quiet m ys (RegisterVm w) v (written-quiet m w _ v (λ images. refl)) turned
-images-effect view m ys (RegisterVcpu w c) is other_is differ served v turned = by-quiet m ys (RegisterVcpu w c) v (inl (view-phase m w _ v refl)) turned
-images-effect view m ys (SetBoot w base len) is other_is differ served v turned = by-quiet m ys (SetBoot w base len) v (inl (view-phase m w _ v refl)) turned
-images-effect view m ys (Remap w i f) is other_is differ served v turned = by-quiet m ys (Remap w i f) v (inl (view-phase (hand m w (next_gfn m w i) f) w _ v refl ∙ view-phase m w _ v refl)) turned
 images-effect view m ys (Verify w) is other_is differ served v turned = elim (cases_eq v w) [
   | inl same ↦ ap (images_for (slot_at (effect m (Verify w)).1 v).phase) (subst (λ k. measured_images (beside m ys) k ≡ measured_images m k) (sym same) (verify-images view m ys w is other_is differ served))
-  | inr other ↦ by-quiet m ys (Verify w) v (inl (verifies-other m w (first_failing (is_approved m w) (slot_at m w).images) v other)) turned
+  | inr other ↦ by-quiet m ys (Verify w) v (inl (phase-effect m (Verify w) v (λ e. other (same-slot w v e)))) turned
 ]
-images-effect view m ys (Map w c f) is other_is differ served v turned = by-quiet m ys (Map w c f) v (inl (view-phase (hand m w (pending m w c) f) w _ v refl ∙ view-phase m w _ v refl)) turned
-images-effect view m ys (GuestRead w c g off len) is other_is differ served v turned = by-quiet m ys (GuestRead w c g off len) v (quiet-reads m w c g off len _ v) turned
-images-effect view m ys (GuestWrite w c g off bytes) is other_is differ served v turned = by-quiet m ys (GuestWrite w c g off bytes) v (quiet-writes m w c g off bytes _ v) turned
-images-effect view m ys (Grant w c g) is other_is differ served v turned = by-quiet m ys (Grant w c g) v (inl refl) turned
-images-effect view m ys (Revoke w c g) is other_is differ served v turned = by-quiet m ys (Revoke w c g) v (inl refl) turned
-images-effect view m ys (GrantRange w c g n) is other_is differ served v turned = by-quiet m ys (GrantRange w c g n) v (inl refl) turned
-images-effect view m ys (RevokeRange w c g n) is other_is differ served v turned = by-quiet m ys (RevokeRange w c g n) v (inl refl) turned
-images-effect view m ys (Drop w c g) is other_is differ served v turned = by-quiet m ys (Drop w c g) v (inl (view-phase m w _ v refl)) turned
 images-effect view m ys (Clear w) is other_is differ served v turned = by-quiet m ys (Clear w) v (written-quiet m w empty_slot v (λ images. refl)) turned
+images-effect view m ys call is other_is differ served v turned = by-quiet m ys call v (inl (phase-effect m call v (λ e. cc))) turned
 
 images-unless : (refused : Option Refusal) (view : View) (m : State) (ys : List Frame) (call : Call) → IsLawful m → IsLawful (beside m ys) → Alike view m (beside m ys) → refusal m call ≡ refused → SameImages m (beside m ys) (unless_refused refused m call).1
 images-unless None view m ys call is other_is differ served v turned = images-effect view m ys call is other_is differ served v turned
