@@ -5,7 +5,7 @@ use Rattle.std.proofs.lemmas.List.{length-take}
 use Rattle.std.proofs.lemmas.Grind.{common_steps}
 use Rattle.kc_types.specs.ReplyBytes.{bytes_in, readable, most_reply_bytes}
 use Rattle.kc_types.specs.declared.call.Call.{Call}
-use Rattle.kc_types.specs.declared.call.Call.TheVariants.{Take, Give, HostFault, HostRead, HostWrite, RegisterVm, RegisterVcpu, SetBoot, Remap, Verify, Map, GuestRead, GuestWrite, Grant, Revoke, GrantRange, RevokeRange, Drop, Clear}
+use Rattle.kc_types.specs.declared.call.Call.TheVariants.{Take, HostRead, Verify, GuestRead, GuestWrite}
 use Rattle.kc_types.specs.declared.refusal.Refusal.{Refusal}
 use Rattle.kc_model.specs.State.{State, frame_at, mapped_at, slot_at}
 use Rattle.kc_model.specs.Refusals.{refusal}
@@ -38,24 +38,11 @@ bytes-read m v c g off len (Some f) few = bytes-range (frame_at m f).bytes off l
 
 bytes-effect : (m : State) (call : Call) → refusal m call ≡ None → bytes_in (effect m call).0 ≤ most_reply_bytes call
 bytes-effect m Take h = none-taken m m.free
-bytes-effect m (Give f) h = omega arith
-bytes-effect m (HostFault f) h = omega arith
 bytes-effect m (HostRead f off len) h = let served = host_access-served m f off len h in let within = served.within in bytes-range (frame_at m f).bytes off len (omega arith)
-bytes-effect m (HostWrite f off bytes) h = omega arith
-bytes-effect m (RegisterVm v) h = omega arith
-bytes-effect m (RegisterVcpu v c) h = omega arith
-bytes-effect m (SetBoot v base len) h = omega arith
-bytes-effect m (Remap v i f) h = omega arith
 bytes-effect m (Verify v) h = none-verified m v (first_failing (is_approved m v) (slot_at m v).images)
-bytes-effect m (Map v c f) h = omega arith
 bytes-effect m (GuestRead v c g off len) h = let served = guest_access-served m v c g off len h in let within = served.1 in bytes-read m v c g off len (mapped_at m v g) (omega arith)
 bytes-effect m (GuestWrite v c g off bytes) h = none-written m v c g off bytes (mapped_at m v g)
-bytes-effect m (Grant v c g) h = omega arith
-bytes-effect m (Revoke v c g) h = omega arith
-bytes-effect m (GrantRange v c g n) h = omega arith
-bytes-effect m (RevokeRange v c g n) h = omega arith
-bytes-effect m (Drop v c g) h = omega arith
-bytes-effect m (Clear v) h = omega arith
+bytes-effect m _ h = omega arith
 
 bytes-unless : (refused : Option Refusal) (m : State) (call : Call) → refusal m call ≡ refused → bytes_in (unless_refused refused m call).0 ≤ most_reply_bytes call
 bytes-unless None m call h = bytes-effect m call h

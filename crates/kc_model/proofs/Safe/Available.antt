@@ -6,7 +6,7 @@ use Rattle.std.proofs.lemmas.List.{get_or_past}
 use Rattle.std.specs.FinMap as map
 use Rattle.kc_types.specs.Configuration.{slot_count}
 use Rattle.kc_types.specs.declared.call.Call.{Call}
-use Rattle.kc_types.specs.declared.call.Call.TheVariants.{Take, Give, HostFault, HostRead, HostWrite, RegisterVm, RegisterVcpu, SetBoot, Remap, Verify, Map, GuestRead, GuestWrite, Grant, Revoke, GrantRange, RevokeRange, Drop, Clear}
+use Rattle.kc_types.specs.declared.call.Call.TheVariants.{Take, RegisterVm, RegisterVcpu, SetBoot, Remap, Verify, Map, GuestRead, GuestWrite, Drop, Clear}
 use Rattle.kc_types.specs.declared.reply.Reply.TheVariants as reply
 use Rattle.kc_types.specs.declared.refusal.Refusal.{Refusal}
 use Rattle.kc_types.specs.declared.slot.Phase.{Phase}
@@ -135,10 +135,6 @@ drops m w c h v g f mapped kept = elim (cases_eq g h) [
 
 keeps-effect : (m : State) (call : Call) (v g f : ℕ) → IsLawful m → refusal m call ≡ None → mapped_at m v g ≡ Some f → takes_page v g call ≡ false → mapped_at (effect m call).1 v g ≡ Some f
 keeps-effect m Take v g f is served mapped kept = takes m m.free v g ∙ mapped
-keeps-effect m (Give k) v g f is served mapped kept = mapped
-keeps-effect m (HostFault k) v g f is served mapped kept = mapped
-keeps-effect m (HostRead k off len) v g f is served mapped kept = mapped
-keeps-effect m (HostWrite k off bytes) v g f is served mapped kept = mapped
 keeps-effect m (RegisterVm w) v g f is served mapped kept = same-entry m w _ v g refl ∙ mapped
 keeps-effect m (RegisterVcpu w c) v g f is served mapped kept = same-entry m w _ v g refl ∙ mapped
 keeps-effect m (SetBoot w base len) v g f is served mapped kept = same-entry m w _ v g refl ∙ mapped
@@ -152,12 +148,9 @@ keeps-effect m (Verify w) v g f is served mapped kept = verifies m w (first_fail
 keeps-effect m (Map w c k) v g f is served mapped kept = same-entry (hand m w (pending m w c) k) w _ v g refl ∙ hands m w (pending m w c) k v g f (map-served m w c k served).unmapped mapped
 keeps-effect m (GuestRead w c h off len) v g f is served mapped kept = reads m w c h off len (mapped_at m w h) v g ∙ mapped
 keeps-effect m (GuestWrite w c h off bytes) v g f is served mapped kept = writes m w c h off bytes (mapped_at m w h) v g ∙ mapped
-keeps-effect m (Grant w c h) v g f is served mapped kept = mapped
-keeps-effect m (Revoke w c h) v g f is served mapped kept = mapped
-keeps-effect m (GrantRange w c h n) v g f is served mapped kept = mapped
-keeps-effect m (RevokeRange w c h n) v g f is served mapped kept = mapped
 keeps-effect m (Drop w c h) v g f is served mapped kept = drops m w c h v g f mapped kept
 keeps-effect m (Clear w) v g f is served mapped kept = ap (λ (s : Slot). map.get s.mapped g) (get_or-set_other m.slots w v empty_slot empty_slot (other_vm v w kept)) ∙ mapped
+keeps-effect m _ v g f is served mapped kept = mapped
 
 keeps-unless : (refused : Option Refusal) (m : State) (call : Call) → IsLawful m → refusal m call ≡ refused → KeepsPages m call (unless_refused refused m call).0 (unless_refused refused m call).1
 keeps-unless None m call is served = λ v g f mapped kept. keeps-effect m call v g f is served mapped kept

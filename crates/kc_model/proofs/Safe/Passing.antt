@@ -4,7 +4,7 @@ use Rattle.std.proofs.lemmas.Bool.{cases_eq}
 use Rattle.std.specs.List.{range_with_len}
 use Rattle.kc_types.specs.Configuration.{slot_count}
 use Rattle.kc_types.specs.declared.call.Call.{Call}
-use Rattle.kc_types.specs.declared.call.Call.TheVariants.{Take, Give, HostFault, HostRead, HostWrite, RegisterVm, RegisterVcpu, SetBoot, Remap, Verify, Map, GuestRead, GuestWrite, Grant, Revoke, GrantRange, RevokeRange, Drop, Clear}
+use Rattle.kc_types.specs.declared.call.Call.TheVariants.{Take, Give, HostFault, HostWrite, Remap, Verify, Map, GuestRead, GuestWrite, Grant, Revoke, GrantRange, RevokeRange, Drop, Clear}
 use Rattle.kc_types.specs.declared.refusal.Refusal.{Refusal}
 use Rattle.kc_types.specs.declared.owner.Owner.TheVariants.{Core, Host, Free, Vm}
 use Rattle.kc_model.specs.State.{State, Frame, Image, frame_at, slot_at, mapped_at, with_frame, untouched, zero_page}
@@ -72,11 +72,7 @@ passes-effect m (Give k) is served f =
     let host = was-host m k (none-of (conditions m (Give k)) served 1) in
     one m k (record (frame_at m k) { owner = Free; present = false; bytes = zero_page }) (host-exists m k host) (inr (inr (inl (host, refl, refl)))) f
 passes-effect m (HostFault k) is served f = inl (part-set (λ (x : Frame). x.owner) m.frames k _ (untouched Core) refl f)
-passes-effect m (HostRead k off len) is served f = inl refl
 passes-effect m (HostWrite k off bytes) is served f = inl (part-set (λ (x : Frame). x.owner) m.frames k _ (untouched Core) refl f)
-passes-effect m (RegisterVm v) is served f = inl refl
-passes-effect m (RegisterVcpu v c) is served f = inl refl
-passes-effect m (SetBoot v base len) is served f = inl refl
 passes-effect m (Remap v i k) is served f = handed m v (next_gfn m v i) k (was-host m k (none-of (conditions m (Remap v i k)) served 6)) f
 passes-effect m (Verify v) is served f = verifies m v (first_failing (is_approved m v) (slot_at m v).images) f
 passes-effect m (Map v c k) is served f = handed m v (pending m v c) k (was-host m k (none-of (conditions m (Map v c k)) served 8)) f
@@ -92,6 +88,7 @@ passes-effect m (Drop v c g) is served f =
     one m k (record (frame_at m k) { owner = Free; gfn = None; present = false; bytes = zero_page }) (exists-mapped m v g k is seen.0.call.vm seen.0.mapped)
     (inr (inr (inr (inr (v, owner-mapped m v g k is seen.0.call.vm seen.0.mapped, refl, refl))))) f
 passes-effect m (Clear v) is served f = clears m v f is (vm-in m v (none-of (conditions m (Clear v)) served 0))
+passes-effect m _ is served f = inl refl
 
 passes-unless : (refused : Option Refusal) (m : State) (call : Call) → IsLawful m → refusal m call ≡ refused → PassesFrames m call (unless_refused refused m call).0 (unless_refused refused m call).1
 passes-unless None m call is served = passes-effect m call is served

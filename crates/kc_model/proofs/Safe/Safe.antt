@@ -3,7 +3,7 @@ use Rattle.std.proofs.Common.{ℕ, zero, suc, ◌≡◌, ◌<◌, inl, inr, fals
 use Rattle.std.proofs.lemmas.Bool.{eqb-false}
 use Rattle.std.specs.List.{range_with_len}
 use Rattle.kc_types.specs.declared.call.Call.{Call}
-use Rattle.kc_types.specs.declared.call.Call.TheVariants.{Take, Give, HostFault, HostRead, HostWrite, RegisterVm, RegisterVcpu, SetBoot, Remap, Verify, Map, GuestRead, GuestWrite, Grant, Revoke, GrantRange, RevokeRange, Drop, Clear}
+use Rattle.kc_types.specs.declared.call.Call.TheVariants.{Take, Give, HostFault, HostRead, HostWrite, Remap, Verify, Map, GuestRead, GuestWrite, Grant, Revoke, GrantRange, RevokeRange, Drop, Clear}
 use Rattle.kc_types.specs.declared.reply.Reply.{Reply}
 use Rattle.kc_types.specs.declared.reply.Reply.TheVariants as reply
 use Rattle.kc_types.specs.declared.refusal.Refusal.{Refusal}
@@ -103,14 +103,10 @@ keeps-effect m (Give g) is served v f owned private others =
     let host = was-host m g (none-of (conditions m (Give g)) served 1) in
     bytes-other m g f _ (λ same. let h : (frame_at m f).owner ≡ Host = rw same host in cc)
 keeps-effect m (HostFault g) is served v f owned private others = part-set (λ (x : Frame). x.bytes) m.frames g _ (untouched Core) refl f
-keeps-effect m (HostRead g off len) is served v f owned private others = refl
 keeps-effect m (HostWrite g off bytes) is served v f owned private others = bytes-other m g f _ (λ same. elim (open_frame m g off (length bytes) is served) [
   | inl host ↦ let h : (frame_at m f).owner ≡ Host = rw same host in cc
   | inr shared ↦ let h : 0 < (frame_at m f).share = rw same shared in omega (arith, private)
 ])
-keeps-effect m (RegisterVm w) is served v f owned private others = refl
-keeps-effect m (RegisterVcpu w c) is served v f owned private others = refl
-keeps-effect m (SetBoot w base len) is served v f owned private others = refl
 keeps-effect m (Remap w i g) is served v f owned private others = part-set (λ (x : Frame). x.bytes) m.frames g _ (untouched Core) refl f
 keeps-effect m (Verify w) is served v f owned private others = verifies-bytes m w (first_failing (is_approved m w) (slot_at m w).images) v f is served owned others
 keeps-effect m (Map w c g) is served v f owned private others = part-set (λ (x : Frame). x.bytes) m.frames g _ (untouched Core) refl f
@@ -126,6 +122,7 @@ keeps-effect m (Drop w c g) is served v f owned private others =
     bytes-other m k f _ (other_frame m f k v w owned (owner-mapped m w g k is seen.0.call.vm seen.0.mapped) others)
 keeps-effect m (Clear w) is served v f owned private others =
     ap (λ (x : Frame). x.bytes) (kept-frame m w f is (vm-in m w (none-of (conditions m (Clear w)) served 0)) (λ theirs. eqb-false w v others (vm-same w v (sym theirs ∙ owned))))
+keeps-effect m _ is served v f owned private others = refl
 
 keeps-unless : (refused : Option Refusal) (m : State) (call : Call) → IsLawful m → refusal m call ≡ refused → KeepsPrivateBytes m call (unless_refused refused m call).0 (unless_refused refused m call).1
 keeps-unless None m call is served = keeps-effect m call is served

@@ -91,25 +91,19 @@ shares-alike : (view : View) (m : State) (ys : List Frame) → AlikeFrames view 
 shares-alike view m ys alike v g n test = any-same _ _ g n (λ h low high. ap test (share-alike _ _ _ (alike (backing (mapped_at m v h)))))
 
 pub refusal-alike : (view : View) (m : State) (ys : List Frame) (call : Call) (other : List ℕ) → AlikeFrames view m m.frames ys → length other ≡ length (bytes_of call) → refusal (beside m ys) (with_bytes call other) ≡ refusal m call
-refusal-alike view m ys Take other alike number = refl
 refusal-alike view m ys (Give f) other alike number = let owner = owner-alike _ _ _ (alike f) in rw owner refl
 refusal-alike view m ys (HostFault f) other alike number = let owner = owner-alike _ _ _ (alike f) in let share = share-alike _ _ _ (alike f) in rw (owner, share) refl
 refusal-alike view m ys (HostRead f off len) other alike number = let present = present-alike _ _ _ (alike f) in rw present refl
 refusal-alike view m ys (HostWrite f off bytes) other alike number = let present = present-alike _ _ _ (alike f) in rw (present, number) refl
-refusal-alike view m ys (RegisterVm v) other alike number = refl
-refusal-alike view m ys (RegisterVcpu v c) other alike number = refl
-refusal-alike view m ys (SetBoot v base len) other alike number = refl
 refusal-alike view m ys (Remap v i f) other alike number = let owner = owner-alike _ _ _ (alike f) in rw owner refl
-refusal-alike view m ys (Verify v) other alike number = refl
 refusal-alike view m ys (Map v c f) other alike number = let owner = owner-alike _ _ _ (alike f) in rw owner refl
-refusal-alike view m ys (GuestRead v c g off len) other alike number = refl
 refusal-alike view m ys (GuestWrite v c g off bytes) other alike number = rw number refl
 refusal-alike view m ys (Grant v c g) other alike number = ap (λ share. first_of_these (guest_frame m v c g (when (nat_le 100 share) ShareFull))) (share-alike _ _ _ (alike (backing (mapped_at m v g))))
 refusal-alike view m ys (Revoke v c g) other alike number = ap (λ share. first_of_these (guest_frame m v c g (when (nat_eq share 0) NotShared))) (share-alike _ _ _ (alike (backing (mapped_at m v g))))
 refusal-alike view m ys (GrantRange v c g n) other alike number = ap (λ full. first_of_these (guest_range m v c g n (when full ShareFull))) (shares-alike view m ys alike v g n (nat_le 100))
 refusal-alike view m ys (RevokeRange v c g n) other alike number = ap (λ none. first_of_these (guest_range m v c g n (when none NotShared))) (shares-alike view m ys alike v g n (λ share. nat_eq share 0))
 refusal-alike view m ys (Drop v c g) other alike number = ap (λ share. first_of_these (guest_frame m v c g (when (nat_lt 0 share) Shared))) (share-alike _ _ _ (alike (backing (mapped_at m v g))))
-refusal-alike view m ys (Clear v) other alike number = refl
+refusal-alike view m ys _ other alike number = refl
 
 -- the first of a list that fails one of two tests that agree on it
 pub failing-same : {X : Type 0} (p q : X → Bool) (xs : List X) → ((i : ℕ) (d : X) → i < length xs → p (get_or xs i d) ≡ q (get_or xs i d)) → first_failing p xs ≡ first_failing q xs
