@@ -5,6 +5,7 @@ pub mod Safe
 pub mod Blind
 pub mod Views
 pub mod Redaction
+pub mod Ranges
 pub mod Local
 pub mod Footprints
 pub mod Custody

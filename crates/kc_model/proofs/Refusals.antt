@@ -1,3 +1,4 @@
 pub mod Served
+pub mod OneFrame
 pub mod Answered
 pub mod ReplyBytes

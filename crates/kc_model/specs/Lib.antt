@@ -5,6 +5,7 @@ pub mod Refusals
 pub mod Effects
 pub mod Wiped
 pub mod Next
+pub mod Together
 pub mod Lawful
 pub mod Links
 pub mod Safety
