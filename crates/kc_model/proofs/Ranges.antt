@@ -1,2 +1,4 @@
 pub mod Singles
 pub mod Rows
+pub mod Lines
+pub mod Alike

@@ -6,6 +6,7 @@ pub mod Effects
 pub mod Wiped
 pub mod Next
 pub mod Together
+pub mod Lines
 pub mod Lawful
 pub mod Links
 pub mod Safety

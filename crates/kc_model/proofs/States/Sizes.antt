@@ -27,7 +27,7 @@ sized-both m f v frame slot free = record { config = refl; frames = length-set m
 sized-twice : (m : State) (f v : ℕ) (frame : Frame) (slot next_slot : Slot) → IsSameSize m (record m { frames = set m.frames f frame; slots = set (set m.slots v slot) v next_slot })
 sized-twice m f v frame slot next_slot = record { config = refl; frames = length-set m.frames f frame; slots = length-set (set m.slots v slot) v next_slot ∙ length-set m.slots v slot }
 
-sized-same : (m : State) → IsSameSize m m
+pub sized-same : (m : State) → IsSameSize m m
 sized-same m = record { config = refl; frames = refl; slots = refl }
 
 sized-takes : (m : State) (free : List ℕ) → IsSameSize m (host_takes m free).1

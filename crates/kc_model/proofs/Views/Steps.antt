@@ -411,3 +411,8 @@ step view m n call other is_view is other_is differ may keeps =
     let same = beside-is view m n differ in
     subst (λ (x : State). IsStep view m call (next m call) (next x (with_bytes call other))) same
     (step-beside view m n.frames call other is_view is (subst IsLawful (sym same) other_is) differ.number differ.frames may keeps)
+
+-- the call is refused on both, for the same reason, or on neither
+pub refusal-same : (view : View) (m n : State) (call : Call) (other : List ℕ) → Alike view m n → length other ≡ length (bytes_of call) → refusal n (with_bytes call other) ≡ refusal m call
+refusal-same view m n call other differ many =
+    ap (λ (x : State). refusal x (with_bytes call other)) (sym (beside-is view m n differ)) ∙ refusal-alike view m n.frames call other differ.frames many
