@@ -6,7 +6,7 @@ use Rattle.kc_types.specs.declared.refusal.Refusal.{Refusal}
 use Rattle.kc_model.specs.State.{State}
 use Rattle.kc_model.specs.Refusals.{pending}
 use Rattle.kc_model.specs.Effects.{Outcome}
-use Rattle.kc_model.specs.Next.{next, state_after}
+use Rattle.kc_model.specs.Next.{next}
 use Rattle.kc_model.specs.Together.{first_refusal, all_or_none, each_call}
 
 -- `hfaultr f n`, `remapr v i f n`, `mapr v c f n`, `grantr v c g n`, `revoker v c g n`
@@ -59,3 +59,11 @@ spelled_line m (range r) = if_served (first_refusal m (singles m r)) (singles m 
 abbrev pub spelled : State → List Line → List Call
 spelled m [] = []
 spelled m (line ∷ lines) = spelled_line m line ++ spelled (next_line m line).1 lines
+
+-- the slot that a call on a range names
+abbrev pub slot_of_range : Range → Option ℕ
+slot_of_range (host_faults f n) = None
+slot_of_range (remaps v i f n) = Some v
+slot_of_range (maps v c f n) = Some v
+slot_of_range (grants v c g n) = Some v
+slot_of_range (revokes v c g n) = Some v

@@ -1,9 +1,9 @@
 -- A line does the same to two states that differ only in bytes that do not count.
 use Rattle.std.proofs.Common.{ℕ, zero, suc, ◌≡◌, ◌+◌, true, List, [], ◌∷◌, Option, None, Some, refl, sym, ap, ap₂, subst, ◌∙◌}
 use Rattle.kc_types.specs.declared.call.Call.{Call}
-use Rattle.kc_types.specs.declared.call.Call.TheVariants.{HostFault, Remap, Map, GuestRead, Grant, Revoke}
+use Rattle.kc_types.specs.declared.call.Call.TheVariants.{HostFault, Remap, Grant, Revoke}
 use Rattle.kc_types.specs.declared.refusal.Refusal.{Refusal}
-use Rattle.kc_model.specs.State.{State, Slot, vcpu_at, empty_slot}
+use Rattle.kc_model.specs.State.{State, Slot}
 use Rattle.kc_model.specs.Refusals.{refusal, or_else, pending}
 use Rattle.kc_model.specs.Next.{next, state_after}
 use Rattle.kc_model.specs.Redaction.{keeps_images}
@@ -12,7 +12,7 @@ use Rattle.kc_model.specs.Lines.{Range, host_faults, remaps, maps, grants, revok
 use Rattle.kc_model.specs.Lawful.{IsLawful}
 use Rattle.kc_model.proofs.Lawful.Keeps.{lawful-next}
 use Rattle.kc_model.proofs.Views.Alike.{View, Alike}
-use Rattle.kc_model.proofs.Views.Steps.{IsView, bytes_of, with_bytes, MayWrite, step, refusal-same}
+use Rattle.kc_model.proofs.Views.Steps.{IsView, bytes_of, MayWrite, step, refusal-same}
 use Rattle.kc_model.proofs.Views.Calls.{own-bytes}
 
 -- calls that write no bytes, and hand over only frames that are kept

@@ -1,13 +1,11 @@
 -- What holds of every trace of calls holds of a trace with calls on ranges, as it is spelled out.
-use Rattle.std.proofs.Common.{ℕ, zero, suc, ◌≡◌, ◌+◌, List, [], ◌∷◌, ◌++◌, Option, None, Some, refl, sym, ap, subst, ◌∙◌}
+use Rattle.std.proofs.Common.{◌≡◌, List, [], ◌∷◌, ◌++◌, Option, None, Some, refl, sym, ap, subst, ◌∙◌}
 use Rattle.kc_types.specs.declared.call.Call.{Call}
 use Rattle.kc_types.specs.declared.refusal.Refusal.{Refusal}
 use Rattle.kc_model.specs.State.{State}
-use Rattle.kc_model.specs.Refusals.{refusal}
-use Rattle.kc_model.specs.Effects.{Outcome}
 use Rattle.kc_model.specs.Next.{next, state_after}
-use Rattle.kc_model.specs.Together.{first_refusal, unless_one_refused, all_or_none}
-use Rattle.kc_model.specs.Lines.{Line, one, range, Range, singles, next_line, after_lines, if_served, spelled_line, spelled}
+use Rattle.kc_model.specs.Together.{first_refusal, unless_one_refused}
+use Rattle.kc_model.specs.Lines.{Line, one, range, singles, next_line, after_lines, if_served, spelled_line, spelled}
 use Rattle.kc_model.specs.Lawful.{IsLawful}
 use Rattle.kc_model.specs.Local.{IsSameSize}
 use Rattle.kc_model.proofs.States.Sizes.{sized-next, sized-then, sized-same}

@@ -165,7 +165,7 @@ alone-unless : (refused : Option Refusal) (m : State) (call : Call) → IsLawful
 alone-unless None m call is served = λ v others. alone-effect m call v is served others
 alone-unless (Some r) m call is served = λ v others. record { slot = refl; frames = λ f mine private. refl }
 
-alone : (m : State) (call : Call) → IsLawful m → LeavesAlone m call (next m call).0 (next m call).1
+pub alone : (m : State) (call : Call) → IsLawful m → LeavesAlone m call (next m call).0 (next m call).1
 unfolding next
 alone m call is = alone-unless (refusal m call) m call is refl
 

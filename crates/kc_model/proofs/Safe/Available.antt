@@ -156,7 +156,7 @@ keeps-unless : (refused : Option Refusal) (m : State) (call : Call) → IsLawful
 keeps-unless None m call is served = λ v g f mapped kept. keeps-effect m call v g f is served mapped kept
 keeps-unless (Some r) m call is served = λ v g f mapped kept. mapped
 
-keeps : (m : State) (call : Call) → IsLawful m → KeepsPages m call (next m call).0 (next m call).1
+pub keeps : (m : State) (call : Call) → IsLawful m → KeepsPages m call (next m call).0 (next m call).1
 unfolding next
 keeps m call is = keeps-unless (refusal m call) m call is refl
 

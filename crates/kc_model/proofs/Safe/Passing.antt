@@ -41,7 +41,7 @@ takes m (k ∷ rest) is e f =
 host-exists : (m : State) (k : ℕ) → (frame_at m k).owner ≡ Host → k < length m.frames
 host-exists m k host = exists m k (λ core. cc)
 
-handed : (m : State) (v g k : ℕ) → (frame_at m k).owner ≡ Host → (f : ℕ) → Passes (frame_at m f) (frame_at (hand m v g k) f)
+pub handed : (m : State) (v g k : ℕ) → (frame_at m k).owner ≡ Host → (f : ℕ) → Passes (frame_at m f) (frame_at (hand m v g k) f)
 handed m v g k host f = one m k (record (frame_at m k) { owner = Vm v; gfn = Some g; present = false }) (host-exists m k host) (inr (inr (inr (inl (v, host, refl, refl))))) f
 
 owner-trimmed : (m : State) (v : ℕ) (images : List Image) (f : ℕ) → (frame_at (all_trimmed m v images) f).owner ≡ (frame_at m f).owner
