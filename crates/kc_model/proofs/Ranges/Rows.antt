@@ -37,8 +37,16 @@ module _ (m : State) (v c : ℕ) (test : ℕ → Bool) (reason : Refusal) where
   rows-join g zero = rw (or-false (nat_le 262144 g), or-false (is_none (mapped_at m v g)), or-false (test g)) refl
   rows-join g (suc n) =
       ap (either (row g)) (rows-join (g + 1) n)
-      ∙ rw (same-twice (bad_vm m v), same-twice (bad_vcpu c), same-twice (no_vm m v), same-twice (not_active m v), same-twice (no_vcpu m v c),
-            both-when (nat_le 262144 g) (any_from (g + 1) (suc n) (nat_le 262144)) BadGfn, both-when (is_none (mapped_at m v g)) (any_from (g + 1) (suc n) (λ h. is_none (mapped_at m v h))) NotMapped, both-when (test g) (any_from (g + 1) (suc n) test) reason) refl
+      ∙ rw (
+        same-twice (bad_vm m v),
+        same-twice (bad_vcpu c),
+        same-twice (no_vm m v),
+        same-twice (not_active m v),
+        same-twice (no_vcpu m v c),
+        both-when (nat_le 262144 g) (any_from (g + 1) (suc n) (nat_le 262144)) BadGfn,
+        both-when (is_none (mapped_at m v g)) (any_from (g + 1) (suc n) (λ h. is_none (mapped_at m v h))) NotMapped,
+        both-when (test g) (any_from (g + 1) (suc n) test) reason,
+      ) refl
 
   -- one of the guest frames is past the last
   any-past : (g n : ℕ) → any_from g (suc n) (nat_le 262144) ≡ (nat_le 262144 g || nat_lt 262144 (g + suc n))
