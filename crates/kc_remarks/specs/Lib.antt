@@ -1,3 +1,4 @@
 pub mod Remarks
 pub mod Denials
 pub mod Attempts
+pub mod Unread

@@ -1,0 +1,12 @@
+-- Notes show nothing of bytes that decide nothing.
+use Rattle.std.specs.Prelude.{ℕ, ◌≡◌, Bool, List}
+use Rattle.kc_types.specs.declared.call.Call.{Call}
+use Rattle.kc_model.specs.State.{State}
+use Rattle.kc_model.specs.Lawful.{IsLawful}
+use Rattle.kc_model.specs.Redaction.{DifferInBytes, DifferInCalls, KeepsImages}
+use Rattle.kc_remarks.specs.Remarks.{notes}
+
+-- traces that differ only in bytes that do not count, granted or not, have the same notes: what was refused, what was
+-- served, and all events
+abbrev pub NotesShowNoBytes : State → List Call → Type 0
+NotesShowNoBytes m calls = (kept : ℕ → Bool) (n : State) (others : List Call) → IsLawful n → DifferInBytes kept m n → DifferInCalls kept m calls others → KeepsImages kept calls → notes n others ≡ notes m calls
