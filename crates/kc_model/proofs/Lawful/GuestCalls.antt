@@ -6,9 +6,9 @@ use Rattle.kc_types.specs.declared.refusal.Refusal.{Refusal}
 use Rattle.kc_types.specs.declared.call.Call.TheVariants.{GuestRead, GuestWrite, Grant, Revoke}
 use Rattle.kc_types.specs.declared.owner.Owner.TheVariants.{Vm}
 use Rattle.kc_types.specs.declared.slot.Phase.TheVariants.{Active}
-use Rattle.kc_model.specs.State.{State, frame_at, slot_at, vcpu_at, mapped_at, with_frame}
+use Rattle.kc_model.specs.State.{State, Frame, frame_at, slot_at, vcpu_at, mapped_at, with_frame}
 use Rattle.kc_model.specs.Refusals.{refusal, backing, guest_access, guest_frame, first_of_these}
-use Rattle.kc_model.specs.Effects.{effect, guest_read, guest_written, written}
+use Rattle.kc_model.specs.Effects.{effect, guest_read, guest_written, written, revoked}
 use Rattle.kc_model.specs.Lawful.{IsLawful, is_vm}
 use Rattle.kc_model.proofs.Refusals.Served.{when-none, range-served, none-of}
 use Rattle.kc_model.proofs.Refusals.Answered.{vm-in, vcpu-in, gfn-in, was-active, was-registered, was-mapped}
@@ -111,19 +111,23 @@ lawful-grant m v c g is served =
     let below : (frame_at m f).share < 100 = leb-false _ _ (when-none _ _ seen.1) in
     lawful-shared m v f ((frame_at m f).share + 1) (frame_at m f).present is seen.0.call.vm seen.0.call.active owner (omega arith) (λ h. omega arith)
 
-pub lowered : (share : ℕ) (present : Bool) → (IsTrue present → 0 < share) → IsTrue (cond (nat_eq share 1) false present) → 0 < share - 1
-lowered share present was h = by-test (nat_eq share 1) refl h
+-- whatever a revoke leaves of a share, a frame that the host reaches is still shared
+lowered : (frame : Frame) → (IsTrue frame.present → 0 < frame.share) → IsTrue (revoked frame).present → 0 < (revoked frame).share
+lowered frame was h = by-test (nat_eq frame.share 1) refl h
   where
-    by-test : (b : Bool) → nat_eq share 1 ≡ b → IsTrue (cond b false present) → 0 < share - 1
-    by-test true e t = absurd cc
-    by-test false e t = let some = was t in grind (arith, common_steps, some, e)
+    by-test : (b : Bool) → nat_eq frame.share 1 ≡ b → IsTrue (revoked frame).present → 0 < (revoked frame).share
+    by-test b e t = grind (arith, common_steps, was, e, t)
+
+-- a frame of an active slot with one grant less
+pub lawful-revoked : (m : State) (v f : ℕ) → IsLawful m → v < slot_count m.config → (slot_at m v).phase ≡ Active → (frame_at m f).owner ≡ Vm v → IsLawful (with_frame m f (revoked (frame_at m f)))
+lawful-revoked m v f is v_in active owner =
+    let frame = is.each_frame f (exists m f (λ core. cc)) in
+    let few = frame.shared in
+    let some : IsTrue (frame_at m f).present → 0 < (frame_at m f).share = λ h. elim (frame.reached h) [ inl host ↦ absurd cc | inr some ↦ some ] in
+    lawful-shared m v f (revoked (frame_at m f)).share (revoked (frame_at m f)).present is v_in active owner (omega (arith, few)) (lowered (frame_at m f) some)
 
 pub lawful-revoke : (m : State) (v c g : ℕ) → IsLawful m → refusal m (Revoke v c g) ≡ None → IsLawful (effect m (Revoke v c g)).1
 lawful-revoke m v c g is served =
     let seen = guest_frame-served m v c g _ served in
     let f = backing (mapped_at m v g) in
-    let owner = owner-mapped m v g f is seen.0.call.vm seen.0.mapped in
-    let frame = is.each_frame f (exists m f (λ core. cc)) in
-    let few = frame.shared in
-    let some : IsTrue (frame_at m f).present → 0 < (frame_at m f).share = λ h. elim (frame.reached h) [ inl host ↦ absurd cc | inr some ↦ some ] in
-    lawful-shared m v f ((frame_at m f).share - 1) (cond (nat_eq (frame_at m f).share 1) false (frame_at m f).present) is seen.0.call.vm seen.0.call.active owner (omega arith) (lowered (frame_at m f).share (frame_at m f).present some)
+    lawful-revoked m v f is seen.0.call.vm seen.0.call.active (owner-mapped m v g f is seen.0.call.vm seen.0.mapped)

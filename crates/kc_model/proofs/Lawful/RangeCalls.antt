@@ -16,7 +16,7 @@ use Rattle.kc_model.proofs.Refusals.Served.{when-none, none-of}
 use Rattle.kc_model.proofs.Refusals.Answered.{vm-in, vcpu-in, was-active, was-registered, backing-is}
 use Rattle.kc_model.proofs.States.Lists.{changed-other}
 use Rattle.kc_model.proofs.States.Changes.{exists}
-use Rattle.kc_model.proofs.Lawful.GuestCalls.{IsGuestCall, owner-mapped, lawful-shared, lowered}
+use Rattle.kc_model.proofs.Lawful.GuestCalls.{IsGuestCall, owner-mapped, lawful-shared, lawful-revoked}
 use Rattle.kc_model.proofs.States.Each.{none-in}
 
 -- a served call of a virtual processor on the guest frames of a range, all of which are mapped
@@ -84,8 +84,4 @@ lawful-revoke_range m v c g n is served =
     lawful-each v revoked (λ frame. Unit {0}) step m g n is seen.0.call.vm seen.0.call.active (λ h low high. (seen.0.mapped h low high, tt))
   where
     step : (m : State) (f : ℕ) → IsLawful m → v < slot_count m.config → (slot_at m v).phase ≡ Active → (frame_at m f).owner ≡ Vm v → Unit {0} → IsLawful (with_frame m f (revoked (frame_at m f)))
-    step m f is v_in active owner fits =
-        let frame = is.each_frame f (exists m f (λ core. cc)) in
-        let few = frame.shared in
-        let some : IsTrue (frame_at m f).present → 0 < (frame_at m f).share = λ h. elim (frame.reached h) [ inl host ↦ absurd cc | inr some ↦ some ] in
-        lawful-shared m v f ((frame_at m f).share - 1) (cond (nat_eq (frame_at m f).share 1) false (frame_at m f).present) is v_in active owner (omega (arith, few)) (lowered (frame_at m f).share (frame_at m f).present some)
+    step m f is v_in active owner fits = lawful-revoked m v f is v_in active owner

@@ -11,7 +11,8 @@ use Rattle.kc_types.specs.declared.call.Call.{Call}
 use Rattle.kc_types.specs.declared.call.Call.TheVariants.{RegisterVm, RegisterVcpu, SetBoot, Verify, GuestRead, GuestWrite, Grant, Revoke, GrantRange, RevokeRange, Drop, Clear}
 use Rattle.kc_types.specs.declared.reply.Reply.TheVariants as reply
 use Rattle.kc_types.specs.declared.slot.Phase.TheVariants.{Booting, Active, Dead}
-use Rattle.kc_model.specs.State.{State, Frame, Slot, SlotOf, Image, frame_at, slot_at, mapped_at, with_frame, with_slot, empty_slot, overwritten}
+use Rattle.kc_types.specs.declared.owner.Owner.TheVariants as owner
+use Rattle.kc_model.specs.State.{State, Frame, Slot, SlotOf, Image, frame_at, slot_at, mapped_at, with_frame, with_slot, empty_slot, overwritten, untouched}
 use Rattle.kc_model.specs.Slot.{in_phase, awaiting, with_image, with_vcpu}
 use Rattle.kc_model.specs.Refusals.{refusal, backing, is_short, pages_of}
 use Rattle.kc_model.specs.Effects.{Outcome, effect, guest_read, guest_written, granted, revoked, with_each, trimmed, all_trimmed, verified, first_failing, is_approved, image_bytes, bytes_at, same_bytes, dropped, freed, cleared}
@@ -95,7 +96,7 @@ granted-page : (s : ℕ → Bool) (g : ℕ) (x y : Frame) → page_of s g x ≡ 
 granted-page s g x y e = ap (λ (p : Page). record { share = p.share + 1; bytes = p.bytes }) e
 
 revoked-page : (s : ℕ → Bool) (g : ℕ) (x y : Frame) → page_of s g x ≡ page_of s g y → page_of s g (revoked x) ≡ page_of s g (revoked y)
-revoked-page s g x y e = ap (λ (p : Page). record { share = p.share - 1; bytes = p.bytes }) e
+revoked-page s g x y e = ap (λ (p : Page). record { share = (revoked (record (untouched owner.Core) { share = p.share })).share; bytes = p.bytes }) e
 
 -- the frames at a range of mapped guest frames are changed
 each-same : (s : ℕ → Bool) (v : ℕ) (change : Frame → Frame) → ((g : ℕ) (x y : Frame) → page_of s g x ≡ page_of s g y → page_of s g (change x) ≡ page_of s g (change y)) → (m n : State) (g k : ℕ) → HasTheSame s v m n → HasFrames v m → HasFrames v n → v < length m.slots → v < length n.slots

@@ -276,7 +276,7 @@ module _ (view : View) (m : State) (ys : List Frame) (is : IsLawful m) (other_is
   plain-revoked = record {
     owner = λ x. refl;
     gfn = λ x. refl;
-    custody = λ x y same. ap (λ (c : Custody). record c { share = c.share - 1; present = cond (nat_eq c.share 1) false c.present }) same;
+    custody = λ x y same. ap (λ (c : Custody). custody_of (revoked (record { owner = c.owner; gfn = c.gfn; share = c.share; present = c.present; bytes = [] }))) same;
     bytes = λ x y same. same;
   }
 
