@@ -1,14 +1,11 @@
 -- The page that memory holds.
 use Rattle.std.proofs.Common.{◌≡◌, ◌-◌, ◌+◌, ◌++◌, ◌∷◌, ◌≤◌, ℕ, Bool, true, false, List, [], length, take, drop, replicate, refl, sym, ap, ap₂, ◌∙◌, arith}
 use Rattle.std.specs.Prelude.{if◌then◌else◌}
-use Rattle.std.proofs.lemmas.List.{take-replicate, drop-replicate, replicate-append-replicate}
+use Rattle.std.proofs.lemmas.List.{take-replicate, drop-replicate, replicate-append-replicate, length-append, length-map, length-take, length-drop, length-replicate}
 use Rattle.kc_model.specs.Bytes.{as_bytes}
 use Rattle.kc_model.specs.State.{zero_page, overwritten}
-use Rattle.kc_model.proofs.States.ZeroPage.{zero_page-replicate}
-use Rattle.kc_page.specs.PageBytes.{page_of, IsHeld, zeroed_from}
-
-pub page_of_zeros : (is_zero : Bool) (bytes : List ℕ) → is_zero ≡ true → page_of is_zero bytes ≡ zero_page
-page_of_zeros is_zero bytes e = rw e refl
+use Rattle.kc_model.proofs.States.ZeroPage.{zero_page-replicate, length-zero_page}
+use Rattle.kc_page.specs.PageBytes.{filled_from, IsHeld, zeroed_from}
 
 -- zeroing the end of a page of zero bytes changes nothing
 pub zeroed_zero_page : (n : ℕ) → n ≤ 4096 → zero_page ≡ zeroed_from zero_page n
@@ -33,13 +30,28 @@ filled n [] new ok size none done is =
     all ∙ ap (λ k. replicate (4096 - k) 0) none ∙ sym zero_page-replicate
 filled n (x ∷ old) new ok size none done is = absurd (omega (arith, size, none))
 
--- zeroing what was written
-pub scrubbed : (is_written is_zero : Bool) (n m before after : ℕ) (old new : List ℕ) → IsHeld is_written is_zero n before old → is_zero ≡ false → m ≡ n → before ≤ after → new ≡ replicate n 0 → IsHeld is_written true m after new
-scrubbed true is_zero n m before after old new held some same more is = record {
-  unwritten = λ e. cc;
-  nothing = λ e. cc;
-  whole = λ e. same ∙ held.whole refl;
-  zeros = λ e f. is ∙ ap (λ k. replicate k 0) (held.whole refl) ∙ sym zero_page-replicate;
-  room = let enough = held.room in omega (arith, enough, more);
-}
-scrubbed false is_zero n m before after old new held some same more is = let zero = held.unwritten refl in cc
+-- memory that is filled holds its own bytes
+pub filled_as : (bytes : List ℕ) → length bytes ≡ 4096 → filled_from bytes ≡ bytes
+filled_as [] whole = absurd (omega (arith, whole))
+filled_as (byte ∷ bytes) whole = refl
+
+pub held_whole : (is_zero : Bool) (bytes : List ℕ) → IsHeld is_zero bytes → length (filled_from bytes) ≡ 4096
+held_whole true bytes held = ap length (held.zeros refl) ∙ length-zero_page
+held_whole false bytes held = let whole = held.whole refl in ap length (filled_as bytes whole) ∙ whole
+
+pub overwritten_whole : (page : List ℕ) (n : ℕ) (bytes : List ℕ) → length page ≡ 4096 → n + length bytes ≤ 4096 → length (overwritten page n bytes) ≡ 4096
+overwritten_whole page n bytes whole within = simp (length-append, length-map, length-take, length-drop) (omega (arith, whole, within))
+
+pub zeroed_whole : (page : List ℕ) (n : ℕ) → length page ≡ 4096 → n ≤ 4096 → length (zeroed_from page n) ≡ 4096
+zeroed_whole page n whole within = simp (length-append, length-take, length-replicate) (omega (arith, whole, within))
+
+-- a page zeroed from its first byte on
+pub zeroed_all : (old new : List ℕ) → new ≡ zeroed_from old 0 → length old ≡ 4096 → filled_from new ≡ zero_page
+zeroed_all old new is whole =
+    let zeros : new ≡ zero_page = is ∙ sym zero_page-replicate in
+    filled_as new (ap length zeros ∙ length-zero_page) ∙ zeros
+
+-- fresh memory counts as a page of zeros
+pub fresh : (bytes : List ℕ) → length bytes ≡ 0 → filled_from bytes ≡ zero_page
+fresh [] none = refl
+fresh (byte ∷ bytes) none = absurd (omega (arith, none))

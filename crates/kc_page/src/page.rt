@@ -1,50 +1,36 @@
 //! The bytes of a page, the page, and many of them.
-ghost use Rattle.std.specs.Prelude.{◌≡◌, ℕ, ◌+◌, ◌<◌, ◌≤◌, ◌↔◌, List, length, map, replicate, slice_range, true, IsTrue, IfOk, vec_len, vec_capacity};
+ghost use Rattle.std.specs.Prelude.{◌≡◌, ℕ, ◌+◌, ◌<◌, ◌≤◌, ◌↔◌, List, length, map, replicate, slice_range, true, IsTrue, IfOk};
 ghost use Rattle.kc_types.specs.Limits.{page_size};
 ghost use Rattle.kc_model.specs.State.{zero_page, overwritten};
 ghost use Rattle.kc_page.specs.Page.{scrubbed_page};
 ghost use Rattle.kc_page.specs.PageBytes.{zeroed_from};
 
+use crate::page_memory::{PageMemory, ZEROS};
 use kc_types::{Data, FrameNo, Gfn, Memory, Owner, PAGE_SIZE, ReplyBuffer};
 use rayon::prelude::par_chunks_mut_for_each;
 use std::alloc::Global;
 use std::marker::Model;
 use std::thread::Threads;
 
-/// The bytes of each page that was never written.
-const ZEROS: &[u8; 4096] = &[0; 4096];
-
 /// The 4,096 bytes of a page, seen as a list. They lie on the heap, so that a page moves as a few words.
 ///
-/// The memory is there from the start. Until the first write it is not filled and the page counts as zero, so a page
-/// that is never written is never zeroed; nor is one that is known to be zero. Bytes that were written are zeroed
-/// before their memory is freed, also if the page is dropped.
+/// The memory is there from the start. Until the first write it is fresh and the page counts as zero, so a page that is
+/// never written is never zeroed; nor is one that is known to be zero. Bytes that were written are zeroed before their
+/// memory is given back, even if the page is dropped.
 pub struct PageBytes {
-    bytes: Vec<u8>,
-    is_written: bool,
+    memory: PageMemory,
     is_zero: bool,
 }
 
 impl Model for PageBytes {
-    ghost use Rattle.std.specs.Prelude.{ℕ, List, vec_len, vec_capacity};
-    ghost use Rattle.kc_page.specs.PageBytes.{page_of, IsHeld};
+    ghost use Rattle.std.specs.Prelude.{ℕ, List};
+    ghost use Rattle.kc_page.specs.PageBytes.{filled_from, IsHeld};
 
     ghost Value = { List ℕ };
 
-    ghost view = { λ p. page_of p.is_zero p.bytes.items };
+    ghost view = { λ p. filled_from p.memory };
 
-    ghost invariant = { λ p. IsHeld p.is_written p.is_zero (vec_len p.bytes) (vec_capacity p.bytes) p.bytes.items };
-}
-
-/// Fills memory for a page with zeros.
-fn fill_with_zeros(bytes: &mut Vec<u8>)
-    requires capacity { page_size ≤ vec_capacity bytes.old }
-    requires nothing { vec_len bytes.old ≡ 0 }
-    ensures items { bytes.new.items ≡ zero_page }
-    ensures whole { vec_len bytes.new ≡ page_size }
-    ensures capacity { page_size ≤ vec_capacity bytes.new }
-{
-    bytes.resize(PAGE_SIZE as usize, 0).unwrap();
+    ghost invariant = { λ p. IsHeld p.is_zero p.memory };
 }
 
 /// Whether all bytes, at most a page of them, are zero.
@@ -68,11 +54,8 @@ impl PageBytes {
     fn let_go(self)
         requires { self ≡ zero_page }
     {
-        let PageBytes {
-            bytes: _,
-            is_written: _,
-            is_zero: _,
-        } = self;
+        let PageBytes { memory, is_zero: _ } = self;
+        memory.end();
     }
 
     /// Makes a page of zero bytes; `Memory` if memory cannot be had.
@@ -81,8 +64,7 @@ impl PageBytes {
         ensures { IfOk result (λ page. page ≡ zero_page) }
     {
         Ok(PageBytes {
-            bytes: Vec::with_capacity(alloc, PAGE_SIZE as usize)?,
-            is_written: false,
+            memory: PageMemory::fresh(alloc)?,
             is_zero: true,
         })
     }
@@ -92,11 +74,7 @@ impl PageBytes {
         ensures value { result.now ≡ self.now }
         ensures whole { length self.now ≡ page_size }
     {
-        if self.is_written {
-            self.bytes.as_slice()
-        } else {
-            ZEROS
-        }
+        self.memory.as_slice()
     }
 
     /// Whether all bytes are known to be zero. If zeros were written, they are not known to be.
@@ -132,12 +110,9 @@ impl PageBytes {
         if self.is_zero && are_zero(bytes) {
             return;
         }
-        if !self.is_written {
-            fill_with_zeros(&mut self.bytes);
-            self.is_written = true;
-        }
+        self.memory.fill();
         self.is_zero = false;
-        self.bytes[offset..offset + bytes.len()].copy_from_slice(bytes);
+        self.memory.write(offset, bytes);
     }
 
     /// Zeroes all bytes.
@@ -145,7 +120,7 @@ impl PageBytes {
         ensures { self.new ≡ zero_page }
     {
         if !self.is_zero {
-            self.bytes.fill(0);
+            self.memory.zero_from(0);
             self.is_zero = true;
         }
     }
@@ -156,7 +131,7 @@ impl PageBytes {
         ensures { self.new ≡ zeroed_from self.old n }
     {
         if !self.is_zero {
-            self.bytes[n..].fill(0);
+            self.memory.zero_from(n);
         }
     }
 }

@@ -5,13 +5,14 @@
 //! - the calls, and whose each is: `src/call.rt`, `specs/Actors.antt`
 //! - what a change of custody holds: `src/custody.rt`
 //! - bytes that history and receipt share: `src/data.rt`; bytes that are zeroed before their memory is given back:
-//!   `src/secret.rt`
+//!   `src/secret.rt`, over `src/filled.rt`
 #![tactic(auto)]
 
 mod call;
 mod config;
 mod custody;
 mod data;
+mod filled;
 mod limits;
 mod link;
 mod memory;

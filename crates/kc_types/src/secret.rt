@@ -1,9 +1,10 @@
 //! Bytes whose memory is zeroed before it is freed.
-ghost use Rattle.std.specs.Prelude.{◌≡◌, ℕ, ◌-◌, ◌≤◌, ◌++◌, [], All, length, take, replicate, IfOk, vec_len, vec_capacity};
+ghost use Rattle.std.specs.Prelude.{◌≡◌, ℕ, ◌-◌, ◌≤◌, ◌++◌, length, take, replicate, IfOk};
 ghost use Rattle.std.specs.Borrow.{sem};
 ghost use Rattle.kc_types.specs.Secret.{LendsBytes};
 
 use crate::Memory;
+use crate::filled::Filled;
 use std::alloc::Global;
 use std::marker::Model;
 
@@ -11,7 +12,7 @@ use std::marker::Model;
 /// whoever frees it. They never grow in place: more room is new memory, and the old memory is zeroed and freed.
 #[derive(Debug)]
 pub struct SecretBytes {
-    bytes: Vec<u8>,
+    memory: Filled,
 }
 
 impl Model for SecretBytes {
@@ -19,45 +20,33 @@ impl Model for SecretBytes {
 
     ghost Value = { List ℕ };
 
-    ghost view = { λ s. s.bytes.items };
+    ghost view = { λ s. s.memory };
 }
-
-/// Zeroes all memory of these bytes.
-fn zero_all(bytes: &mut Vec<u8>)
-    ensures zero { All (λ b. b ≡ 0) bytes.new.items }
-    ensures whole { vec_capacity bytes.old ≤ vec_len bytes.new }
-{
-    let room = bytes.capacity();
-    bytes.clear();
-    bytes.resize(room, 0).unwrap();
-}
-
-/// Frees these bytes, each of which is zero; no other function does.
-fn let_go(bytes: Vec<u8>)
-    requires { All (λ b. b ≡ 0) bytes.items }
-{}
 
 impl Drop for SecretBytes {
     fn drop(self) {
-        let SecretBytes { mut bytes } = self;
-        zero_all(&mut bytes);
-        let_go(bytes);
+        let SecretBytes { mut memory } = self;
+        memory.zero();
+        memory.end();
     }
 }
 
 impl SecretBytes {
-    /// Takes over these bytes.
+    /// Takes over these bytes, and zeroes the memory that they do not use.
     pub fn new(bytes: Vec<u8>) -> SecretBytes
         ensures { result ≡ bytes.items }
     {
-        SecretBytes { bytes }
+        let len = bytes.len();
+        let mut memory = Filled::taking(bytes);
+        memory.cut(len);
+        SecretBytes { memory }
     }
 
     /// The bytes.
     pub fn as_slice(&self) -> &[u8]
         ensures { result.now ≡ self.now }
     {
-        self.bytes.as_slice()
+        self.memory.as_slice()
     }
 
     /// Lends the bytes, to be changed.
@@ -65,37 +54,36 @@ impl SecretBytes {
         ensures* writes_back { sem 𝓛 (LendsBytes self.entry result) }
         ensures value { result.now ≡ self.old }
     {
-        self.bytes.as_mut_slice()
+        self.memory.as_mut_slice()
     }
 
-    /// Makes an equal value; `Memory` if memory cannot be had.
+    /// Makes an equal value; `Memory` if memory runs out.
     pub fn copy(&self) -> Result<SecretBytes, Memory>
         // No clause can rule out that memory runs out: a test makes a copy.
         ensures { IfOk result (λ made. made ≡ self.now) }
     {
         Ok(SecretBytes {
-            bytes: self.bytes.clone()?,
+            memory: self.memory.copy()?,
         })
     }
 
-    /// Makes a longer value in new memory: the same bytes and then zeros, `len` in all; `Memory` if memory cannot be
-    /// had.
+    /// Makes a longer value in new memory: the same bytes and then zeros, `len` in all; `Memory` if memory runs out.
     pub fn longer(&self, alloc: Global, len: usize) -> Result<SecretBytes, Memory>
         requires { length self.now ≤ len }
         // No clause can rule out that memory runs out: tests read texts.
         ensures { IfOk result (λ made. made ≡ self.now ++ replicate (len - length self.now) 0) }
     {
-        let mut bytes = Vec::with_capacity(alloc, len)?;
-        bytes.resize(self.bytes.len(), 0).unwrap();
-        bytes.copy_from_slice(&self.bytes);
-        bytes.resize(len, 0).unwrap();
-        Ok(SecretBytes { bytes })
+        Ok(SecretBytes {
+            memory: Filled::holding(alloc, self.as_slice(), len)?,
+        })
     }
 
-    /// Keeps the first `len` bytes, or all if there are fewer.
+    /// Keeps the first `len` bytes, or all if there are fewer; zeroes the others.
     pub fn truncate(&mut self, len: usize)
         ensures { self.new ≡ take len self.old }
     {
-        self.bytes.truncate(len);
+        let len = len.min(self.as_slice().len());
+        self.memory.as_mut_slice()[len..].fill(0);
+        self.memory.cut(len);
     }
 }
