@@ -14,16 +14,19 @@ use Rattle.kc_model.specs.State.{State, Slot, empty_slot}
 use Rattle.kc_model.specs.Next.{next}
 use Rattle.kc_model.specs.Lawful.{IsLawful}
 use Rattle.kc_model.specs.Custody.{first_line}
-use Rattle.kc_model.specs.Redaction.{blanked, counts, redacted_in, redacted_reply, DifferInBytes, DifferInCalls, KeepsImages}
+use Rattle.kc_model.specs.Redaction.{blanked, counts, redacted_in, redacted_reply, DifferInBytes, DifferInCalls, KeepsImages, all_frames, redacted}
+use Rattle.kc_model.specs.Blanking.{blank_state, redacted_from}
 use Rattle.kc_model.specs.State.{frame_at}
 use Rattle.kc_model.proofs.Lawful.Keeps.{lawful-next}
+use Rattle.kc_model.proofs.Redaction.AsView.{itself}
 use Rattle.kc_model.proofs.Redaction.Traces.{pair}
+use Rattle.kc_model.proofs.Redaction.Blank.{audited_blank, keeps-all, redacted-differ, wholly-differ}
 use Rattle.kc_remarks.specs.declared.remark.CallKind.TheVariants as kind
 use Rattle.kc_remarks.specs.declared.remark.NamedFrame.{NamedFrame}
 use Rattle.kc_remarks.specs.declared.remark.Note.{Note}
 use Rattle.kc_remarks.specs.declared.remark.Note.TheVariants as note
 use Rattle.kc_remarks.specs.Remarks.{number_named, frame_named, named_by, access_to, remark_told, remark_by, notes_by, notes_from, notes}
-use Rattle.kc_remarks.specs.Unread.{NotesShowNoBytes}
+use Rattle.kc_remarks.specs.Unread.{NotesShowNoBytes, NotesAreRedacted}
 
 frame-alike : (kept : ℕ → Bool) (m n : State) (at : Option ℕ) → DifferInBytes kept m n → frame_named n at ≡ frame_named m at
 frame-alike kept m n None differ = refl
@@ -90,3 +93,12 @@ notes-same kept line m n (call ∷ calls) (other ∷ others) is other_is differ 
 
 pub unread : (m : State) (calls : List Call) → IsLawful m → NotesShowNoBytes m calls
 unread m calls is = λ kept n others other_is differ same keeps. notes-same kept first_line m n calls others is other_is differ same keeps
+
+pub notes_redacted : (m : State) (calls : List Call) → IsLawful m → NotesAreRedacted m calls
+notes_redacted m calls is =
+    let blank = audited_blank m calls is in
+    record {
+      same = unread m calls is all_frames m (redacted calls) is (itself all_frames m) (redacted-differ m calls) (keeps-all calls);
+      blank = unread m calls is all_frames (blank_state m) (redacted calls) blank.lawful blank.differs (redacted-differ m calls) (keeps-all calls);
+      host = unread m calls is all_frames (blank_state m) (redacted_from m calls) blank.lawful blank.differs (wholly-differ m calls) (keeps-all calls);
+    }

@@ -4,7 +4,7 @@ ghost use Rattle.kc_types.specs.declared.call.Call.{Call};
 ghost use Rattle.kc_model.specs.State.{State};
 ghost use Rattle.kc_model.specs.Next.{replies_from};
 ghost use Rattle.kc_model.specs.Lawful.{IsLawful};
-ghost use Rattle.kc_remarks.specs.Unread.{NotesShowNoBytes};
+ghost use Rattle.kc_remarks.specs.Unread.{NotesShowNoBytes, NotesAreRedacted};
 ghost use Rattle.kc_remarks.specs.Remarks.{notes};
 ghost use Rattle.kc_remarks.specs.Denials.{is_denied, is_denial};
 
@@ -16,5 +16,6 @@ pub fn denied()
 /// Notes show nothing of bytes that decide nothing: those that virtual processors write, granted or not, and those that
 /// the host writes to frames of active VMs or to frames that it never hands to a booting VM.
 pub fn unread()
-    ensures { (m : State) (calls : List Call) → IsLawful m → NotesShowNoBytes m calls }
+    ensures bytes { (m : State) (calls : List Call) → IsLawful m → NotesShowNoBytes m calls }
+    ensures redacted { (m : State) (calls : List Call) → IsLawful m → NotesAreRedacted m calls }
 {}

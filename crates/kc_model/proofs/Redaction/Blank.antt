@@ -121,7 +121,7 @@ pub redacted-differ : (m : State) (calls : List Call) → DifferInCalls all_fram
 redacted-differ m [] = tt
 redacted-differ m (call ∷ calls) = (call-twice m call, redacted-differ (next m call).1 calls)
 
-keeps-all : (calls : List Call) → KeepsImages all_frames calls
+pub keeps-all : (calls : List Call) → KeepsImages all_frames calls
 keeps-all [] = tt
 keeps-all (call ∷ calls) = (all-kept call, keeps-all calls)
 
@@ -135,7 +135,7 @@ again m (GuestWrite v c g off bytes) = ap (GuestWrite v c g off) (length-zeros b
 again m (HostWrite f off bytes) = ap (HostWrite f off) (bytes-twice (counts all_frames m f (frame_at m f).owner) bytes)
 again m _ = refl
 
-wholly-differ : (m : State) (calls : List Call) → DifferInCalls all_frames m calls (redacted_from m calls)
+pub wholly-differ : (m : State) (calls : List Call) → DifferInCalls all_frames m calls (redacted_from m calls)
 wholly-differ m [] = tt
 wholly-differ m (call ∷ calls) = (again m call, wholly-differ (next m call).1 calls)
 
