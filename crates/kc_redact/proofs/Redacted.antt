@@ -8,17 +8,15 @@ use Rattle.kc_types.specs.Bytes.{IsData}
 use Rattle.kc_types.specs.declared.version.Version.{Version}
 use Rattle.kc_types.specs.declared.version.Version.TheVariants.{One, Two}
 use Rattle.kc_types.specs.declared.call.Call.{Call}
-use Rattle.kc_types.specs.declared.call.Call.TheVariants.{Remap, HostWrite, GuestWrite}
+use Rattle.kc_types.specs.declared.call.Call.TheVariants.{HostWrite, GuestWrite}
 use Rattle.kc_model.specs.State.{State, frame_at}
 use Rattle.kc_model.specs.Next.{next}
 use Rattle.kc_model.specs.Lawful.{IsLawful}
-use Rattle.kc_model.specs.Custody.{custody}
-use Rattle.kc_model.specs.Events.{events}
-use Rattle.kc_model.specs.Redaction.{counts, keeps_images, KeepsImages, DifferInCalls}
-use Rattle.kc_model.specs.Blanking.{blank_state}
+use Rattle.kc_model.specs.Redaction.{counts, TellTheSame}
 use Rattle.kc_model.proofs.States.ZeroPage.{zeros-are_bytes}
 use Rattle.kc_model.proofs.Redaction.Traces.{bytes_decide_nothing}
-use Rattle.kc_model.proofs.Redaction.Blank.{told_alike, audited_blank}
+use Rattle.kc_model.proofs.Redaction.Blank.{told_alike, keeps-all, wholly-differ}
+use Rattle.kc_remarks.proofs.Unread.{unread, notes_redacted}
 use Rattle.kc_trace.specs.Spelling.{lines_of, trace_header, text_of, is_allowed_in}
 use Rattle.kc_trace.specs.Trace.{IsCallOf, AreCalls, IsTrace}
 use Rattle.kc_redact.specs.Redacted.{blanked, redacted_call, redacted_line, redacted, redacted_in, redacted_from, all_frames, DifferInBytes, IsRedaction, IsHostRedaction}
@@ -80,6 +78,7 @@ is_redaction text other calls read written = record {
   };
   events = λ m is. (told_alike m calls is).events;
   custody = λ m is. (told_alike m calls is).custody;
+  notes = λ m is. (notes_redacted m calls is).same;
 }
 
 -- ---- and so it is without what the host writes to frames of active VMs
@@ -105,34 +104,9 @@ host-number : (m : State) (calls : List Call) → length (redacted_from m calls)
 host-number m [] = refl
 host-number m (call ∷ calls) = ap suc (host-number (next m call).1 calls)
 
--- calls do not differ from themselves, and every frame is kept
-same-calls : (m : State) (calls : List Call) → DifferInCalls all_frames m calls calls
-same-calls m [] = tt
-same-calls m (call ∷ calls) = (refl, same-calls (next m call).1 calls)
-
-keeps-call : (call : Call) → keeps_images all_frames call ≡ true
-keeps-call (Remap v i f) = refl
-keeps-call _ = refl
-
-keeps-all : (calls : List Call) → KeepsImages all_frames calls
-keeps-all [] = tt
-keeps-all (call ∷ calls) = (keeps-call call, keeps-all calls)
-
--- from any such state, the redacted calls say what they say from the blank one, and that is what the calls say
-record SaysTheSame (m n : State) (calls : List Call) : Type 0 where
-  pub events : events n (redacted_from m calls) ≡ events m calls
-  pub custody : custody n (redacted_from m calls) ≡ custody m calls
-
-says-the-same : (m n : State) (calls : List Call) → IsLawful m → IsLawful n → DifferInBytes all_frames m n → SaysTheSame m n calls
-says-the-same m n calls is other differ =
-    let others = redacted_from m calls in
-    let blank = audited_blank m calls is in
-    let here = bytes_decide_nothing m others is all_frames n others other differ (same-calls m others) (keeps-all others) in
-    let there = bytes_decide_nothing m others is all_frames (blank_state m) others blank.lawful blank.differs (same-calls m others) (keeps-all others) in
-    record {
-      events = here.events ∙ sym there.events ∙ blank.wholly.events;
-      custody = here.custody ∙ sym there.custody ∙ blank.wholly.custody;
-    }
+-- from any such state, the redacted calls say what the calls say
+told-from : (m n : State) (calls : List Call) → IsLawful m → IsLawful n → DifferInBytes all_frames m n → TellTheSame all_frames m n calls (redacted_from m calls)
+told-from m n calls is other differ = bytes_decide_nothing m calls is all_frames n (redacted_from m calls) other differ (wholly-differ m calls) (keeps-all calls)
 
 pub is_host_redaction : (m : State) (text other : List ℕ) (calls : List Call) → IsLawful m → (read : IsTrace text calls) → other ≡ text_of read.version (redacted_from m calls) → IsHostRedaction m text other calls
 is_host_redaction m text other calls is read written = record {
@@ -146,8 +120,9 @@ is_host_redaction m text other calls is read written = record {
     each = host-are m read.version calls read.each;
     few = let few = read.few in omega (arith, few, host-number m calls);
   };
-  events = λ n lawful differ. (says-the-same m n calls is lawful differ).events;
-  custody = λ n lawful differ. (says-the-same m n calls is lawful differ).custody;
+  events = λ n lawful differ. (told-from m n calls is lawful differ).events;
+  custody = λ n lawful differ. (told-from m n calls is lawful differ).custody;
+  notes = λ n lawful differ. unread m calls is all_frames n (redacted_from m calls) lawful differ (wholly-differ m calls) (keeps-all calls);
 }
 
 -- ---- line by line

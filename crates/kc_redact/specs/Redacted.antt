@@ -9,6 +9,7 @@ use Rattle.kc_model.specs.Custody.{custody}
 use Rattle.kc_model.specs.Events.{events}
 pub use Rattle.kc_model.specs.Redaction.{blanked, redacted_call, redacted, redacted_in, all_frames, DifferInBytes}
 pub use Rattle.kc_model.specs.Blanking.{redacted_from}
+use Rattle.kc_remarks.specs.Remarks.{notes}
 use Rattle.kc_trace.specs.Spelling.{line_of, text_of}
 use Rattle.kc_trace.specs.Trace.{IsTrace}
 
@@ -17,7 +18,7 @@ abbrev pub redacted_line : Call → List ℕ
 redacted_line call = line_of (redacted_call call) ++ 10 ∷ []
 
 -- the text is a trace, and the other text is that of its calls without these bytes, under the same header; from
--- whatever state, both have the same events and the same custody
+-- whatever state, both have the same events, the same custody, and the same notes on refusals and accesses
 pub record IsRedaction (text other : List ℕ) (calls : List Call) : Type 0 where
   pub version : Version
   pub read : IsTrace text calls
@@ -26,11 +27,12 @@ pub record IsRedaction (text other : List ℕ) (calls : List Call) : Type 0 wher
   pub trace : IsTrace other (redacted calls)
   pub events : (m : State) → IsLawful m → events m (redacted calls) ≡ events m calls
   pub custody : (m : State) → IsLawful m → custody m (redacted calls) ≡ custody m calls
+  pub notes : (m : State) → IsLawful m → notes m (redacted calls) ≡ notes m calls
 
 -- the text is a trace, and the other text is, under the same header, that of its calls without these bytes, and
 -- without those that the host writes to a frame of a VM that is active just before the call, if the calls begin in
 -- this state; from this state, and from every lawful one that differs from it only in bytes of active VMs' frames, the
--- other text's calls have the events and the custody that the trace has from this state
+-- other text's calls have the events, the custody and the notes that the trace has from this state
 pub record IsHostRedaction (m : State) (text other : List ℕ) (calls : List Call) : Type 0 where
   pub version : Version
   pub read : IsTrace text calls
@@ -39,3 +41,4 @@ pub record IsHostRedaction (m : State) (text other : List ℕ) (calls : List Cal
   pub trace : IsTrace other (redacted_from m calls)
   pub events : (n : State) → IsLawful n → DifferInBytes all_frames m n → events n (redacted_from m calls) ≡ events m calls
   pub custody : (n : State) → IsLawful n → DifferInBytes all_frames m n → custody n (redacted_from m calls) ≡ custody m calls
+  pub notes : (n : State) → IsLawful n → DifferInBytes all_frames m n → notes n (redacted_from m calls) ≡ notes m calls
