@@ -48,6 +48,7 @@ MISTAKES = (
     Mistake("names", "crates/kc_parts/src/lib.rt", "`specs/Cuts.antt`", "`specs/Cutting.antt`"),
     Mistake("names", "crates/kc_core/src/lib.rt", "`IsLocalityOfParts`", "`IsLocalityOfPlaces`"),
     Mistake("names", "docs/WITNESS.md", "## What is seen", "## What is detected"),
+    Mistake("wrong definitions", "crates/kc_model/must-fail/revoke_does_nothing.edit", "::sharing", "::shares"),
     Mistake("scripts", "fleet/witness", "", "fleet/witnesses"),
     Mistake("scripts", "docs/FLEET.md", "fleet/audit --by parallel", "fleet/audit --using parallel"),
     Mistake("crates", "crates.txt", "kc_config_text: kc_types", "kc_config_text: kc_lines"),
