@@ -9,7 +9,7 @@ import re
 import calls
 from common import run
 from rules import REMARKS, VERSION, Core, Lives, denied_in, noted, rows_of_volumes, warning_of
-from states import state_text
+from states import blanked, state_text
 
 # The most volumes that a trace is cut into.
 MOST = 5
@@ -65,17 +65,17 @@ class Chain:
         return run(["custody", *self.start, *words, *files], self.paths[0].read_text() if is_given else "")
 
     def some(self, rng, vms, form=()):
-        """Random options: whether texts are named, whether accesses are unseen, and the one VM to report on, if any."""
+        """Random options: whether digests are asked for, whether accesses are unseen, and the one VM to report on, if any."""
         is_named, is_unseen = rng.random() < 0.4, REMARKS[1] not in form and rng.random() < 0.3
         vm = rng.choice(vms) if rng.random() < 0.3 else None
         options = ["--digests"] * is_named + ["--unseen"] * is_unseen + ([] if vm is None else ["--vm", str(vm)])
         return is_named, is_unseen, vm, options
 
     def named(self):
-        """What the first line says of the texts that were read; of several volumes, their own lines say it."""
-        trace = {"trace": digest(self.texts[0])} if len(self.texts) == 1 else {}
+        """What the first line says of what was read; of several volumes, their own lines say it."""
+        trace = {"trace": calls.witnessed(self.volumes[0])} if len(self.texts) == 1 else {}
         config = {"config": hashlib.sha256(self.path.read_bytes()).hexdigest(), "state": None}
-        return trace | (config if self.state is None else {"config": None, "state": digest(self.state)})
+        return trace | (config if self.state is None else {"config": None, "state": digest(blanked(self.state))})
 
     def report_differs(self, rng, vm):
         """What differs in one form of custody, or None."""
@@ -83,7 +83,7 @@ class Chain:
         is_named, is_unseen, vm, options = self.some(rng, [vm], form)
         said = {"is_unseen": is_unseen, "named": self.named() if is_named else None}
         if len(self.volumes) > 1:
-            digests = list(map(digest, self.texts)) if is_named else None
+            digests = list(map(calls.witnessed, self.volumes)) if is_named else None
             said["volumes"] = rows_of_volumes(map(len, self.volumes), digests)
         made = len(self.lines), denied_in(self.remarks)
         if form == ["--summary"]:
@@ -103,7 +103,7 @@ class Chain:
         """The foot of a picture of several volumes."""
         foot = f"kcore {VERSION}, {len(self.volumes)} volumes"
         if is_named:
-            kind, text = ("configuration", self.path.read_text()) if self.state is None else ("state", self.state)
+            kind, text = ("configuration", self.path.read_text()) if self.state is None else ("state", blanked(self.state))
             foot += f", {kind} SHA-256 {digest(text)}"
         return foot + ", accesses unseen" * is_unseen
 

@@ -5,6 +5,7 @@ mod Plain
 mod Reported
 mod Ledgers
 mod Headings
+mod Named
 mod Marked
 mod Told
 pub mod Sources

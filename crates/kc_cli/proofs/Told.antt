@@ -16,6 +16,7 @@ use Rattle.kc_remarks.specs.declared.denials.Denials.{Denials}
 use Rattle.kc_remarks.specs.Denials.{is_denied, Counts}
 use Rattle.kc_remarks.proofs.Counted.{denied, both}
 use Rattle.kc_remarks.proofs.Runs.{notes-append}
+use Rattle.kc_remarks.proofs.Unread.{unread, notes_redacted}
 use Rattle.kc_remarks.proofs.Events.{events-of-notes, changes-of-notes}
 use Rattle.kc_model.specs.State.{State}
 use Rattle.kc_model.specs.Lawful.{IsLawful}
@@ -74,6 +75,8 @@ is_told m calls count refused is counted denied_so = record {
   promises = promises_kept m calls is;
   laws = custody_is m calls is;
   blind = custody_is_blind m calls is;
+  unread = unread m calls is;
+  redacted = notes_redacted m calls is;
   all = is_of_all m calls is;
   summaries = summaries_are m calls is;
   bars = bars_are m calls is;

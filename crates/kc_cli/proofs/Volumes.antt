@@ -23,7 +23,7 @@ use Rattle.kc_cli.specs.declared.account.Told.{Told}
 use Rattle.kc_cli.specs.declared.custody.CustodyOrder.{CustodyOrder}
 use Rattle.kc_cli.specs.declared.custody.CustodyAccount.{CustodyAccount}
 use Rattle.kc_cli.specs.Answers.{AreAllAnswered}
-use Rattle.kc_cli.specs.Custody.{joined, AreVolumes, AreEntries, HasDigest, IsCustodyText, names_trace, names_start, heading_of, listed, trace_digest}
+use Rattle.kc_cli.specs.Custody.{joined, AreVolumes, IsCustodyText, NamesStart, calls_digest, entries_of, entries_in, names_trace, names_start, heading_of, listed, trace_digest}
 use Rattle.kc_trace.specs.declared.custody_writer.Digests.{Digests}
 use Rattle.kc_cli.specs.declared.account.Scope.{Scope}
 use Rattle.kc_cli.specs.Headings.{digests_by, heading_by}
@@ -37,6 +37,7 @@ use Rattle.kc_cli.specs.Ledgers.{HasKept, Keeps, events_kept, IsGiven, IsGivenOf
 use Rattle.kc_cli.specs.Volumes.{known, HasTold}
 use Rattle.kc_cli.proofs.Counted.{answered_by}
 use Rattle.kc_cli.proofs.Headings.{headed}
+use Rattle.kc_cli.proofs.Named.{named_blind}
 use Rattle.kc_cli.proofs.Ledgers.{account_given, kept_within}
 use Rattle.kc_cli.proofs.Told.{is_told}
 
@@ -52,32 +53,29 @@ volumes_last [] (one ∷ volumes) source calls are traced few = absurd are
 volumes_last (one ∷ sources) [] source calls are traced few = absurd are
 volumes_last (one ∷ sources) (some ∷ volumes) source calls are traced few = (are.0, are.1, volumes_last sources volumes source calls are.2 traced few)
 
-pub entries_last : (named : Bool) (line : ℕ) (sources : List (Option (List ℕ))) (volumes : List (List Call)) (entries : List VolumeEntry) (source : Option (List ℕ)) (calls : List Call) (entry : VolumeEntry) → AreEntries named line sources volumes entries
-    → entry.line ≡ line + length (joined volumes) → entry.calls ≡ length calls → HasDigest named source entry.digest → AreEntries named line (sources ++ source ∷ []) (volumes ++ calls ∷ []) (entries ++ entry ∷ [])
-entries_last named line [] [] [] source calls entry are at long digest = (let here : entry.line ≡ line = omega (arith, at) in here, long, digest, tt)
-entries_last named line [] [] (e ∷ entries) source calls entry are at long digest = absurd are
-entries_last named line [] (v ∷ volumes) entries source calls entry are at long digest = absurd are
-entries_last named line (s ∷ sources) [] entries source calls entry are at long digest = absurd are
-entries_last named line (s ∷ sources) (v ∷ volumes) [] source calls entry are at long digest = absurd are
-entries_last named line (s ∷ sources) (v ∷ volumes) (e ∷ entries) source calls entry are at long digest =
+pub entries_last : (named : Bool) (line : ℕ) (volumes : List (List Call)) (calls : List Call) (entry : VolumeEntry) → entry.line ≡ line + length (joined volumes) → entry.calls ≡ length calls → entry.digest ≡ calls_digest named calls
+    → entries_of named line volumes ++ entry ∷ [] ≡ entries_of named line (volumes ++ calls ∷ [])
+entries_last named line [] calls entry at long digest =
+    let here : entry.line ≡ line = omega (arith, at) in
+    rw (← here, ← long, ← digest) refl
+entries_last named line (v ∷ volumes) calls entry at long digest =
     let both = length-append v (joined volumes) in
     let after : entry.line ≡ (line + length v) + length (joined volumes) = omega (arith, at, both) in
-    (are.0, are.1, are.2, entries_last named (line + length v) sources volumes entries source calls entry are.3 after long digest)
+    ap (λ (rest : List VolumeEntry). record { line = line; calls = length v; digest = calls_digest named v } ∷ rest) (entries_last named (line + length v) volumes calls entry after long digest)
 
 -- one trace more was read
 pub read_more : (order : CustodyOrder) (old new : CustodyAccount) (m : State) (sources : List (Option (List ℕ))) (source : Option (List ℕ)) (calls : List Call) (entry : VolumeEntry) → HasTold order old m sources → new.order ≡ old.order
     → IfSome source (λ text. IsTrace text calls) → length calls ≤ call_limit → new.kept.line ≡ old.kept.line + length calls
     → ((before : List Call) → HasKept order.form m before old.core old.kept → HasKept order.form m (before ++ calls) new.core new.kept)
-    → new.entries.items ≡ old.entries.items ++ entry ∷ [] → entry.line ≡ old.kept.line → entry.line + entry.calls ≡ new.kept.line → HasDigest (names_trace order.scope.named) source entry.digest
+    → new.entries.items ≡ old.entries.items ++ entry ∷ [] → entry.line ≡ old.kept.line → entry.line + entry.calls ≡ new.kept.line → entry.digest ≡ calls_digest (names_trace order.scope.named) calls
     → length old.entries.items + 1 < 2 ^ 32 → HasTold order new m (sources ++ source ∷ [])
 read_more order old new m sources source calls entry h same traced few at more pushed begins ends digest room = record {
   ordered = same ∙ h.ordered;
   lawful = h.lawful;
   volumes = h.volumes ++ calls ∷ [];
   traced = volumes_last sources h.volumes source calls h.traced traced few;
-  entries = subst (λ (entries : List VolumeEntry). AreEntries (names_trace order.scope.named) first_line (sources ++ source ∷ []) (h.volumes ++ calls ∷ []) entries) (sym pushed)
-      (entries_last (names_trace order.scope.named) first_line sources h.volumes old.entries.items source calls entry h.entries
-      (begins ∙ h.kept.line) (let long : entry.calls ≡ length calls = omega (arith, begins, ends, at) in long) digest);
+  entries = pushed ∙ ap (λ (entries : List VolumeEntry). entries ++ entry ∷ []) h.entries
+      ∙ entries_last (names_trace order.scope.named) first_line h.volumes calls entry (begins ∙ h.kept.line) (let long : entry.calls ≡ length calls = omega (arith, begins, ends, at) in long) digest;
   counted = (let long = ap length pushed ∙ length-append old.entries.items (entry ∷ []) in omega (arith, long, room));
   kept = subst (λ (all : List Call). HasKept order.form m all new.core new.kept) (sym (joined_last h.volumes calls)) (more (joined h.volumes) h.kept);
 }
@@ -99,16 +97,11 @@ known_are (None ∷ sources) texts same = absurd cc
 known_are (Some one ∷ sources) texts same = one_known one (known sources) sources (λ more is. known_are sources more is) texts same
 
 -- no volume begins before the first one
-not_before : (named : Bool) (line : ℕ) (sources : List (Option (List ℕ))) (volumes : List (List Call)) (entries : List VolumeEntry) → AreEntries named line sources volumes entries
-    → (j : ℕ) (d : VolumeEntry) → j < length entries → line ≤ (get_or entries j d).line
-not_before named line [] [] [] are j d lt = absurd (omega (arith, lt))
-not_before named line [] [] (e ∷ entries) are j d lt = absurd are
-not_before named line [] (v ∷ volumes) entries are j d lt = absurd are
-not_before named line (s ∷ sources) [] entries are j d lt = absurd are
-not_before named line (s ∷ sources) (v ∷ volumes) [] are j d lt = absurd are
-not_before named line (s ∷ sources) (v ∷ volumes) (e ∷ entries) are zero d lt = let at = are.0 in omega (arith, at)
-not_before named line (s ∷ sources) (v ∷ volumes) (e ∷ entries) are (suc j) d lt =
-    let rest = not_before named (line + length v) sources volumes entries are.3 j d (omega (arith, lt)) in
+not_before : (named : Bool) (line : ℕ) (volumes : List (List Call)) (j : ℕ) (d : VolumeEntry) → j < length (entries_of named line volumes) → line ≤ (get_or (entries_of named line volumes) j d).line
+not_before named line [] j d lt = absurd (omega (arith, lt))
+not_before named line (v ∷ volumes) zero d lt = omega arith
+not_before named line (v ∷ volumes) (suc j) d lt =
+    let rest = not_before named (line + length v) volumes j d (omega (arith, lt)) in
     omega (arith, rest)
 
 -- volumes begin on lines that do not descend
@@ -119,17 +112,12 @@ one_in_line e entries first rest zero (suc j) d le lt = first j d (omega (arith,
 one_in_line e entries first rest (suc i) zero d le lt = absurd (omega (arith, le))
 one_in_line e entries first rest (suc i) (suc j) d le lt = rest i j d (omega (arith, le)) (omega (arith, lt))
 
-pub in_line : (named : Bool) (line : ℕ) (sources : List (Option (List ℕ))) (volumes : List (List Call)) (entries : List VolumeEntry) → AreEntries named line sources volumes entries → AreInLine entries
-in_line named line [] [] [] are = λ i j d le lt. absurd (omega (arith, lt))
-in_line named line [] [] (e ∷ entries) are = absurd are
-in_line named line [] (v ∷ volumes) entries are = absurd are
-in_line named line (s ∷ sources) [] entries are = absurd are
-in_line named line (s ∷ sources) (v ∷ volumes) [] are = absurd are
-in_line named line (s ∷ sources) (v ∷ volumes) (e ∷ entries) are =
-    let after = not_before named (line + length v) sources volumes entries are.3 in
-    let first : (j : ℕ) (d : VolumeEntry) → j < length entries → e.line ≤ (get_or entries j d).line =
-    λ j d lt. (let at = are.0 in let more = after j d lt in omega (arith, at, more)) in
-    one_in_line e entries first (in_line named (line + length v) sources volumes entries are.3)
+pub in_line : (named : Bool) (line : ℕ) (volumes : List (List Call)) → AreInLine (entries_of named line volumes)
+in_line named line [] = λ i j d le lt. absurd (omega (arith, lt))
+in_line named line (v ∷ volumes) =
+    let first : (j : ℕ) (d : VolumeEntry) → j < length (entries_of named (line + length v) volumes) → line ≤ (get_or (entries_of named (line + length v) volumes) j d).line =
+    λ j d lt. (let more = not_before named (line + length v) volumes j d lt in omega (arith, more)) in
+    one_in_line _ (entries_of named (line + length v) volumes) first (in_line named (line + length v) volumes)
 
 pub listed_in_line : (entries : List VolumeEntry) → AreInLine entries → AreInLine (listed entries)
 listed_in_line [] is = is
@@ -143,7 +131,7 @@ none_told order account lawful ordered none kept = record {
   lawful = lawful;
   volumes = [];
   traced = tt;
-  entries = subst (λ (entries : List VolumeEntry). AreEntries (names_trace order.scope.named) first_line [] [] entries) (sym none) tt;
+  entries = none;
   counted = (let long = ap length none in omega (arith, long));
   kept = kept;
 }
@@ -173,12 +161,14 @@ pub record IsToldOf (account : CustodyAccount) (m : State) (calls : List Call) (
   pub ledger : told.ledger ≡ account.kept.ledger
 
 text_of : (order : CustodyOrder) (account : CustodyAccount) (m : State) (start : List ℕ) (sources : List (Option (List ℕ))) (texts : List (List ℕ)) (told : Told) (text : List ℕ) (h : HasTold order account m sources) → IsToldOf account m (joined h.volumes) told
-    → known sources ≡ Some texts → BeginsIn order.origin start m → HasDigest (names_start order.scope.named) (Some start) account.start → IsGivenOf order.scope.vm told text
+    → known sources ≡ Some texts → BeginsIn order.origin start m → NamesStart (names_start order.scope.named) order.origin (Some start) m account.start → IsGivenOf order.scope.vm told text
     → IsCustodyText order.origin order.form order.scope start texts text
 text_of order account m start sources texts told text h is all begins digest given =
     let same = known_are sources texts all in
     let calls = joined h.volumes in
-    let heading = is.heading ∙ ap (λ (o : CustodyOrder). heading_by o.scope o.origin account.start account.entries.items) h.ordered ∙ headed order.scope order.origin start account.start account.entries.items digest in
+    let entries = entries_in order.scope h.volumes in
+    let heading = is.heading ∙ ap (λ (o : CustodyOrder). heading_by o.scope o.origin account.start account.entries.items) h.ordered
+    ∙ ap (heading_by order.scope order.origin account.start) h.entries ∙ headed order.scope order.origin start m account.start entries digest in
     let total = ap (λ (denials : Denials). denials.total) is.denials in
     let spelled : IsGiven order.scope.vm told.subject.heading told.subject.config told.subject.volumes.items told.subject.answered.calls told.subject.answered.denials.total told.ledger text = given in
     record {
@@ -186,19 +176,18 @@ text_of order account m start sources texts told text h is all begins digest giv
       begins = begins;
       volumes = h.volumes;
       traced = rw same at h.traced;
-      entries = account.entries.items;
-      named = rw same at h.entries;
       count = told.subject.answered.calls;
       refused = told.subject.answered.denials.total;
       told = notes m calls;
       custody = is_told m calls told.subject.answered.calls told.subject.answered.denials.total h.lawful is.count (total ∙ h.kept.denied);
-      account = account_given order.form order.scope.vm (heading_of order.scope order.origin start account.entries.items) m (listed account.entries.items) told.subject.answered.calls told.subject.answered.denials.total (notes m calls) account.kept.ledger text h.kept.ledger
-          (rw (is.config, heading, is.listed_are, is.ledger) at spelled);
+      named = named_blind m h.volumes h.lawful;
+      account = account_given order.form order.scope.vm (heading_of order.scope order.origin start m entries) m (listed entries) told.subject.answered.calls told.subject.answered.denials.total (notes m calls) account.kept.ledger text h.kept.ledger
+          (rw (is.config, heading, is.listed_are ∙ ap listed h.entries, is.ledger) at spelled);
     }
 
 -- what the sink took of it is the text of all, if they are known
 pub gives_custody : (order : CustodyOrder) (account : CustodyAccount) (m : State) (start : Option (List ℕ)) (sources : List (Option (List ℕ))) (told : Told) (old new : Option (List ℕ)) (h : HasTold order account m sources) → IsToldOf account m (joined h.volumes) told
-    → IfSome start (λ text. BeginsIn order.origin text m) → HasDigest (names_start order.scope.named) start account.start → GivesAccount account.order.scope.vm told old new → Writes (IsCustodyText order.origin order.form order.scope) start (known sources) old new
+    → IfSome start (λ text. BeginsIn order.origin text m) → NamesStart (names_start order.scope.named) order.origin start m account.start → GivesAccount account.order.scope.vm told old new → Writes (IsCustodyText order.origin order.form order.scope) start (known sources) old new
 gives_custody order account m None sources told old new h is begins digest given = tt
 gives_custody order account m (Some start) sources told old new h is begins digest given =
     by_texts (known sources) (λ texts all. text_of order account m start sources texts told given.0 h is all begins digest (subst (λ (o : CustodyOrder). IsGivenOf o.scope.vm told given.0) h.ordered given.1))
@@ -208,7 +197,7 @@ gives_custody order account m (Some start) sources told old new h is begins dige
     by_texts (Some texts) made = (given.0, made texts refl, given.2)
 
 pub begins_custody : (order : CustodyOrder) (account : CustodyAccount) (m : State) (start : Option (List ℕ)) (sources : List (Option (List ℕ))) (told : Told) (old new : Option (List ℕ)) (h : HasTold order account m sources) → IsToldOf account m (joined h.volumes) told
-    → IfSome start (λ text. BeginsIn order.origin text m) → HasDigest (names_start order.scope.named) start account.start → BeginsAccount account.order.scope.vm told old new → Begins (IsCustodyText order.origin order.form order.scope) start (known sources) old new
+    → IfSome start (λ text. BeginsIn order.origin text m) → NamesStart (names_start order.scope.named) order.origin start m account.start → BeginsAccount account.order.scope.vm told old new → Begins (IsCustodyText order.origin order.form order.scope) start (known sources) old new
 begins_custody order account m None sources told old new h is begins digest given = tt
 begins_custody order account m (Some start) sources told old new h is begins digest given =
     by_texts (known sources) (λ texts all. text_of order account m start sources texts told given.0 h is all begins digest (subst (λ (o : CustodyOrder). IsGivenOf o.scope.vm told given.0) h.ordered given.2))

@@ -11,7 +11,8 @@ use Rattle.kc_types.specs.declared.custody.Event.TheVariants as event
 use Rattle.kc_model.specs.Lawful.{IsLawful}
 use Rattle.kc_model.specs.Next.{replies_from}
 use Rattle.kc_model.specs.Promises.{KeepsPromises}
-use Rattle.kc_model.specs.Redaction.{DifferInBytes, KeepsImages}
+use Rattle.kc_model.specs.Redaction.{DifferInBytes, KeepsImages, redacted}
+use Rattle.kc_model.specs.Blanking.{blank_state}
 use Rattle.kc_model.specs.LeavingOut.{marked, MayLackOthers, custody_on}
 use Rattle.kc_model.specs.Custody.{custody, first_line}
 use Rattle.kc_model.specs.CustodyLaws.{IsCustody}
@@ -23,11 +24,14 @@ use Rattle.kc_model.specs.Summaries.{AreSummaries}
 use Rattle.kc_model.specs.Bars.{AreBars}
 use Rattle.kc_remarks.specs.declared.remark.Note.{Note}
 use Rattle.kc_remarks.specs.Remarks.{notes, events_in}
+use Rattle.kc_remarks.specs.Unread.{NotesShowNoBytes, NotesAreRedacted}
 use Rattle.kc_remarks.specs.Attempts.{attempts_in}
 use Rattle.kc_remarks.specs.declared.remark.Remarks.{Remarks}
 use Rattle.kc_remarks.specs.Denials.{is_denial}
 use Rattle.kc_html.specs.Html.{html_text_of}
 use Rattle.kc_svg.specs.Foot.{HasFoot}
+use Rattle.kc_state_text.specs.StateText.{state_text}
+use Rattle.kc_redact.specs.Witness.{witnessed}
 use Rattle.kc_custody.specs.Chosen.{chosen}
 use Rattle.kc_trace.specs.Trace.{IsTrace}
 use Rattle.kc_trace.specs.declared.custody_writer.StartDigest.TheVariants as starts
@@ -65,7 +69,7 @@ AreVolumes [] [] = Unit {0}
 AreVolumes (source ∷ sources) (calls ∷ volumes) = IfSome source (λ text. IsTrace text calls) × (length calls ≤ call_limit) × AreVolumes sources volumes
 AreVolumes _ _ = ⊥
 
--- the notes are those on these calls, made from a lawful state on, and this many of them were refused or rejected: the events among them are those of the calls, and the changes among these their custody; the calls keep the promises, and what their custody, its lives and its bars say holds, also of what the machine did unseen
+-- the notes are those on these calls, made from a lawful state on, and this many of them were refused or rejected: the events among them are those of the calls, and the changes among these their custody; the calls keep the promises, and what their custody, its lives and its bars say holds, also of what the machine did unseen; and they show nothing of bytes that virtual processors write
 pub record IsCustodyTold (m : State) (calls : List Call) (count refused : ℕ) (told : List Note) : Type 0 where
   pub counted : count ≡ length calls
   pub exact : told ≡ notes m calls
@@ -75,6 +79,8 @@ pub record IsCustodyTold (m : State) (calls : List Call) (count refused : ℕ) (
   pub promises : KeepsPromises m calls
   pub laws : IsCustody m calls
   pub blind : CustodyIsBlind m calls
+  pub unread : NotesShowNoBytes m calls
+  pub redacted : NotesAreRedacted m calls
   pub all : IsCustodyOfAll m calls
   pub summaries : AreSummaries m calls
   pub bars : AreBars m calls
@@ -104,16 +110,25 @@ abbrev pub names_start : Named → Bool
 names_start names.Both = true
 names_start _ = false
 
--- the digest is there if it is asked for, and it is that of the source's text, if that is known
-abbrev pub HasDigest : Bool → Option (List ℕ) → Option (List ℕ) → Type 0
-HasDigest asked source digest = (is_some digest ≡ asked) × IfSome digest (λ d. IfSome source (λ text. d ≡ sha256 text))
+-- a trace is named by the digest that a witness publishes of its calls: it is that of their redacted trace, under whatever header they came, so nothing that guests wrote is in it
+abbrev pub calls_digest : Bool → List Call → Option (List ℕ)
+calls_digest false calls = None
+calls_digest true calls = Some (sha256 (witnessed calls))
 
--- each volume by the line of its first call, of which the first volume's is this one, by the number of its calls, and by its text's digest, if that is asked for
-abbrev pub AreEntries : Bool → ℕ → List (Option (List ℕ)) → List (List Call) → List VolumeEntry → Type 0
-AreEntries named line [] [] [] = Unit {0}
-AreEntries named line (source ∷ sources) (calls ∷ volumes) (entry ∷ entries) =
-    (entry.line ≡ line) × (entry.calls ≡ length calls) × HasDigest named source entry.digest × AreEntries named (line + length calls) sources volumes entries
-AreEntries named line _ _ _ = ⊥
+-- what the calls begin with is named by a digest, too: a configuration by that of its text, and a state by that of the state with the pages of active VMs zeroed
+abbrev pub start_digest : Origin → List ℕ → State → List ℕ
+start_digest origins.Boot text m = sha256 text
+start_digest origins.State text m = sha256 (state_text (blank_state m))
+
+-- this digest is there if it is asked for, and it is that of the state which the source spells, if what the source held is known
+abbrev pub NamesStart : Bool → Origin → Option (List ℕ) → State → Option (List ℕ) → Type 0
+NamesStart asked origin source m digest = (is_some digest ≡ asked) × IfSome digest (λ d. IfSome source (λ text. d ≡ start_digest origin text m))
+
+-- each volume by the line of its first call, of which the first volume's is this one, by the number of its calls, and by their digest, if that is asked for
+abbrev pub entries_of : Bool → ℕ → List (List Call) → List VolumeEntry
+entries_of named line [] = []
+entries_of named line (calls ∷ volumes) =
+    record { line = line; calls = length calls; digest = calls_digest named calls } ∷ entries_of named (line + length calls) volumes
 
 -- volumes are named on lines of their own if there are several
 abbrev pub listed : List VolumeEntry → List VolumeEntry
@@ -125,17 +140,27 @@ abbrev pub trace_digest : List VolumeEntry → Option (List ℕ)
 trace_digest (entry ∷ []) = entry.digest
 trace_digest _ = None
 
--- the digests of the texts that are named
-abbrev pub digests_of : Named → Origin → List ℕ → Option (List ℕ) → Option Digests
-digests_of names.Nothing origin start trace = None
-digests_of names.Trace origin start trace = Some (record { trace = trace; start = starts.Default })
-digests_of names.Both origins.Boot start trace = Some (record { trace = trace; start = starts.Config (sha256 start) })
-digests_of names.Both origins.State start trace = Some (record { trace = trace; start = starts.State (sha256 start) })
+-- the digests of what is named: the calls begin with this text, in this state
+abbrev pub digests_of : Named → Origin → List ℕ → State → Option (List ℕ) → Option Digests
+digests_of names.Nothing origin start m trace = None
+digests_of names.Trace origin start m trace = Some (record { trace = trace; start = starts.Default })
+digests_of names.Both origins.Boot start m trace = Some (record { trace = trace; start = starts.Config (start_digest origins.Boot start m) })
+digests_of names.Both origins.State start m trace = Some (record { trace = trace; start = starts.State (start_digest origins.State start m) })
 
 -- what the first line says beside the sizes of the core
-abbrev pub heading_of : Scope → Origin → List ℕ → List VolumeEntry → Heading
-heading_of scope origin start entries =
-    record { digests = digests_of scope.named origin start (trace_digest entries); is_unseen = scope.is_unseen; volumes = length (listed entries) }
+abbrev pub heading_of : Scope → Origin → List ℕ → State → List VolumeEntry → Heading
+heading_of scope origin start m entries =
+    record { digests = digests_of scope.named origin start m (trace_digest entries); is_unseen = scope.is_unseen; volumes = length (listed entries) }
+
+-- the volumes as they are named in what this is the scope of
+abbrev pub entries_in : Scope → List (List Call) → List VolumeEntry
+entries_in scope volumes = entries_of (names_trace scope.named) first_line volumes
+
+-- what is said of what was read shows nothing of what guests wrote: of the volumes without those bytes, from the state on in which the pages of active VMs are zeroed, whatever its text, the first line and the lines of volumes are the same; a configuration is the same one
+pub record IsNamedBlind (m : State) (volumes : List (List Call)) : Type 0 where
+  pub entries : (scope : Scope) → entries_in scope (map redacted volumes) ≡ entries_in scope volumes
+  pub heading : (scope : Scope) (origin : Origin) (start other : List ℕ) → (origin ≡ origins.Boot → other ≡ start)
+      → heading_of scope origin other (blank_state m) (entries_in scope (map redacted volumes)) ≡ heading_of scope origin start m (entries_in scope volumes)
 
 -- the text is made of the notes on all calls of the volumes, as if they were one trace, from the state on that the first text is of
 pub record IsCustodyText (origin : Origin) (form : CustodyForm) (scope : Scope) (start : List ℕ) (traces : List (List ℕ)) (text : List ℕ) : Type 0 where
@@ -143,13 +168,12 @@ pub record IsCustodyText (origin : Origin) (form : CustodyForm) (scope : Scope) 
   pub begins : BeginsIn origin start first
   pub volumes : List (List Call)
   pub traced : AreVolumes (map Some traces) volumes
-  pub entries : List VolumeEntry
-  pub named : AreEntries (names_trace scope.named) first_line (map Some traces) volumes entries
   pub count : ℕ
   pub refused : ℕ
   pub told : List Note
   pub custody : IsCustodyTold first (joined volumes) count refused told
-  pub account : IsAccount form scope.vm (heading_of scope origin start entries) first (listed entries) count refused told text
+  pub named : IsNamedBlind first volumes
+  pub account : IsAccount form scope.vm (heading_of scope origin start first (entries_in scope volumes)) first (listed (entries_in scope volumes)) count refused told text
 
 -- the machine that calls begin on has the slot of this number, or has not
 abbrev pub HasSlot : Origin → List ℕ → ℕ → Type 0

@@ -1,4 +1,4 @@
--- How the first line comes of the digests of what was read.
+-- How the first line comes of digests that were made as texts were read.
 use Rattle.std.specs.Prelude.{ℕ, List, length, Option, Some, None}
 use Rattle.kc_trace.specs.declared.custody_writer.StartDigest.{StartDigest}
 use Rattle.kc_trace.specs.declared.custody_writer.StartDigest.TheVariants as starts

@@ -1,7 +1,8 @@
 -- What the engine of custody keeps of the notes on a trace: all of them, or their events, with the attempts at pages of VMs, if these are enough.
-use Rattle.std.specs.Prelude.{◌≡◌, ◌≤◌, ◌+◌, ◌++◌, ℕ, Bool, true, false, List, [], filter, length, take, Option, Result, Ok, Err}
+use Rattle.std.specs.Prelude.{◌≡◌, ◌≤◌, ◌+◌, ◌++◌, ℕ, Bool, true, false, List, [], filter, length, take, Option, is_some, IfSome, Result, Ok, Err}
 use Rattle.std.specs.List.{flat_map}
 use Rattle.std.specs.Io.KnownBytes.{Appends}
+use Rattle.sha2.specs.declared.Sha256.{Sha256}
 use Rattle.kc_types.specs.Configuration.{Configuration}
 use Rattle.kc_types.specs.declared.call.Call.{Call}
 use Rattle.kc_types.specs.declared.custody.Event.{Event}
@@ -19,6 +20,7 @@ use Rattle.kc_model.specs.Before.{events_before}
 use Rattle.kc_model.specs.Events.{changes_in}
 use Rattle.kc_custody.specs.Selected.{selected}
 use Rattle.kc_custody.specs.Chosen.{no_remarks, chosen}
+use Rattle.kc_redact.specs.Witness.{HasSeen}
 use Rattle.kc_texts.specs.declared.source.Failed.{Failed}
 use Rattle.kc_faults.specs.declared.fault.TextFault.{TextFault}
 use Rattle.kc_faults.specs.declared.fault.TextFault.TheVariants as texts
@@ -119,3 +121,7 @@ pub record HasKept (form : CustodyForm) (m : State) (calls : List Call) (core : 
   pub denied : kept.denials.total ≡ length (filter is_denied (notes m calls))
   pub few : kept.denials.total ≤ length calls
   pub counted : Counts (replies_from m calls) kept.denials
+
+-- there is a witness if one is asked for, and it has seen these calls
+abbrev pub HasWitnessed : Bool → Option Sha256 → List Call → Type 0
+HasWitnessed asked witness calls = (is_some witness ≡ asked) × IfSome witness (λ seen. HasSeen seen calls)

@@ -7,7 +7,7 @@ use Rattle.kc_model.specs.Custody.{first_line}
 use Rattle.kc_cli.specs.declared.custody.CustodyOrder.{CustodyOrder}
 use Rattle.kc_cli.specs.declared.custody.CustodyAccount.{CustodyAccount}
 use Rattle.kc_cli.specs.declared.custody.TheConstants.{CALLS_BEFORE}
-use Rattle.kc_cli.specs.Custody.{joined, names_trace, AreVolumes, AreEntries}
+use Rattle.kc_cli.specs.Custody.{joined, entries_in, AreVolumes}
 use Rattle.kc_cli.specs.Ledgers.{HasKept}
 
 -- the texts of all sources, if each is known
@@ -22,7 +22,7 @@ pub record HasTold (order : CustodyOrder) (account : CustodyAccount) (m : State)
   pub lawful : IsLawful m
   pub volumes : List (List Call)
   pub traced : AreVolumes sources volumes
-  pub entries : AreEntries (names_trace order.scope.named) first_line sources volumes account.entries.items
+  pub entries : account.entries.items ≡ entries_in order.scope volumes
   pub counted : length account.entries.items < 2 ^ 32
   pub kept : HasKept order.form m (joined volumes) account.core account.kept
 

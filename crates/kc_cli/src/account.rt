@@ -45,7 +45,8 @@ pub enum CustodyForm {
     Html,
 }
 
-/// Which texts the first line names by their SHA-256 digests.
+/// What the first line names by SHA-256 digests in which nothing is that guests wrote: a trace by that of its redacted
+/// calls, as a witness publishes it, a configuration by that of its text, and a state by that of the blank state.
 #[derive(Clone, Copy, Debug, PartialEq, Eq)]
 pub enum Named {
     /// None.

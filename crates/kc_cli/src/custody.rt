@@ -11,7 +11,7 @@ ghost use Rattle.kc_texts.specs.Written.{Writes, Begins};
 ghost use Rattle.kc_faults.specs.Origins.{BeginsIn};
 ghost use Rattle.kc_faults.specs.Outcomes.{TellsSources, TellsTexts, TellsSink};
 ghost use Rattle.kc_cli.specs.Engine.{IsReplayFault};
-ghost use Rattle.kc_cli.specs.Custody.{IsCustodyText, TellsCustody, HasDigest, names_start, listed, trace_digest};
+ghost use Rattle.kc_cli.specs.Custody.{IsCustodyText, TellsCustody, NamesStart, names_start, listed, trace_digest};
 ghost use Rattle.kc_cli.specs.Answers.{AreAllAnswered};
 ghost use Rattle.kc_cli.specs.Headings.{start_by, digests_by, heading_by};
 ghost use Rattle.kc_cli.specs.Volumes.{known, HasTold, IsFull};
@@ -57,7 +57,7 @@ fn start_by(digest: Option<[u8; 32]>, origin: Origin) -> StartDigest
     }
 }
 
-/// The texts that are named.
+/// The digests of what is named.
 fn digests_by(
     named: Named,
     origin: Origin,
@@ -157,7 +157,7 @@ pub struct CustodyAccount {
     kept: Kept,
     /// A volume for each trace that was read.
     entries: Vec<VolumeEntry>,
-    /// The digest of what the calls begin with, if that is named.
+    /// The digest by which what the calls begin with is named, if it is.
     start: Option<[u8; 32]>,
     order: CustodyOrder,
 }
@@ -172,9 +172,9 @@ impl CustodyAccount {
     ) -> Result<CustodyAccount, TextFault>
         requires { C.failed start.old ≡ false }
         ensures ok { IfOk result (λ account. (m : State)
-            × IfSome (C.left start.old) (λ text. BeginsIn order.origin text m) × HasTold order account m []) }
-        ensures digest { IfOk result
-            (λ account. HasDigest (names_start order.scope.named) (C.left start.old) account.start) }
+            × IfSome (C.left start.old) (λ text. BeginsIn order.origin text m)
+            × NamesStart (names_start order.scope.named) order.origin (C.left start.old) m account.start
+            × HasTold order account m []) }
         ensures sources { TellsSources (seen C.failed C.left start.old start.new ∷ []) result }
         ensures texts { (trace : Seen)
             → TellsTexts order.origin (seen C.failed C.left start.old start.new) trace (Unit {0}) result }
@@ -182,8 +182,8 @@ impl CustodyAccount {
         ensures mark { OnOk result (C.failed start.new ≡ false) }
         ensures write { result ≢ Err TextFault.Write }
     {
-        let is_hashed = order.scope.named.names_start();
-        let begun = begin(rt, alloc, start, order.origin, order.lanes, is_hashed)?;
+        let is_named = order.scope.named.names_start();
+        let begun = begin(rt, alloc, start, order.origin, order.lanes, is_named)?;
         let Begun { core, digest } = begun;
         let mut core = core;
         if let Some(slot) = missing(&core, order.scope.vm) {
@@ -232,8 +232,8 @@ impl CustodyAccount {
         if self.entries.len() >= u32::MAX as usize {
             return Err(TextFault::Memory);
         }
-        let is_hashed = self.order.scope.named.names_trace();
-        let digest = self.kept.tell(alloc, &mut self.core, trace, is_hashed)?;
+        let is_named = self.order.scope.named.names_trace();
+        let digest = self.kept.tell(alloc, &mut self.core, trace, is_named)?;
         let entry = VolumeEntry {
             line,
             calls: self.kept.line - line,
@@ -269,13 +269,13 @@ impl CustodyAccount {
         ensures ok { (order : CustodyOrder) (m : State) (start : Option (List ℕ))
             (sources : List (Option (List ℕ))) → HasTold order self m sources
             → IfSome start (λ text. BeginsIn order.origin text m)
-            → HasDigest (names_start order.scope.named) start self.start
+            → NamesStart (names_start order.scope.named) order.origin start m self.start
             → OnOk result (Writes (IsCustodyText order.origin order.form order.scope) start (known sources)
             (K.taken out.old) (K.taken out.new)) }
         ensures sink { (order : CustodyOrder) (m : State) (start : Option (List ℕ))
             (sources : List (Option (List ℕ))) → HasTold order self m sources
             → IfSome start (λ text. BeginsIn order.origin text m)
-            → HasDigest (names_start order.scope.named) start self.start
+            → NamesStart (names_start order.scope.named) order.origin start m self.start
             → TellsSink (K.failed out.new) (Begins (IsCustodyText order.origin order.form order.scope) start
             (known sources) (K.taken out.old) (K.taken out.new)) (out.new ≡ out.old) result }
         ensures fault { IfErr result (λ fault. (fault ≡ TextFault.Memory) ⊎ (fault ≡ TextFault.Write)) }

@@ -1,8 +1,9 @@
 //! The core that the calls of a trace begin with.
-ghost use Rattle.std.specs.Prelude.{◌≡◌, ◌≢◌, ◌≤◌, false, true, length, IfOk, IfErr, IfSome, OnOk, Ok, Err, Some};
+ghost use Rattle.std.specs.Prelude.{◌≡◌, ◌≢◌, ◌≤◌, ℕ, List, Option, false, true, length, IfOk, IfErr, IfSome, OnOk, Ok, Err, Some};
 ghost use Rattle.std.specs.Io.KnownBytes.{IsAtEnd};
 ghost use Rattle.kc_types.specs.Limits.{byte_limit};
 ghost use Rattle.kc_model.specs.Lawful.{IsLawful};
+ghost use Rattle.kc_model.specs.State.{State};
 ghost use Rattle.kc_config_text.specs.ConfigText.{config_in};
 ghost use Rattle.kc_config_text.specs.declared.config_text.ConfigTextFault.{ConfigTextFault};
 ghost use Rattle.kc_state_text.specs.Refused.{IsRefusedState};
@@ -11,35 +12,52 @@ ghost use Rattle.kc_texts.specs.Ends.{ReadFailed};
 ghost use Rattle.kc_faults.specs.Origins.{BeginsIn};
 ghost use Rattle.kc_faults.specs.Outcomes.{IsConfigFault, IsStartFault};
 ghost use Rattle.kc_cli.specs.Engine.{IsStateFault};
-ghost use Rattle.kc_cli.specs.Custody.{HasDigest};
+ghost use Rattle.kc_cli.specs.Custody.{NamesStart};
 
 use kc_config_text::read_config;
 use kc_core::KCore;
 use kc_digests::Lanes;
+use kc_dumping::StateForm;
 use kc_faults::{Origin, TextFault};
-use kc_state_text::read_state;
+use kc_state_text::{read_state, state_digest};
 use kc_texts::{Source, read_secret, read_whole};
 use sha2::{Digest, Sha256};
 use std::alloc::Global;
 use std::thread::Threads;
 
-/// A core, and the SHA-256 digest of the text that it was made of, if that was asked for.
+/// A core, and the SHA-256 digest by which what it was made of is named, if that was asked for.
 #[derive(Drop)]
 pub(crate) struct Begun {
     pub core: KCore,
     pub digest: Option<[u8; 32]>,
 }
 
-/// The digest of a text, if it is asked for.
-fn digest_of(text: &[u8], is_hashed: bool) -> Option<[u8; 32]>
-    ensures { HasDigest is_hashed (Some text.now) result }
+/// The digest of a configuration's text, if it is asked for.
+fn text_digest(text: &[u8], is_named: bool) -> Option<[u8; 32]>
+    ensures { (m : State) → NamesStart is_named Origin.Boot (Some text.now) m result }
 {
-    if !is_hashed {
+    if !is_named {
         return None;
     }
     let mut hasher = Sha256::new();
     hasher.update(text);
     Some(hasher.finalize())
+}
+
+/// The digest of a core's state with the pages of active VMs zeroed, if it is asked for: the text that it is of is
+/// made a piece at a time, and the core stays as it is.
+fn blank_digest(alloc: Global, core: &KCore, is_named: bool) -> Result<Option<[u8; 32]>, TextFault>
+    ensures digest { IfOk result (λ digest. (source : Option (List ℕ))
+        → NamesStart is_named Origin.State source core.now digest) }
+    ensures fault { IfErr result (λ fault. fault ≡ TextFault.Memory) }
+{
+    if !is_named {
+        return Ok(None);
+    }
+    match state_digest(alloc, core, StateForm::Blank) {
+        Ok(digest) => Ok(Some(digest)),
+        Err(_) => Err(TextFault::Memory),
+    }
 }
 
 /// The core in the boot state of a configuration.
@@ -59,10 +77,11 @@ fn boot_of(alloc: Global, text: &[u8]) -> Result<KCore, TextFault>
 }
 
 /// Reads a configuration to its end: the core in its boot state.
-fn boot_core<C: Source>(alloc: Global, start: &mut C, is_hashed: bool) -> Result<Begun, TextFault>
+fn boot_core<C: Source>(alloc: Global, start: &mut C, is_named: bool) -> Result<Begun, TextFault>
     requires { C.failed start.old ≡ false }
     ensures ok { IfOk result (λ begun. IfSome (C.left start.old) (λ text. BeginsIn Origin.Boot text begun.core)) }
-    ensures digest { IfOk result (λ begun. HasDigest is_hashed (C.left start.old) begun.digest) }
+    ensures digest { IfOk result
+        (λ begun. NamesStart is_named Origin.Boot (C.left start.old) begun.core begun.digest) }
     ensures lawful { IfOk result (λ begun. IsLawful begun.core) }
     ensures ended { OnOk result (IsAtEnd (C.left start.new)) }
     ensures mark { OnOk result (C.failed start.new ≡ false) }
@@ -74,7 +93,7 @@ fn boot_core<C: Source>(alloc: Global, start: &mut C, is_hashed: bool) -> Result
 {
     let text = read_whole(alloc, start)?;
     let core = boot_of(alloc, &text)?;
-    let digest = digest_of(&text, is_hashed);
+    let digest = text_digest(&text, is_named);
     Ok(Begun { core, digest })
 }
 
@@ -101,11 +120,12 @@ fn read_core<C: Source>(
     alloc: Global,
     start: &mut C,
     lanes: Lanes,
-    is_hashed: bool,
+    is_named: bool,
 ) -> Result<Begun, TextFault>
     requires { C.failed start.old ≡ false }
     ensures ok { IfOk result (λ begun. IfSome (C.left start.old) (λ text. BeginsIn Origin.State text begun.core)) }
-    ensures digest { IfOk result (λ begun. HasDigest is_hashed (C.left start.old) begun.digest) }
+    ensures digest { IfOk result
+        (λ begun. NamesStart is_named Origin.State (C.left start.old) begun.core begun.digest) }
     ensures lawful { IfOk result (λ begun. IsLawful begun.core) }
     ensures ended { OnOk result (IsAtEnd (C.left start.new)) }
     ensures mark { OnOk result (C.failed start.new ≡ false) }
@@ -118,12 +138,14 @@ fn read_core<C: Source>(
 {
     let text = read_secret(alloc, start)?;
     let core = core_in(rt, alloc, text.as_slice(), lanes)?;
-    let digest = digest_of(text.as_slice(), is_hashed);
+    // (its memory is given back before the state is hashed)
+    let _wiped = text;
+    let digest = blank_digest(alloc, &core, is_named)?;
     Ok(Begun { core, digest })
 }
 
 /// Reads what the calls begin with to its end: the core in the boot state of a configuration, or in the state of a
-/// text, and the digest of what was read, if that is asked for. A source that fails, or that has more than
+/// text, and the digest by which this is named, if that is asked for. A source that fails, or that has more than
 /// 1,073,741,824 bytes, is `Read`.
 pub(crate) fn begin<C: Source>(
     rt: &(impl Threads + Sync),
@@ -131,11 +153,12 @@ pub(crate) fn begin<C: Source>(
     start: &mut C,
     origin: Origin,
     lanes: Lanes,
-    is_hashed: bool,
+    is_named: bool,
 ) -> Result<Begun, TextFault>
     requires { C.failed start.old ≡ false }
     ensures ok { IfOk result (λ begun. IfSome (C.left start.old) (λ text. BeginsIn origin text begun.core)) }
-    ensures digest { IfOk result (λ begun. HasDigest is_hashed (C.left start.old) begun.digest) }
+    ensures digest { IfOk result
+        (λ begun. NamesStart is_named origin (C.left start.old) begun.core begun.digest) }
     ensures lawful { IfOk result (λ begun. IsLawful begun.core) }
     ensures ended { OnOk result (IsAtEnd (C.left start.new)) }
     ensures mark { OnOk result (C.failed start.new ≡ false) }
@@ -149,8 +172,8 @@ pub(crate) fn begin<C: Source>(
     ensures fault { IfErr result IsStartFault }
 {
     match origin {
-        Origin::Boot => boot_core(alloc, start, is_hashed),
-        Origin::State => read_core(rt, alloc, start, lanes, is_hashed),
+        Origin::Boot => boot_core(alloc, start, is_named),
+        Origin::State => read_core(rt, alloc, start, lanes, is_named),
     }
 }
 

@@ -1,5 +1,5 @@
 //! The calls of a trace, made as it is read, and what is kept of them until what is reported of them is written.
-ghost use Rattle.std.specs.Prelude.{◌≡◌, ◌≢◌, ◌<◌, ◌≤◌, ◌+◌, ◌^◌, ◌++◌, [], ℕ, List, Option, length, false, true, is_some, IfOk, IfErr, IfSome, OnOk, Err};
+ghost use Rattle.std.specs.Prelude.{◌≡◌, ◌≢◌, ◌<◌, ◌≤◌, ◌+◌, ◌^◌, ◌++◌, [], Bool, List, length, false, true, IfOk, IfErr, IfSome, OnOk, Err};
 ghost use Rattle.std.specs.Io.KnownBytes.{IsAtEnd};
 ghost use Rattle.kc_types.specs.Limits.{call_limit};
 ghost use Rattle.kc_types.specs.declared.call.Call.{Call};
@@ -7,39 +7,63 @@ ghost use Rattle.kc_model.specs.State.{State};
 ghost use Rattle.kc_trace.specs.declared.fault.TraceFault.{TraceFault};
 ghost use Rattle.kc_trace.specs.Trace.{IsTrace, IsRefused};
 ghost use Rattle.kc_texts.specs.Ends.{ReadFailed};
-ghost use Rattle.kc_texts.specs.Streamed.{HasRead};
+ghost use Rattle.kc_redact.specs.Witness.{HasSeen};
 ghost use Rattle.kc_cli.specs.Engine.{IsReplayFault};
-ghost use Rattle.kc_cli.specs.Custody.{HasDigest};
-ghost use Rattle.kc_cli.specs.Ledgers.{HasKept};
+ghost use Rattle.kc_cli.specs.Custody.{calls_digest};
+ghost use Rattle.kc_cli.specs.Ledgers.{HasKept, HasWitnessed};
 
 use crate::account::{CustodyForm, FIRST_LINE};
 use crate::ledger::Ledger;
 use kc_core::KCore;
 use kc_faults::TextFault;
+use kc_redact::Witness;
 use kc_remarks::Denials;
 use kc_texts::{CallStream, PIECE, Source};
-use kc_types::Memory;
+use kc_types::{Call, Memory};
 use std::alloc::Global;
 
-/// A stream of calls, whose bytes are hashed if that is asked for.
-fn stream_of(is_hashed: bool) -> CallStream
-    ensures none { (first : Option (List ℕ)) → HasRead result [] [] first first }
-    ensures hashed { is_hashed ≡ true → is_some result.hasher ≡ true }
+/// A witness that has seen no calls, if one is asked for.
+fn witness_of(alloc: Global, is_named: bool) -> Result<Option<Witness>, TextFault>
+    ensures seen { IfOk result (λ witness. HasWitnessed is_named witness []) }
+    ensures fault { IfErr result (λ fault. fault ≡ TextFault.Memory) }
 {
-    if is_hashed {
-        CallStream::hashing()
-    } else {
-        CallStream::new()
+    if !is_named {
+        return Ok(None);
+    }
+    match Witness::new(alloc) {
+        Ok(witness) => Ok(Some(witness)),
+        Err(_) => Err(TextFault::Memory),
     }
 }
 
-/// The digest of a stream that was read to its end, if it is asked for.
-fn digest_of(stream: &CallStream, is_hashed: bool) -> Option<[u8; 32]>
-    requires { is_hashed ≡ true → is_some stream.now.hasher ≡ true }
-    ensures { (bytes : List ℕ) (calls : List Call) (first now : Option (List ℕ))
-        → HasRead stream.now bytes calls first now → IsAtEnd now → HasDigest is_hashed first result }
+/// Has a witness see some calls.
+fn note_each(witness: &mut Witness, calls: &[Call])
+    ensures { (before : List Call) → HasSeen witness.old before → HasSeen witness.new (before ++ calls.now) }
 {
-    if is_hashed { stream.digest() } else { None }
+    for call in calls {
+        witness.note(call);
+    }
+}
+
+/// The same, if there is a witness.
+fn note_all(witness: &mut Option<Witness>, calls: &[Call])
+    ensures { (asked : Bool) (before : List Call) → HasWitnessed asked witness.old before
+        → HasWitnessed asked witness.new (before ++ calls.now) }
+{
+    if let Some(witness) = witness {
+        note_each(witness, calls);
+    }
+}
+
+/// The digest of what a witness has seen, if there is one.
+fn digest_of(witness: &Option<Witness>) -> Option<[u8; 32]>
+    ensures { (asked : Bool) (calls : List Call) → HasWitnessed asked witness.now calls
+        → result ≡ calls_digest asked calls }
+{
+    match witness {
+        Some(witness) => Some(witness.digest()),
+        None => None,
+    }
 }
 
 /// What is kept of the calls so far.
@@ -70,23 +94,24 @@ impl Kept {
     }
 
     /// Makes the calls of the trace that a source has left, as it is read, and keeps of them what is reported; returns
-    /// the trace's digest, if it is asked for. After an `Err` some of the calls are done.
+    /// the digest of the redacted calls, if it is asked for. After an `Err` some of the calls are done.
     pub(crate) fn tell<T: Source>(
         &mut self,
         alloc: Global,
         core: &mut KCore,
         trace: &mut T,
-        is_hashed: bool,
+        is_named: bool,
     ) -> Result<Option<[u8; 32]>, TextFault>
         requires trace { T.failed trace.old ≡ false }
         requires lines { self.old.line + call_limit < 2 ^ 32 }
         requires counts { self.old.denials.total ≤ self.old.line }
-        ensures ok { OnOk result ((calls : List Call) × IfSome (T.left trace.old) (λ text. IsTrace text calls)
+        ensures ok { IfOk result (λ digest. (calls : List Call)
+            × IfSome (T.left trace.old) (λ text. IsTrace text calls)
             × (length calls ≤ call_limit) × (self.new.line ≡ self.old.line + length calls)
+            × (digest ≡ calls_digest is_named calls)
             × ((form : CustodyForm) (start : State) (before : List Call)
             → HasKept form start before core.old self.old
             → HasKept form start (before ++ calls) core.new self.new)) }
-        ensures digest { IfOk result (HasDigest is_hashed (T.left trace.old)) }
         ensures ended { OnOk result (IsAtEnd (T.left trace.new)) }
         ensures trace { (fault : TraceFault) → result ≡ Err (TextFault.Trace fault)
             → IfSome (T.left trace.old) (λ text. IsRefused text fault) × IsAtEnd (T.left trace.new) }
@@ -96,8 +121,9 @@ impl Kept {
         ensures started { result ≢ Err TextFault.Start }
         ensures fault { IfErr result IsReplayFault }
     {
+        let mut witness = witness_of(alloc, is_named)?;
         let mut buffer = [0u8; PIECE];
-        let mut stream = stream_of(is_hashed);
+        let mut stream = CallStream::new();
         loop {
             let part = stream.next(alloc, trace, &mut buffer)?;
             let Ok(()) = self
@@ -106,14 +132,14 @@ impl Kept {
             else {
                 return Err(TextFault::Memory);
             };
+            note_all(&mut witness, &part.calls);
             self.line += part.calls.len() as u32;
             if part.is_last {
                 break;
             }
         }
-        let digest = digest_of(&stream, is_hashed);
         match stream.finish() {
-            Ok(()) => Ok(digest),
+            Ok(()) => Ok(digest_of(&witness)),
             Err(fault) => Err(TextFault::Trace(fault)),
         }
     }

@@ -18,7 +18,7 @@ use Rattle.kc_faults.proofs.Told.{IsLastFault, texts_ok, texts_after, begun_is}
 use Rattle.kc_cli.specs.declared.custody.CustodyAccount.{CustodyAccount}
 use Rattle.kc_cli.specs.declared.custody.CustodyOrder.{CustodyOrder}
 use Rattle.kc_cli.specs.Answers.{AreAllAnswered}
-use Rattle.kc_cli.specs.Custody.{names_start, HasDigest, HasSlot, IsCustodyText, TellsCustody}
+use Rattle.kc_cli.specs.Custody.{names_start, NamesStart, HasSlot, IsCustodyText, TellsCustody}
 use Rattle.kc_cli.specs.Engine.{IsReplayFault}
 use Rattle.kc_cli.specs.Volumes.{known, HasTold}
 use Rattle.kc_cli.proofs.Sources.{sink_ok}
@@ -35,9 +35,9 @@ use Rattle.kc_run.proofs.Carried.{sink_err}
 -- what is said of a text that is given, if it is given to this sink
 pub record Gives (account : CustodyAccount) (ends : Ends) (r : Result Answered TextFault) : Type 0 where
   pub answered : (order : CustodyOrder) (m : State) (start : Option (List ℕ)) (sources : List (Option (List ℕ))) → HasTold order account m sources → IfSome start (λ text. BeginsIn order.origin text m) → IfOk r (AreAllAnswered order.origin start (known sources))
-  pub ok : (order : CustodyOrder) (m : State) (start : Option (List ℕ)) (sources : List (Option (List ℕ))) → HasTold order account m sources → IfSome start (λ text. BeginsIn order.origin text m) → HasDigest (names_start order.scope.named) start account.start
+  pub ok : (order : CustodyOrder) (m : State) (start : Option (List ℕ)) (sources : List (Option (List ℕ))) → HasTold order account m sources → IfSome start (λ text. BeginsIn order.origin text m) → NamesStart (names_start order.scope.named) order.origin start m account.start
       → OnOk r (Writes (IsCustodyText order.origin order.form order.scope) start (known sources) ends.out.had ends.out.has)
-  pub sink : (order : CustodyOrder) (m : State) (start : Option (List ℕ)) (sources : List (Option (List ℕ))) → HasTold order account m sources → IfSome start (λ text. BeginsIn order.origin text m) → HasDigest (names_start order.scope.named) start account.start
+  pub sink : (order : CustodyOrder) (m : State) (start : Option (List ℕ)) (sources : List (Option (List ℕ))) → HasTold order account m sources → IfSome start (λ text. BeginsIn order.origin text m) → NamesStart (names_start order.scope.named) order.origin start m account.start
       → TellsSink ends.out.failed (Begins (IsCustodyText order.origin order.form order.scope) start (known sources) ends.out.had ends.out.has) ends.untouched r
   pub fault : IfErr r IsLastFault
 
@@ -87,8 +87,8 @@ volumes_given order old account m start after ends files r begun opened long rea
     told : HasTold order account m (ends.input.had ∷ held_by ends.held after)
     told = subst (λ (held : List (Option (List ℕ))). HasTold order account m held) (all_held ends after files opened long) (reads.told refl order m [] begun.told)
 
-    digest : HasDigest (names_start order.scope.named) start.had account.start
-    digest = subst (λ (d : Option (List ℕ)). HasDigest (names_start order.scope.named) start.had d) (sym (reads.same refl)) begun.digest
+    digest : NamesStart (names_start order.scope.named) order.origin start.had m account.start
+    digest = subst (λ (d : Option (List ℕ)). NamesStart (names_start order.scope.named) order.origin start.had m d) (sym (reads.same refl)) begun.digest
 
     unfailed : HasFailed (start ∷ ends.input ∷ files) → ⊥
     unfailed = whole start (ends.input ∷ files) begun.mark (λ bad. let e = reads.failed bad in absurd cc)
@@ -186,8 +186,8 @@ trace_given order old account m start ends r begun opened more same ended mark g
     told : HasTold order account m (ends.input.had ∷ [])
     told = more order m [] begun.told
 
-    digest : HasDigest (names_start order.scope.named) start.had account.start
-    digest = subst (λ (d : Option (List ℕ)). HasDigest (names_start order.scope.named) start.had d) (sym same) begun.digest
+    digest : NamesStart (names_start order.scope.named) order.origin start.had m account.start
+    digest = subst (λ (d : Option (List ℕ)). NamesStart (names_start order.scope.named) order.origin start.had m d) (sym same) begun.digest
 
     unfailed : HasFailed (start ∷ ends.input ∷ []) → ⊥
     unfailed = whole start (ends.input ∷ []) begun.mark only

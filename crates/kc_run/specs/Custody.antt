@@ -21,7 +21,7 @@ use Rattle.kc_cli.specs.declared.custody.TheConstants.{CALLS_BEFORE}
 use Rattle.kc_cli.specs.declared.custody.CustodyAccount.{CustodyAccount}
 use Rattle.kc_cli.specs.declared.custody.CustodyOrder.{CustodyOrder}
 use Rattle.kc_cli.specs.Answers.{AreAllAnswered}
-use Rattle.kc_cli.specs.Custody.{joined, names_start, AreVolumes, HasDigest, HasSlot, IsCustodyText, TellsCustody}
+use Rattle.kc_cli.specs.Custody.{joined, names_start, AreVolumes, NamesStart, HasSlot, IsCustodyText, TellsCustody}
 use Rattle.kc_cli.specs.Engine.{IsReplayFault}
 use Rattle.kc_cli.specs.Volumes.{known, HasTold}
 use Rattle.kc_args.specs.Jobs.{Path}
@@ -86,7 +86,7 @@ pub record ReadsFiles (old new : CustodyAccount) (held : Held) (refused : Option
 pub record HasBegun (order : CustodyOrder) (account : CustodyAccount) (m : State) (start : Seen) : Type 0 where
   pub told : HasTold order account m []
   pub begins : IfSome start.had (λ text. BeginsIn order.origin text m)
-  pub digest : HasDigest (names_start order.scope.named) start.had account.start
+  pub digest : NamesStart (names_start order.scope.named) order.origin start.had m account.start
   pub slot : IfSome order.scope.vm (λ number. IfSome start.had (λ text. HasSlot order.origin text number))
   pub ended : IsAtEnd start.has
   pub mark : start.failed ≡ false

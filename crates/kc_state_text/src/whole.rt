@@ -1,6 +1,7 @@
-//! The whole text of a core's state, made by the calling thread.
-ghost use Rattle.std.specs.Prelude.{◌≡◌, ◌≤◌, ◌++◌, vec_capacity, IfOk, OnOk};
+//! The whole text of a core's state, made by the calling thread, and its digest.
+ghost use Rattle.std.specs.Prelude.{◌≡◌, ◌≤◌, ◌++◌, ℕ, List, vec_capacity, IfOk, OnOk};
 ghost use Rattle.sha2.specs.Sha256.{sha256};
+ghost use Rattle.sha2.specs.Hashers.{Holds256};
 ghost use Rattle.kc_dumping.specs.Form.{in_form};
 ghost use Rattle.kc_state_text.specs.StateText.{state_text};
 ghost use Rattle.kc_state_text.specs.Pieces.{longest_page_line, to_come};
@@ -13,7 +14,7 @@ use kc_types::{Memory, SecretBytes};
 use sha2::{Digest, Sha256};
 use std::alloc::Global;
 
-/// How much of a text is appended at once, in bytes.
+/// How much of a text is appended or hashed at once, in bytes.
 const PIECE: usize = 65_536;
 
 /// Appends all that is still to come.
@@ -54,12 +55,33 @@ pub fn whole_text(alloc: Global, core: &KCore, form: StateForm) -> Result<Secret
     }
 }
 
-/// Computes the SHA-256 digest of the text of a core's state in a form: what `sha256sum` prints for it. `Memory` if
-/// memory cannot be had.
+/// Hashes all that is still to come.
+fn hash_pieces(hasher: &mut Sha256, core: &KCore, pieces: StatePieces, piece: &mut Vec<u8>)
+    requires { longest_page_line ≤ vec_capacity piece.old }
+    ensures { (bytes : List ℕ) → Holds256 hasher.old bytes
+        → Holds256 hasher.new (bytes ++ to_come core.now pieces) }
+{
+    let mut pieces = pieces;
+    'pieces: loop {
+        pieces.fill(core, piece);
+        if piece.is_empty() {
+            return;
+        }
+        hasher.update(piece.as_slice());
+    }
+}
+
+/// Computes the SHA-256 digest of the text of a core's state in a form: what `sha256sum` prints for it. The text is
+/// made a piece at a time, and never in memory as a whole. `Memory` if memory cannot be had. What held pieces of it is
+/// wiped.
 pub fn state_digest(alloc: Global, core: &KCore, form: StateForm) -> Result<[u8; 32], Memory>
     // No clause can rule out that memory runs out: tests ask for digests.
     ensures { IfOk result (λ digest. digest ≡ sha256 (state_text (in_form form core.now))) }
 {
-    let text = whole_text(alloc, core, form)?;
-    Ok(Sha256::digest(text.as_slice()))
+    let pieces = StatePieces::alone(alloc, core, form)?;
+    let mut piece = Vec::with_capacity(alloc, PIECE)?;
+    let mut hasher = Sha256::new();
+    hash_pieces(&mut hasher, core, pieces, &mut piece);
+    let _zeroed = SecretBytes::new(piece);
+    Ok(hasher.finalize())
 }

@@ -15,10 +15,7 @@ use Rattle.kc_trace.specs.Trace.{IsTrace, IsRefused}
 use Rattle.kc_trace.specs.Machine.{◌>>=◌, Progress, Fails, start, longer, version_in, begins_header, call_in, after_line, begun_by, begun, after_header, line_ended_by, line_ended, with_front, fed_byte, feed, fed, fed_after, ended, reading}
 use Rattle.kc_trace.proofs.Runs.{feed_nothing, feed-append, and_then_feed}
 use Rattle.kc_trace.proofs.Traces.{Reads, reading_reads}
-use Rattle.sha2.specs.declared.Sha256.{Sha256}
-use Rattle.sha2.specs.Hashers.{Holds256}
-use Rattle.sha2.specs.Sha256.{sha256}
-use Rattle.kc_texts.specs.Streamed.{Streamed, answer, AreHashed, HasRead, GoesOn}
+use Rattle.kc_texts.specs.Streamed.{Streamed, answer, HasRead, GoesOn}
 
 fed_ok : (fault : Option TraceFault) (p q : Progress) (bytes piece : List ℕ) (calls more : List Call) → feed start bytes ≡ answer fault p calls → fed_after fault p piece ≡ Ok (q, more) → feed start (bytes ++ piece) ≡ Ok (q, calls ++ more)
 fed_ok None p q bytes piece calls more h e =
@@ -93,13 +90,9 @@ feed_counts (byte ∷ bytes) p le = first_counts p bytes (fed_byte p byte) (byte
 
 -- ---- one more piece
 
--- the piece is hashed too
-abbrev Hashes : Streamed → Streamed → List ℕ → Type 0
-Hashes stream after piece = (bytes : List ℕ) → AreHashed stream.hasher bytes → AreHashed after.hasher (bytes ++ piece)
-
-has_read_ok : (stream after : Streamed) (bytes piece : List ℕ) (calls more : List Call) (n : ℕ) (first mid now : Option (List ℕ)) → HasRead stream bytes calls first mid → Consumes mid now piece → fed stream.reader piece ≡ Ok (after.reader.progress, more) → after.reader.fault ≡ None → length piece ≡ n → after.total ≡ stream.total + n → Hashes stream after piece
+has_read_ok : (stream after : Streamed) (bytes piece : List ℕ) (calls more : List Call) (n : ℕ) (first mid now : Option (List ℕ)) → HasRead stream bytes calls first mid → Consumes mid now piece → fed stream.reader piece ≡ Ok (after.reader.progress, more) → after.reader.fault ≡ None → length piece ≡ n → after.total ≡ stream.total + n
     → HasRead after (bytes ++ piece) (calls ++ more) first now
-has_read_ok stream after bytes piece calls more n first mid now h more_read told none len total hashes =
+has_read_ok stream after bytes piece calls more n first mid now h more_read told none len total =
     let so_far = fed_ok stream.reader.fault stream.reader.progress after.reader.progress bytes piece calls more h.so_far told in
     let counted : Counts start (after.reader.progress, calls ++ more) = rw so_far at (feed_counts (bytes ++ piece) start (omega arith)) in
     record {
@@ -107,17 +100,15 @@ has_read_ok stream after bytes piece calls more n first mid now h more_read told
       consumed = Consumes-trans first mid now bytes piece h.consumed more_read;
       many = omega (arith, length-append bytes piece, h.many, len, total);
       few = omega (arith, counted.0, counted.1);
-      hashed = hashes bytes h.hashed;
     }
 
-has_read_err : (stream after : Streamed) (bytes piece : List ℕ) (calls : List Call) (f : TraceFault) (n : ℕ) (first mid now : Option (List ℕ)) → HasRead stream bytes calls first mid → Consumes mid now piece → Fails f (fed stream.reader piece) → (f ≡ Memory → ⊥) → after.reader.fault ≡ Some f → length piece ≡ n → after.total ≡ stream.total + n → Hashes stream after piece
+has_read_err : (stream after : Streamed) (bytes piece : List ℕ) (calls : List Call) (f : TraceFault) (n : ℕ) (first mid now : Option (List ℕ)) → HasRead stream bytes calls first mid → Consumes mid now piece → Fails f (fed stream.reader piece) → (f ≡ Memory → ⊥) → after.reader.fault ≡ Some f → length piece ≡ n → after.total ≡ stream.total + n
     → HasRead after (bytes ++ piece) calls first now
-has_read_err stream after bytes piece calls f n first mid now h more_read told other some len total hashes = record {
+has_read_err stream after bytes piece calls f n first mid now h more_read told other some len total = record {
   so_far = rw some (fed_err stream.reader.fault stream.reader.progress bytes piece calls f h.so_far (fails_is f (fed stream.reader piece) other told));
   consumed = Consumes-trans first mid now bytes piece h.consumed more_read;
   many = omega (arith, length-append bytes piece, h.many, len, total);
   few = h.few;
-  hashed = hashes bytes h.hashed;
 }
 
 -- ---- going on
@@ -125,17 +116,17 @@ has_read_err stream after bytes piece calls f n first mid now h more_read told o
 pub stays : (stream : Streamed) (left : Option (List ℕ)) → GoesOn stream stream left left []
 stays stream left bytes calls first h = ([], rw (append-nil bytes, append-nil calls) h)
 
-pub goes_on_ok : (before stream after : Streamed) (piece : List ℕ) (given more all : List Call) (n : ℕ) (left mid now : Option (List ℕ)) → GoesOn before stream left mid given → Consumes mid now piece → fed stream.reader piece ≡ Ok (after.reader.progress, more) → after.reader.fault ≡ None → length piece ≡ n → after.total ≡ stream.total + n → all ≡ given ++ more → Hashes stream after piece
+pub goes_on_ok : (before stream after : Streamed) (piece : List ℕ) (given more all : List Call) (n : ℕ) (left mid now : Option (List ℕ)) → GoesOn before stream left mid given → Consumes mid now piece → fed stream.reader piece ≡ Ok (after.reader.progress, more) → after.reader.fault ≡ None → length piece ≡ n → after.total ≡ stream.total + n → all ≡ given ++ more
     → GoesOn before after left now all
-goes_on_ok before stream after piece given more all n left mid now on more_read told none len total grown hashes bytes calls first h =
+goes_on_ok before stream after piece given more all n left mid now on more_read told none len total grown bytes calls first h =
     let earlier = on bytes calls first h in
-    (earlier.0 ++ piece, rw (grown, ← append_assoc bytes earlier.0 piece, ← append_assoc calls given more) (has_read_ok stream after (bytes ++ earlier.0) piece (calls ++ given) more n first mid now earlier.1 more_read told none len total hashes))
+    (earlier.0 ++ piece, rw (grown, ← append_assoc bytes earlier.0 piece, ← append_assoc calls given more) (has_read_ok stream after (bytes ++ earlier.0) piece (calls ++ given) more n first mid now earlier.1 more_read told none len total))
 
-pub goes_on_err : (before stream after : Streamed) (piece : List ℕ) (given : List Call) (f : TraceFault) (n : ℕ) (left mid now : Option (List ℕ)) → GoesOn before stream left mid given → Consumes mid now piece → Fails f (fed stream.reader piece) → (f ≡ Memory → ⊥) → after.reader.fault ≡ Some f → length piece ≡ n → after.total ≡ stream.total + n → Hashes stream after piece
+pub goes_on_err : (before stream after : Streamed) (piece : List ℕ) (given : List Call) (f : TraceFault) (n : ℕ) (left mid now : Option (List ℕ)) → GoesOn before stream left mid given → Consumes mid now piece → Fails f (fed stream.reader piece) → (f ≡ Memory → ⊥) → after.reader.fault ≡ Some f → length piece ≡ n → after.total ≡ stream.total + n
     → GoesOn before after left now given
-goes_on_err before stream after piece given f n left mid now on more_read told other some len total hashes bytes calls first h =
+goes_on_err before stream after piece given f n left mid now on more_read told other some len total bytes calls first h =
     let earlier = on bytes calls first h in
-    (earlier.0 ++ piece, rw (← append_assoc bytes earlier.0 piece) (has_read_err stream after (bytes ++ earlier.0) piece (calls ++ given) f n first mid now earlier.1 more_read told other some len total hashes))
+    (earlier.0 ++ piece, rw (← append_assoc bytes earlier.0 piece) (has_read_err stream after (bytes ++ earlier.0) piece (calls ++ given) f n first mid now earlier.1 more_read told other some len total))
 
 -- the last read moved no bytes
 pub goes_on_nothing : (before after : Streamed) (piece : List ℕ) (given : List Call) (left mid now : Option (List ℕ)) → GoesOn before after left mid given → Consumes mid now piece → length piece ≡ 0 → GoesOn before after left now given
@@ -143,7 +134,7 @@ goes_on_nothing before after piece given left mid now on more_read none bytes ca
     let earlier = on bytes calls first h in
     let empty : piece ≡ [] = nil_from_length piece none in
     let again : Consumes first now ((bytes ++ earlier.0) ++ []) = rw empty at (Consumes-trans first mid now (bytes ++ earlier.0) piece earlier.1.consumed more_read) in
-    (earlier.0, record { so_far = earlier.1.so_far; consumed = rw (append-nil (bytes ++ earlier.0)) at again; many = earlier.1.many; few = earlier.1.few; hashed = earlier.1.hashed })
+    (earlier.0, record { so_far = earlier.1.so_far; consumed = rw (append-nil (bytes ++ earlier.0)) at again; many = earlier.1.many; few = earlier.1.few })
 
 -- too many bytes came
 pub too_many : (before stream : Streamed) (piece : List ℕ) (given : List Call) (n : ℕ) (failed : Bool) (left mid now : Option (List ℕ)) → GoesOn before stream left mid given → Consumes mid now piece → length piece ≡ n → byte_limit < stream.total + n
@@ -190,22 +181,11 @@ pub ends_refused : (stream : Streamed) (result : Result (Unit {0}) TraceFault) (
     → (bytes : List ℕ) (calls : List Call) (first now : Option (List ℕ)) → HasRead stream bytes calls first now → IsAtEnd now → IfSome first (λ text. IsRefused text fault)
 ends_refused stream result fault e is bytes calls first now h end = read_is_refused first fault (rw is at (finished stream bytes calls first now result h end e))
 
-pub in_front : (stream : Streamed) (first : Option (List ℕ)) → stream.reader ≡ record { progress = start; fault = None } → stream.total ≡ 0 → AreHashed stream.hasher [] → HasRead stream [] [] first first
-in_front stream first reader none hashed = record { so_far = rw reader (feed_nothing start); consumed = Consumes-nil first; many = omega (arith, none); few = omega arith; hashed = hashed }
+pub in_front : (stream : Streamed) (first : Option (List ℕ)) → stream.reader ≡ record { progress = start; fault = None } → stream.total ≡ 0 → HasRead stream [] [] first first
+in_front stream first reader none = record { so_far = rw reader (feed_nothing start); consumed = Consumes-nil first; many = omega (arith, none); few = omega arith }
 
 pub few_bytes : (stream : Streamed) (bytes : List ℕ) (calls : List Call) (first now : Option (List ℕ)) → HasRead stream bytes calls first now → IsAtEnd now → stream.total ≤ byte_limit → IfSome first (λ text. length text ≤ byte_limit)
 few_bytes stream bytes calls None now h end few = tt
 few_bytes stream bytes calls (Some text) now h end few =
     let same : text ≡ bytes = all_read (Some text) now bytes h.consumed end in
     rw same (omega (arith, h.many, few))
-
-of_all : (first : Option (List ℕ)) (digest bytes : List ℕ) → IfSome first (λ text. text ≡ bytes) → digest ≡ sha256 bytes → IfSome first (λ text. digest ≡ sha256 text)
-of_all None digest bytes same is = tt
-of_all (Some text) digest bytes same is = rw same is
-
--- the digest of all that was read
-pub digest_ends : (stream : Streamed) (h : Sha256) (digest : List ℕ) → stream.hasher ≡ Some h → ((message : List ℕ) → Holds256 h message → digest ≡ sha256 message)
-    → (bytes : List ℕ) (calls : List Call) (first now : Option (List ℕ)) → HasRead stream bytes calls first now → IsAtEnd now → IfSome first (λ text. digest ≡ sha256 text)
-digest_ends stream h digest is made bytes calls first now read end =
-    let held : Holds256 h bytes = rw is at read.hashed in
-    of_all first digest bytes (all_read first now bytes read.consumed end) (made bytes held)

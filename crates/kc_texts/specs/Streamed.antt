@@ -1,8 +1,6 @@
 -- A trace that is read one part at a time.
-use Rattle.std.specs.Prelude.{ℕ, ◌≡◌, ◌≤◌, ◌++◌, List, length, Option, Some, None, Result, Ok, Err, IfSome}
+use Rattle.std.specs.Prelude.{ℕ, ◌≡◌, ◌≤◌, ◌++◌, List, length, Option, Some, None, Result, Ok, Err}
 use Rattle.std.specs.Io.KnownBytes.{Consumes}
-use Rattle.sha2.specs.Hashers.{Holds256}
-use Rattle.sha2.specs.declared.Sha256.{Sha256}
 use Rattle.kc_types.specs.Limits.{call_limit}
 use Rattle.kc_types.specs.declared.call.Call.{Call}
 use Rattle.kc_trace.specs.declared.fault.TraceFault.{TraceFault}
@@ -17,15 +15,10 @@ abbrev pub stream_fault : ReadFault → StreamFault
 stream_fault reads.Memory = streams.Memory
 stream_fault reads.Read = streams.Read
 
--- the reader of the trace, how many bytes it was fed, and their hasher, if they are hashed
+-- the reader of the trace, and how many bytes it was fed
 pub record Streamed : Type 0 where
   pub reader : Reader
   pub total : ℕ
-  pub hasher : Option Sha256
-
--- these bytes were hashed, if any are
-abbrev pub AreHashed : Option Sha256 → List ℕ → Type 0
-AreHashed hasher bytes = IfSome hasher (λ h. Holds256 h bytes)
 
 -- what reading the bytes so far returns
 abbrev pub answer : Option TraceFault → Progress → List Call → Result (Progress × List Call) TraceFault
@@ -39,7 +32,6 @@ pub record HasRead (stream : Streamed) (bytes : List ℕ) (calls : List Call) (f
   pub consumed : Consumes first now bytes
   pub many : length bytes ≡ stream.total
   pub few : length calls ≤ call_limit
-  pub hashed : AreHashed stream.hasher bytes
 
 -- whatever was read before, the next calls are these
 abbrev pub GoesOn : Streamed → Streamed → Option (List ℕ) → Option (List ℕ) → List Call → Type 0

@@ -1,19 +1,17 @@
 //! A trace, read from a source in pieces.
-ghost use Rattle.std.specs.Prelude.{◌≡◌, ◌≢◌, ◌<◌, ◌≤◌, ◌++◌, ℕ, [], List, length, Option, IfOk, OnOk, IfSome, Err, true, false, is_some};
+ghost use Rattle.std.specs.Prelude.{◌≡◌, ◌≢◌, ◌<◌, ◌≤◌, ◌++◌, ℕ, [], List, length, Option, IfOk, OnOk, IfSome, Err, true, false};
 ghost use Rattle.std.specs.Io.KnownBytes.{IsAtEnd};
-ghost use Rattle.sha2.specs.Sha256.{sha256};
 ghost use Rattle.kc_types.specs.Limits.{byte_limit, call_limit};
 ghost use Rattle.kc_types.specs.declared.call.Call.{Call};
 ghost use Rattle.kc_trace.specs.declared.fault.TraceFault.{TraceFault};
 ghost use Rattle.kc_trace.specs.Trace.{IsTrace, IsRefused};
 ghost use Rattle.kc_texts.specs.Ends.{ReadFailed};
-ghost use Rattle.kc_texts.specs.Streamed.{AreHashed, HasRead, GoesOn};
+ghost use Rattle.kc_texts.specs.Streamed.{HasRead, GoesOn};
 
 use crate::source::{Failed, PIECE, Source};
 use crate::whole::ReadFault;
 use kc_trace::{TraceFault, TraceReader};
 use kc_types::{BYTE_LIMIT, Call};
-use sha2::{Digest, Sha256};
 use std::alloc::{AllocError, Global};
 use std::marker::Model;
 use thiserror::Error;
@@ -71,23 +69,12 @@ pub struct NextCalls {
     pub is_last: bool,
 }
 
-/// Hashes one more piece, if bytes are hashed.
-fn hash(hasher: &mut Option<Sha256>, piece: &[u8])
-    ensures hashed { (bytes : List ℕ) → AreHashed hasher.old bytes → AreHashed hasher.new (bytes ++ piece.now) }
-    ensures same { is_some hasher.new ≡ is_some hasher.old }
-{
-    if let Some(hasher) = hasher {
-        hasher.update(piece);
-    }
-}
-
 /// A trace that is read from a source one part at a time. No more of the text is kept than one piece and the line
 /// begun.
 #[derive(Drop)]
 pub struct CallStream {
     reader: TraceReader,
     total: usize,
-    hasher: Option<Sha256>,
 }
 
 impl Model for CallStream {
@@ -97,7 +84,7 @@ impl Model for CallStream {
 
     ghost Value = { Streamed };
 
-    ghost view = { λ s. record { reader = s.reader; total = s.total; hasher = s.hasher } };
+    ghost view = { λ s. record { reader = s.reader; total = s.total } };
 
     ghost invariant = { λ s. s.total ≤ byte_limit };
 }
@@ -110,35 +97,6 @@ impl CallStream {
         CallStream {
             reader: TraceReader::new(),
             total: 0,
-            hasher: None,
-        }
-    }
-
-    /// Makes the same stream, which also hashes the bytes.
-    pub fn hashing() -> CallStream
-        ensures none { (first : Option (List ℕ)) → HasRead result [] [] first first }
-        ensures hashed { is_some result.hasher ≡ true }
-    {
-        CallStream {
-            reader: TraceReader::new(),
-            total: 0,
-            hasher: Some(Sha256::new()),
-        }
-    }
-
-    /// The SHA-256 digest (FIPS 180-4) of what was read so far, if the bytes are hashed.
-    pub fn digest(&self) -> Option<[u8; 32]>
-        ensures digest { (bytes : List ℕ) (calls : List Call) (first now : Option (List ℕ))
-            → HasRead self.now bytes calls first now → IsAtEnd now
-            → IfSome result (λ digest. IfSome first (λ text. digest ≡ sha256 text)) }
-        ensures some { is_some result ≡ is_some self.now.hasher }
-    {
-        match &self.hasher {
-            Some(hasher) => {
-                let hasher = hasher.clone().unwrap();
-                Some(hasher.finalize())
-            },
-            None => None,
         }
     }
 
@@ -157,7 +115,6 @@ impl CallStream {
         ensures last { IfOk result (λ part. part.is_last ≡ true → IsAtEnd (T.left source.new)) }
         ensures more { IfOk result (λ part. part.is_last ≡ false → self.old.total < self.new.total) }
         ensures few { self.new.total ≤ byte_limit }
-        ensures hashed { is_some self.new.hasher ≡ is_some self.old.hasher }
         ensures mark { OnOk result (T.failed source.new ≡ false) }
         ensures read { result ≡ Err ReadFault.Read → (bytes : List ℕ) (calls : List Call) (first : Option (List ℕ))
             → HasRead self.old bytes calls first (T.left source.old)
@@ -183,7 +140,6 @@ impl CallStream {
             }
             self.total += n;
             let (piece, _) = buffer.split_at(n);
-            hash(&mut self.hasher, piece);
             // After a fault the reader returns it again, so the rest is only read to its end.
             match self.reader.feed(alloc, piece) {
                 Ok(more) => match joined(calls, more) {

@@ -19,13 +19,13 @@ returns-in_err-account g c =
 pub report_trace-requires-clause-begun : goal.report_trace-requires-clause-begun
 report_trace-requires-clause-begun g c =
     let is = c.in_ok-account.ensures in
-    let begun = some_begun c.args.order _ is.ok.0 _ record { told = is.ok.2; begins = is.ok.1; digest = is.digest; slot = is.custody.named; ended = is.sources.ended.0; mark = is.mark } in
+    let begun = some_begun c.args.order _ is.ok.0 _ record { told = is.ok.3; begins = is.ok.1; digest = is.ok.2; slot = is.custody.named; ended = is.sources.ended.0; mark = is.mark } in
     search rules
 
 pub report_volumes-requires-clause-begun : goal.report_volumes-requires-clause-begun
 report_volumes-requires-clause-begun g c =
     let is = c.in_ok-account.ensures in
-    let begun = some_begun c.args.order _ is.ok.0 _ record { told = is.ok.2; begins = is.ok.1; digest = is.digest; slot = is.custody.named; ended = is.sources.ended.0; mark = is.mark } in
+    let begun = some_begun c.args.order _ is.ok.0 _ record { told = is.ok.3; begins = is.ok.1; digest = is.ok.2; slot = is.custody.named; ended = is.sources.ended.0; mark = is.mark } in
     search rules
 
 pub returns-then-is_empty : goal.returns-then-is_empty
@@ -36,7 +36,7 @@ returns-then-is_empty g c =
       _,
       c.in_ok-beginning.ensures.text,
       one_reported _ _ _ c.args.after.now _ _ _ (eqb-true _ _ (sym c.is_empty.ensures ∙ c.if-is_empty.true))
-          (c.report_trace.ensures c.args.order is.ok.0 _ (g.F.Files.held c.args.files.now) record { told = is.ok.2; begins = is.ok.1; digest = is.digest; slot = is.custody.named; ended = is.sources.ended.0; mark = is.mark }),
+          (c.report_trace.ensures c.args.order is.ok.0 _ (g.F.Files.held c.args.files.now) record { told = is.ok.3; begins = is.ok.1; digest = is.ok.2; slot = is.custody.named; ended = is.sources.ended.0; mark = is.mark }),
     ))
 
 pub returns-else-is_empty : goal.returns-else-is_empty
@@ -46,5 +46,5 @@ returns-else-is_empty g c =
       _,
       c.in_ok-beginning.ensures.text,
       all_reported _ _ _ c.args.after.now _ _ _ (eqb-false _ _ (sym c.is_empty.ensures ∙ c.if-is_empty.false))
-          (rw (c.close.ensures.same, c.in_ok-beginning.ensures.same) at (c.report_volumes.ensures c.args.order is.ok.0 _ record { told = is.ok.2; begins = is.ok.1; digest = is.digest; slot = is.custody.named; ended = is.sources.ended.0; mark = is.mark })),
+          (rw (c.close.ensures.same, c.in_ok-beginning.ensures.same) at (c.report_volumes.ensures c.args.order is.ok.0 _ record { told = is.ok.3; begins = is.ok.1; digest = is.ok.2; slot = is.custody.named; ended = is.sources.ended.0; mark = is.mark })),
     )

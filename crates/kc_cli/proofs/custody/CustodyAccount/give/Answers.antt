@@ -41,7 +41,7 @@ give_told-requires-clause-order g c =
     rw c.told_of-told.ensures.ledger (kept_in_order c.requires.told.0.form c.requires.told.1 (notes c.requires.told.1 calls) _ h.kept.ledger (told_in_order first_line c.requires.told.1 calls))
 
 pub give_told-requires-clause-volumes : goal.give_told-requires-clause-volumes
-give_told-requires-clause-volumes g c = rw c.told_of-told.ensures.volumes (listed_in_line _ (in_line _ _ _ _ _ c.requires.told.3.entries))
+give_told-requires-clause-volumes g c = rw (c.told_of-told.ensures.volumes, c.requires.told.3.entries) (listed_in_line _ (in_line _ _ _))
 
 pub returns-in-Ok-clause-answered : goal.returns-in-Ok-clause-answered
 returns-in-Ok-clause-answered g c = λ order m start sources h begins.

@@ -10,12 +10,12 @@ loop-part-init g c = record {
   read = (
     [],
     [],
-    c.stream_of-stream.ensures.none (g.T.Source.left c.args.trace.now),
+    c.new-stream.ensures (g.T.Source.left c.args.trace.now),
     omega arith,
     omega arith,
+    c.in_ok-witness.ensures.seen,
     λ form start before h. subst (λ (calls : List Call). HasKept form start calls c.args.core.now c.args.self.now) (sym (append-nil before)) h,
   );
-  hashed = c.stream_of-stream.ensures.hashed;
   few = search rules;
   mark = c.requires.trace;
 }
@@ -60,22 +60,13 @@ loop-part-preserved g c =
         more.1,
         omega (arith, long, at),
         omega (arith, long, few, same, noted),
-        λ form start first h. kept_after form start first before.1 calls c.loop-part.core _ c.loop-part.self _ (before.5 form start first h) ((rw c.deref.ensures.value at c.in-Ok.ensures.kept) form start)
+        (rw c.deref-calls.ensures.value at c.note_all.ensures) c.args.is_named before.1 before.5,
+        λ form start first h. kept_after form start first before.1 calls c.loop-part.core _ c.loop-part.self _ (before.6 form start first h) ((rw c.deref.ensures.value at c.in-Ok.ensures.kept) form start)
             (rw c.deref.ensures.value at c.in-Ok.ensures.state) (rw c.deref.ensures.value at c.in-Ok.ensures.denied) (omega (arith, same, noted)) (rw c.deref.ensures.value at c.in-Ok.ensures.counted) (omega arith),
       );
-      hashed = λ asked. c.in_ok-part.ensures.hashed ∙ c.loop-part.invariant.hashed asked;
       few = c.in_ok-part.ensures.few;
       mark = c.in_ok-part.ensures.mark;
     }
-
-pub digest_of-digest-requires : goal.digest_of-digest-requires
-digest_of-digest-requires g c = λ asked. c.in_ok-part.ensures.hashed ∙ c.loop-part.invariant.hashed asked
-
-pub returns-in-Ok-finish-clause-digest : goal.returns-in-Ok-finish-clause-digest
-returns-in-Ok-finish-clause-digest g c =
-    let before = c.loop-part.invariant.read in
-    let more = c.in_ok-part.ensures.calls before.0 before.1 (g.T.Source.left c.args.trace.now) before.2 in
-    c.digest_of-digest.ensures _ _ _ _ more.1 (c.in_ok-part.ensures.last c.if-part.true)
 
 pub returns-in-Ok-finish-clause-ok : goal.returns-in-Ok-finish-clause-ok
 returns-in-Ok-finish-clause-ok g c =
@@ -90,6 +81,7 @@ returns-in-Ok-finish-clause-ok g c =
       c.in-Ok-finish.ensures.ok _ _ _ _ more.1 (c.in_ok-part.ensures.last c.if-part.true),
       more.1.few,
       omega (arith, long, at),
-      λ form start first h. kept_after form start first before.1 calls c.loop-part.core _ c.loop-part.self _ (before.5 form start first h) ((rw c.deref.ensures.value at c.in-Ok.ensures.kept) form start)
+      c.digest_of.ensures c.args.is_named (before.1 ++ calls) ((rw c.deref-calls.ensures.value at c.note_all.ensures) c.args.is_named before.1 before.5),
+      λ form start first h. kept_after form start first before.1 calls c.loop-part.core _ c.loop-part.self _ (before.6 form start first h) ((rw c.deref.ensures.value at c.in-Ok.ensures.kept) form start)
           (rw c.deref.ensures.value at c.in-Ok.ensures.state) (rw c.deref.ensures.value at c.in-Ok.ensures.denied) (omega (arith, same, noted)) (rw c.deref.ensures.value at c.in-Ok.ensures.counted) (omega arith),
     )

@@ -1,20 +1,18 @@
-use Rattle.std.proofs.Common.{◌≡◌, ◌≤◌, ◌+◌, ◌-◌, ◌++◌, ℕ, List, length, true, false}
-use Rattle.std.specs.Prelude.{is_some}
+use Rattle.std.proofs.Common.{◌≡◌, ◌≤◌, ◌+◌, ◌-◌, ◌++◌, ℕ, List, length, false}
 use Rattle.kc_types.specs.Limits.{byte_limit}
 use Rattle.kc_types.specs.declared.call.Call.{Call}
 use Rattle.kc_model.specs.State.{State}
 use Rattle.kc_cli.specs.declared.account.CustodyForm.{CustodyForm}
-use Rattle.kc_cli.specs.Ledgers.{HasKept}
+use Rattle.kc_cli.specs.Ledgers.{HasKept, HasWitnessed}
 use Rattle.kc_texts.specs.Streamed.{HasRead}
 use Rattle.kc_cli.proofs.telling.Kept.tell.Given as goal
 
--- what is kept is also of the calls that came so far
+-- what is kept is also of the calls that came so far, and so is what the witness has seen
 abbrev pub invariant-loop-part : goal.invariant-loop-part
 invariant-loop-part g l = record {
   read : (bytes : List ℕ) × (calls : List Call) × HasRead l.stream bytes calls (g.T.Source.left l.fn.trace) (g.T.Source.left l.trace)
-      × (l.self.line ≡ l.fn.self.line + length calls) × (l.self.denials.total ≤ l.fn.self.denials.total + length calls)
+      × (l.self.line ≡ l.fn.self.line + length calls) × (l.self.denials.total ≤ l.fn.self.denials.total + length calls) × HasWitnessed l.is_named l.witness calls
       × ((form : CustodyForm) (start : State) (before : List Call) → HasKept form start before l.fn.core l.fn.self → HasKept form start (before ++ calls) l.core l.self);
-  hashed : l.is_hashed ≡ true → is_some l.stream.hasher ≡ true;
   few : l.stream.total ≤ byte_limit;
   mark : g.T.Source.failed l.trace ≡ false;
 }

@@ -3,4 +3,4 @@ use Rattle.kc_texts.proofs.Fed.{in_front}
 use Rattle.kc_texts.proofs.stream.CallStream.new.Goals as goal
 
 pub returns : goal.returns
-returns c first = in_front _ first (search rules) refl tt
+returns c first = in_front _ first (search rules) refl

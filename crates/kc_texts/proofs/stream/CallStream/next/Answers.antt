@@ -12,26 +12,24 @@ returns-then-n-self-clause-read g c e =
 
 pub loop-alloc-preserved-in-Ok-joined : goal.loop-alloc-preserved-in-Ok-joined
 loop-alloc-preserved-in-Ok-joined g c =
-    let after : Streamed = record { reader = c.feed.new.self; total = c.loop-alloc.self-inside.total + c.in-Ok.n; hasher = c.hash.new.hasher } in
+    let after : Streamed = record { reader = c.feed.new.self; total = c.loop-alloc.self-inside.total + c.in-Ok.n } in
     record {
       on = goes_on_ok c.args.self.now _ after (c.split_at.result.0.now) c.loop-alloc.calls.items c.in-Ok-feed.more.items c.in-Ok-joined.all.items c.in-Ok.n (g.T.Source.left c.args.source.now) (g.T.Source.left c.loop-alloc.source) (g.T.Source.left c.read.new.self)
-          c.loop-alloc.invariant.on (rw c.split_at.ensures.front c.in-Ok.ensures.bytes.0) c.in-Ok-feed.ensures.answer c.in-Ok-feed.ensures.ok c.split_at.ensures.front_len refl c.in-Ok-joined.ensures c.hash.ensures.hashed;
+          c.loop-alloc.invariant.on (rw c.split_at.ensures.front c.in-Ok.ensures.bytes.0) c.in-Ok-feed.ensures.answer c.in-Ok-feed.ensures.ok c.split_at.ensures.front_len refl c.in-Ok-joined.ensures;
       more = λ some. let past = c.if-n-eq0.false in omega (arith, c.loop-alloc.invariant.up, past);
       up = omega (arith, c.loop-alloc.invariant.up);
-      hashed = c.hash.ensures.same ∙ c.loop-alloc.invariant.hashed;
       few = search rules;
       whole = c.in-Ok.ensures.mark;
     }
 
 pub loop-alloc-preserved : goal.loop-alloc-preserved
 loop-alloc-preserved g c =
-    let after : Streamed = record { reader = c.feed.new.self; total = c.loop-alloc.self-inside.total + c.in-Ok.n; hasher = c.hash.new.hasher } in
+    let after : Streamed = record { reader = c.feed.new.self; total = c.loop-alloc.self-inside.total + c.in-Ok.n } in
     record {
       on = goes_on_err c.args.self.now _ after (c.split_at.result.0.now) c.loop-alloc.calls.items c.in-Err-feed.fault c.in-Ok.n (g.T.Source.left c.args.source.now) (g.T.Source.left c.loop-alloc.source) (g.T.Source.left c.read.new.self)
-          c.loop-alloc.invariant.on (rw c.split_at.ensures.front c.in-Ok.ensures.bytes.0) c.in-Err-feed.ensures.answer c.in_default.not-Memory (c.in-Err-feed.ensures.fault c.in_default.not-Memory) c.split_at.ensures.front_len refl c.hash.ensures.hashed;
+          c.loop-alloc.invariant.on (rw c.split_at.ensures.front c.in-Ok.ensures.bytes.0) c.in-Err-feed.ensures.answer c.in_default.not-Memory (c.in-Err-feed.ensures.fault c.in_default.not-Memory) c.split_at.ensures.front_len refl;
       more = λ some. let past = c.if-n-eq0.false in omega (arith, c.loop-alloc.invariant.up, past);
       up = omega (arith, c.loop-alloc.invariant.up);
-      hashed = c.hash.ensures.same ∙ c.loop-alloc.invariant.hashed;
       few = search rules;
       whole = c.in-Ok.ensures.mark;
     }

@@ -1,15 +1,13 @@
 use Rattle.std.proofs.Common.{◌≡◌, ◌≤◌, ◌<◌, ◌-◌, length, false}
-use Rattle.std.specs.Prelude.{is_some}
 use Rattle.kc_types.specs.Limits.{byte_limit}
 use Rattle.kc_texts.specs.Streamed.{GoesOn}
 use Rattle.kc_texts.proofs.stream.CallStream.next.Given as goal
 
 abbrev pub invariant-loop-alloc : goal.invariant-loop-alloc
 invariant-loop-alloc g l = record {
-  on : GoesOn l.fn.self (record { reader = l.self-inside.reader; total = l.self-inside.total; hasher = l.self-inside.hasher }) (g.T.Source.left l.fn.source) (g.T.Source.left l.source) l.calls.items;
+  on : GoesOn l.fn.self (record { reader = l.self-inside.reader; total = l.self-inside.total }) (g.T.Source.left l.fn.source) (g.T.Source.left l.source) l.calls.items;
   more : 0 < length l.calls.items → l.fn.self.total < l.self-inside.total;
   up : l.fn.self.total ≤ l.self-inside.total;
-  hashed : is_some l.self-inside.hasher ≡ is_some l.fn.self.hasher;
   few : l.self-inside.total ≤ byte_limit;
   whole : g.T.Source.failed l.source ≡ false;
 }

@@ -1,0 +1,72 @@
+-- What is said of what was read shows nothing of what guests wrote.
+use Rattle.std.proofs.Common.{ℕ, ◌≡◌, ◌+◌, Bool, true, false, List, [], ◌∷◌, length, map, replicate, Option, Some, None, refl, ap, ap₂, ◌∙◌}
+use Rattle.std.proofs.lemmas.List.{length-map, length-replicate}
+use Rattle.sha2.specs.Sha256.{sha256}
+use Rattle.kc_types.specs.declared.call.Call.{Call}
+use Rattle.kc_types.specs.declared.call.Call.TheVariants.{GuestWrite}
+use Rattle.kc_types.specs.declared.version.Version.TheVariants.{Two}
+use Rattle.kc_model.specs.State.{State}
+use Rattle.kc_model.specs.Lawful.{IsLawful}
+use Rattle.kc_model.specs.Custody.{first_line}
+use Rattle.kc_model.specs.Redaction.{blanked, redacted_call, redacted}
+use Rattle.kc_model.specs.Blanking.{blank_state}
+use Rattle.kc_model.proofs.Redaction.Blank.{audited_blank}
+use Rattle.kc_state_text.specs.StateText.{state_text}
+use Rattle.kc_trace.specs.Spelling.{text_of}
+use Rattle.kc_trace.specs.declared.custody_writer.StartDigest.TheVariants as starts
+use Rattle.kc_trace.specs.declared.custody_writer.Digests.{Digests}
+use Rattle.kc_trace.specs.declared.volume_writer.VolumeEntry.{VolumeEntry}
+use Rattle.kc_faults.specs.declared.origin.Origin.{Origin}
+use Rattle.kc_faults.specs.declared.origin.Origin.TheVariants as origins
+use Rattle.kc_cli.specs.declared.account.Named.{Named}
+use Rattle.kc_cli.specs.declared.account.Named.TheVariants as names
+use Rattle.kc_cli.specs.declared.account.Scope.{Scope}
+use Rattle.kc_cli.specs.Custody.{calls_digest, entries_of, entries_in, names_trace, listed, trace_digest, digests_of, heading_of, IsNamedBlind}
+
+-- redacting twice is redacting once
+bytes_twice : (bytes : List ℕ) → blanked (blanked bytes) ≡ blanked bytes
+bytes_twice bytes = ap (λ (n : ℕ). zeros n) (length-replicate {A = ℕ} (length bytes) 0)
+  where
+    zeros : ℕ → List ℕ
+    zeros n = replicate n 0
+
+call_twice : (call : Call) → redacted_call (redacted_call call) ≡ redacted_call call
+call_twice (GuestWrite v c g off bytes) = ap (GuestWrite v c g off) (bytes_twice bytes)
+call_twice _ = refl
+
+calls_twice : (calls : List Call) → redacted (redacted calls) ≡ redacted calls
+calls_twice [] = refl
+calls_twice (call ∷ calls) = ap₂ (λ (first : Call) (rest : List Call). first ∷ rest) (call_twice call) (calls_twice calls)
+
+digest_same : (named : Bool) (calls : List Call) → calls_digest named (redacted calls) ≡ calls_digest named calls
+digest_same false calls = refl
+digest_same true calls = ap (λ (seen : List Call). Some (sha256 (text_of Two seen))) (calls_twice calls)
+
+entries_same : (named : Bool) (line : ℕ) (volumes : List (List Call)) → entries_of named line (map redacted volumes) ≡ entries_of named line volumes
+entries_same named line [] = refl
+entries_same named line (calls ∷ volumes) =
+    let entry : ℕ → Option (List ℕ) → VolumeEntry = λ count digest. record { line = line; calls = count; digest = digest } in
+    ap₂ (λ (count : ℕ) (digest : Option (List ℕ)). entry count digest ∷ entries_of named (line + count) (map redacted volumes)) (length-map redacted_call calls) (digest_same named calls)
+    ∙ ap (λ (rest : List VolumeEntry). entry (length calls) (calls_digest named calls) ∷ rest) (entries_same named (line + length calls) volumes)
+
+-- and so is zeroing the pages of active VMs
+state_twice : (m : State) → IsLawful m → blank_state (blank_state m) ≡ blank_state m
+state_twice m is = (audited_blank m [] is).plainly.left
+
+digests_same : (named : Named) (origin : Origin) (start other : List ℕ) (m : State) (trace : Option (List ℕ)) → IsLawful m → (origin ≡ origins.Boot → other ≡ start)
+    → digests_of named origin other (blank_state m) trace ≡ digests_of named origin start m trace
+digests_same names.Nothing origin start other m trace is same = refl
+digests_same names.Trace origin start other m trace is same = refl
+digests_same names.Both origins.Boot start other m trace is same =
+    ap (λ (text : List ℕ). Some (record { trace = trace; start = starts.Config (sha256 text) })) (same refl)
+digests_same names.Both origins.State start other m trace is same =
+    ap (λ (n : State). Some (record { trace = trace; start = starts.State (sha256 (state_text n)) })) (state_twice m is)
+
+pub named_blind : (m : State) (volumes : List (List Call)) → IsLawful m → IsNamedBlind m volumes
+named_blind m volumes is = record {
+  entries = λ scope. entries_same (names_trace scope.named) first_line volumes;
+  heading = λ scope origin start other same.
+      ap (heading_of scope origin other (blank_state m)) (entries_same (names_trace scope.named) first_line volumes)
+      ∙ ap (λ (digests : Option Digests). record { digests = digests; is_unseen = scope.is_unseen; volumes = length (listed (entries_in scope volumes)) })
+      (digests_same scope.named origin start other m (trace_digest (entries_in scope volumes)) is same);
+}
