@@ -31,5 +31,5 @@ complete -c kcore -n '__fish_seen_subcommand_from custody' -l accesses -d 'Also 
 complete -c kcore -n '__fish_seen_subcommand_from custody' -l unseen -d 'The trace lacks the reads and writes of the machine'
 complete -c kcore -n '__fish_seen_subcommand_from custody' -l digests -d 'Name what was read by SHA-256'
 complete -c kcore -n '__fish_seen_subcommand_from audit' -l all -d 'Write each finding'
-complete -c kcore -n '__fish_seen_subcommand_from redact' -l host -d 'Blank also what the host writes to active VMs'
+complete -c kcore -n '__fish_seen_subcommand_from redact' -l host -d 'Blank also what the host writes to active VMs, with --config or --from'
 complete -c kcore -n '__fish_seen_subcommand_from replay live custody audit redact' -l explain -d 'Say more of a fault'

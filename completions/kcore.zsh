@@ -18,7 +18,7 @@ _kcore() {
     local unseen='--unseen[the trace lacks the reads and writes of the machine]'
     local digests='--digests[name what was read by SHA-256]'
     local all='--all[write each finding]'
-    local host='--host[blank also what the host writes to active VMs]'
+    local host='--host[blank also what the host writes to active VMs, with --config or --from]'
     local explain='--explain[say more of a fault]'
     local file='1::file:_files'
     local files='*:file:_files'

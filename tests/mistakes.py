@@ -92,5 +92,6 @@ MISTAKES = (
     Mistake("functions", "docs/EMBED.md", "| `kcore_turn` |", "| `kcore_next` |"),
     Mistake("functions", "include/kcore.h", "uint32_t kcore_turn(", "uint32_t kcore_next("),
     Mistake("the first table", "README.md", "`refused not-present`", "`refused protected`"),
+    Mistake("the configuration without --config", "examples/configurations/default.json", '"core":1', '"core":2'),
     Mistake("the configuration without --config", "docs/TEXTS.md", '"host":4,"leaves":1', '"host":5,"leaves":1'),
 )

@@ -281,7 +281,8 @@ fn redact_command<'a>(alloc: Global) -> Result<Command<'a>, AllocError>
         "Example: kcore redact run.trace > redacted.trace",
     );
     let command = with_start(alloc, command)?;
-    let help = "Blank also what the host writes to frames of active VMs; this replays the trace";
+    let help =
+        "Blank also what the host writes to frames of active VMs; needs --config or --from, since the trace is replayed";
     let command = with_flag(alloc, command, "host", help)?;
     ended(alloc, command, file_arg(alloc, TRACE_HELP))
 }

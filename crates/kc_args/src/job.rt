@@ -43,7 +43,7 @@ pub enum Action<'a> {
     },
     /// Write the trace without the bytes that VMs write.
     Redact,
-    /// Write the trace without these, and without those that the host writes to frames of active VMs.
+    /// Write the trace without these, and without those that the host writes to frames of active VMs. The start is named.
     RedactHost {
         start: Start<'a>,
     },

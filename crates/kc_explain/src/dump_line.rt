@@ -25,6 +25,11 @@ fn letters_of(name: &[u8]) -> Option<&'static str> {
     }
 }
 
+/// Whether a line of a dump or of a state's text begins with this name.
+pub(crate) fn is_line_name(name: &[u8]) -> bool {
+    letters_of(name).is_some() || is_among(name, &["kcore-dump", "kcore-state"])
+}
+
 fn are_digits(word: &[u8], count: usize) -> bool {
     word.len() == count && word.iter().all(|byte| is_digit(*byte))
 }

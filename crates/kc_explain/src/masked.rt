@@ -3,7 +3,7 @@ use arrayvec::ArrayString;
 use std::fmt;
 
 /// Writes at most 64 bytes, with a `.` for each that is not printable ASCII.
-fn write_masked<W: fmt::Write>(bytes: &[u8], f: &mut fmt::Formatter<W>) -> fmt::Result {
+pub(crate) fn write_masked<W: fmt::Write>(bytes: &[u8], f: &mut fmt::Formatter<W>) -> fmt::Result {
     let mut text = ArrayString::<64>::new();
     for byte in bytes {
         let shown = if (32..127).contains(byte) {

@@ -117,6 +117,15 @@ fn words_of(name: &[u8]) -> Option<(usize, bool)> {
     }
 }
 
+/// How many words that may be shown come after the name of a call: its numbers, and none if it has bytes.
+pub(crate) fn numbers_of(name: &[u8]) -> Option<usize> {
+    match words_of(name) {
+        Some((_, true)) => Some(0),
+        Some((numbers, false)) => Some(numbers),
+        None => None,
+    }
+}
+
 pub(crate) fn fault_of_number(word: &[u8], place: usize) -> Option<LineFault> {
     if read_number(word).is_some() {
         None

@@ -83,18 +83,19 @@ impl<'a> Asked<'a> {
         self.start == Start::Boot(None)
     }
 
-    /// What the file at a path is to the job.
-    pub fn kind_of(&self, path: &str) -> Kind {
-        if self.start == Start::Boot(Some(path)) {
-            Kind::Config
-        } else if self.input == Some(path) {
-            self.kind
-        } else if self.start == Start::State(path) {
-            Kind::State
-        } else if self.after.contains(&path) {
-            Kind::Volume
-        } else {
-            Kind::Compared
+    /// What the next file is to the job once this many were opened: the input comes first, if it is named, then what
+    /// calls begin with, and then the volumes or what is compared. One path may be named for several of them.
+    pub fn kind_after(&self, opened: usize) -> Kind {
+        let before_start = usize::from(self.input.is_some());
+        if opened < before_start {
+            return self.kind;
+        }
+        let is_start = opened == before_start;
+        match self.start {
+            Start::Boot(Some(_)) if is_start => Kind::Config,
+            Start::State(_) if is_start => Kind::State,
+            _ if self.after.is_empty() => Kind::Compared,
+            _ => Kind::Volume,
         }
     }
 }

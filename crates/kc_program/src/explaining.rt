@@ -5,13 +5,13 @@ use kc_cli::{Source, Std, TextFault};
 use kc_config_text::ConfigTextFault;
 use kc_dump_text::DumpFault;
 use kc_explain::{
-    Header, LineFault, LineFinder, Masked, Noted, Shortened, explain_config, fault_of_line,
-    fault_of_text_line, look_of,
+    Header, LineFault, LineFinder, Masked, Noted, TextLine, TraceLine, explain_config,
+    fault_of_line, fault_of_text_line, look_of,
 };
 use kc_state_text::StateFault;
 use kc_trace::TraceFault;
 use kc_types::{Actor, BYTE_LIMIT, ConfigFault};
-use std::fs::{File, OpenFile, metadata};
+use std::fs::{File, OpenFile};
 use std::io::{ErrorKind, Read};
 
 const TOO_LONG: &str = "it has more than 1073741824 bytes";
@@ -86,19 +86,6 @@ fn explain_keys(rt: &HostRuntime, config: &Named<'_>) {
     }
 }
 
-/// Says what may have been meant, if an argument that is not a command is a file or an option.
-pub fn explain_arguments(rt: &HostRuntime, arguments: &[&str]) {
-    let Some(first) = arguments.first() else {
-        return;
-    };
-    let shown = Masked(first);
-    if first.starts_with("--") {
-        let _ = eprintln!(rt; "  an option comes after a command: kcore replay {shown}");
-    } else if metadata(rt, *first).is_ok() {
-        let _ = eprintln!(rt; "  {shown} is a file: kcore replay {shown} replays a trace");
-    }
-}
-
 /// Reads the file at a path again to its end, for its bad line and its actors.
 fn noted_again(rt: &HostRuntime, path: &str) -> Option<Noted<Std<File>>> {
     let file = File::open(rt, path).ok()?;
@@ -137,15 +124,6 @@ fn line_again(rt: &HostRuntime, path: &str, number: u32) -> Option<LineFinder> {
     Some(finder)
 }
 
-/// A line as it is shown; only the name of a page's line, whose bytes are a guest's.
-fn shown(line: &[u8]) -> Shortened<'_> {
-    if line.starts_with(b"page ") {
-        Shortened(b"page ...")
-    } else {
-        Shortened(line)
-    }
-}
-
 /// Says why a line is not one of a dump or of a state's text.
 fn explain_text_line(rt: &HostRuntime, file: &Named<'_>, number: u32) {
     let finder = match &file.path {
@@ -157,7 +135,7 @@ fn explain_text_line(rt: &HostRuntime, file: &Named<'_>, number: u32) {
         },
     };
     let Some(finder) = finder else { return };
-    let (line, before) = (shown(finder.line()), shown(finder.before()));
+    let (line, before) = (TextLine(finder.line()), TextLine(finder.before()));
     let why = fault_of_text_line(finder.line());
     let _ = eprintln!(rt; "  {line}\n  {why}");
     if why == LineFault::NotDue || why == LineFault::Empty {
@@ -177,7 +155,7 @@ fn explain_actor<S: Source + Drop>(rt: &HostRuntime, noted: &Noted<S>, program: 
 
 /// Says which line of a trace is bad, and why.
 fn explain_trace_line<S: Source + Drop>(rt: &HostRuntime, noted: &Noted<S>, fault: &TraceFault) {
-    let line = Shortened(noted.line());
+    let line = TraceLine(noted.line());
     let _ = eprintln!(rt; "  {line}");
     if let TraceFault::BadLine(_) = fault {
         let why = fault_of_line(noted.line());
@@ -243,10 +221,7 @@ impl<'a> Reading<'a> {
 
     /// Says which line of the state that was compared is the first that differs, and shows it if it can be read again.
     pub fn explain_difference(&self, rt: &HostRuntime, number: usize) {
-        // The compared file was given back first; calls may also begin in it.
-        let mut states = self.files.iter();
-        let Some(file) = states.find(|file| matches!(file.kind, Kind::State | Kind::Compared))
-        else {
+        let Some(file) = self.file(Kind::Compared) else {
             return;
         };
         let _ = eprintln!(rt; "  {file}: line {number} is the first that differs");
@@ -257,7 +232,7 @@ impl<'a> Reading<'a> {
         if let Some(finder) = again
             && !finder.line().is_empty()
         {
-            let line = shown(finder.line());
+            let line = TextLine(finder.line());
             let _ = eprintln!(rt; "  {line}");
         }
     }

@@ -87,6 +87,8 @@ pub struct Folder<'a> {
     rt: &'a HostRuntime,
     asked: Asked<'a>,
     progress: &'a Progress<'a, HostRuntime>,
+    /// How many files were opened.
+    opened: usize,
     /// The path of the file that could not be opened, if there is one, and why.
     pub refused: Option<String>,
     pub why: ErrorKind,
@@ -107,6 +109,7 @@ impl<'a> Folder<'a> {
             rt,
             asked,
             progress,
+            opened: 0,
             refused: None,
             why: ErrorKind::NotFound,
             read: Vec::new(rt.alloc()),
@@ -186,7 +189,8 @@ impl<'a> Files for Folder<'a> {
             Err(_) => (0, false),
         };
         let opened = Opened::File(Std::with_size(file, size));
-        let kind = self.asked.kind_of(path);
+        let kind = self.asked.kind_after(self.opened);
+        self.opened = self.opened.saturating_add(1);
         Ok(self.named(Some(name), kind, is_regular, opened, None))
     }
 

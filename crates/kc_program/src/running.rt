@@ -1,7 +1,8 @@
 //! A run of the program, from its command line to its exit status.
+use crate::arguments::report_arguments;
 use crate::asked::Asked;
 use crate::denials::{explain_default, explain_denials};
-use crate::explaining::{Reading, explain_arguments, explain_open};
+use crate::explaining::{Reading, explain_open};
 use crate::folder::{Folder, Named};
 use kc_args::{ArgFault, Request, request_of};
 use kc_cli::{Answered, Lanes, Std, TextFault, tell};
@@ -101,8 +102,7 @@ fn refuse(rt: &HostRuntime, arguments: &[&str], fault: ArgFault) -> u8 {
             0
         },
         ArgFault::Message(text, status) => {
-            let _ = rt.eprint(text);
-            explain_arguments(rt, arguments);
+            report_arguments(rt, text.as_str(), arguments);
             status
         },
     }

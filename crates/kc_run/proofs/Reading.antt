@@ -1,5 +1,5 @@
 -- How reading goes on over one volume after another.
-use Rattle.std.proofs.Common.{ℕ, suc, get_or, drop, take, ap₂, ◌≡◌, ◌≢◌, ◌<◌, ◌⊎◌, ◌+◌, ◌++◌, ◌∷◌, List, [], length, length-append, map, Option, Some, None, Result, Ok, Err, true, false, inl, inr, refl, ap, sym, ◌∙◌, subst, arith, append_assoc}
+use Rattle.std.proofs.Common.{ℕ, suc, get_or, drop, take, ap₂, ◌≡◌, ◌≢◌, ◌<◌, ◌⊎◌, ◌+◌, ◌++◌, ◌∷◌, List, [], length, length-append, map, Bool, Option, Some, None, Result, Ok, Err, true, false, inl, inr, refl, ap, sym, ◌∙◌, subst, arith, append_assoc}
 use Rattle.std.specs.Prelude.{is_some, IfErr, IfSome}
 use Rattle.std.proofs.Math.Seq.{take-suc}
 use Rattle.std.proofs.lemmas.List.{map-append, append-nil, drop_more}
@@ -21,7 +21,7 @@ use Rattle.kc_cli.specs.Volumes.{HasTold, IsFull}
 use Rattle.kc_run.specs.declared.ending.Ending.{Ending}
 use Rattle.kc_run.specs.declared.ending.Ending.TheVariants as endings
 use Rattle.kc_args.specs.Jobs.{Path}
-use Rattle.kc_run.specs.Opening.{Held, IsOpenFault}
+use Rattle.kc_run.specs.Opening.{Held, IsOfFile, IsOpenFault}
 use Rattle.kc_run.specs.Custody.{had_by, held_by, AreAtEnd, IsVolumeRefused, ReadsOn, AreOpened}
 
 -- of two lists of sources
@@ -37,9 +37,9 @@ failed_before_or_after (x ∷ xs) ys (inr is) = elim (failed_before_or_after xs 
   | inr other ↦ inr other
 ]
 
-at_end_both : (xs ys : List Seen) → AreAtEnd xs → AreAtEnd ys → AreAtEnd (xs ++ ys)
-at_end_both [] ys one other = other
-at_end_both (x ∷ xs) ys one other = (one.0, at_end_both xs ys one.1 other)
+all_both : (Holds : Seen → Type 0) (xs ys : List Seen) → AllByRecursion Holds xs → AllByRecursion Holds ys → AllByRecursion Holds (xs ++ ys)
+all_both Holds [] ys one other = other
+all_both Holds (x ∷ xs) ys one other = (one.0, all_both Holds xs ys one.1 other)
 
 pub had_both : (xs ys : List Seen) → had_by (xs ++ ys) ≡ had_by xs ++ had_by ys
 had_both xs ys = map-append (λ source. source.had) xs ys
@@ -61,7 +61,7 @@ reads_then a b c refused xs ys n k r one more at = record {
   told = λ e order m before h. subst (λ (held : List (Option (List ℕ))). HasTold order c m held) (append_assoc before (had_by xs) (had_by ys) ∙ ap (λ (rest : List (Option (List ℕ))). before ++ rest) (sym (had_both xs ys)))
       (more.told e order m (before ++ had_by xs) (one.told refl order m before h));
   same = λ e. more.same e ∙ one.same refl;
-  ended = λ e. at_end_both xs ys (one.ended refl) (more.ended e);
+  ended = λ e. all_both (λ source. IsAtEnd source.has) xs ys (one.ended refl) (more.ended e);
   refuses = λ ending e order m before h.
       (let is = more.refuses ending e order m (before ++ had_by xs) (one.told refl order m before h) in
       let long = length-append xs ys in
@@ -158,7 +158,7 @@ volume_failed old new source number fault read bad is trace started = record {
 abbrev pub Unopened : List ℕ → Option (List ℕ) → TextFault → Type 0
 Unopened name refused fault = ((fault ≡ texts.Memory) × (refused ≡ None)) ⊎ ((fault ≡ texts.Read) × (refused ≡ Some name))
 
-pub unopened : (path : Path) (refused : Option (List ℕ)) (fault : TextFault) → IsOpenFault (Some path) refused fault → Unopened path.now refused fault
+pub unopened : (path : Path) (refused : Option (List ℕ)) (fault : TextFault) → IsOpenFault path refused fault → Unopened path.now refused fault
 unopened path refused texts.Read h = inr (refl, h)
 unopened path refused texts.Memory h = inl (refl, h.0)
 unopened path refused texts.Write h = inl (h.1, h.0)
@@ -221,20 +221,22 @@ none_read account number = record {
 }
 
 -- one file more is opened
-pub opened_more : (held : Held) (paths : List Path) (sources : List Seen) (source : Seen) (n : ℕ) (d : Path) → AreOpened held None paths sources → length sources ≡ n → n < length paths → source.had ≡ held (get_or paths n d).now → AreOpened held None paths (sources ++ source ∷ [])
-opened_more held paths sources source n d opened at lt same =
+pub opened_more : {S : Type 0} {left : S → Option (List ℕ)} {failed : S → Bool} (held : Held) (paths : List Path) (sources : List Seen) (source : Seen) (n : ℕ) (d : Path) → AreOpened left failed held None paths sources → length sources ≡ n → n < length paths → IsOfFile left failed source → source.had ≡ held (get_or paths n d).now → AreOpened left failed held None paths (sources ++ source ∷ [])
+opened_more {left = left} {failed = failed} held paths sources source n d opened at lt file same =
     let long : length (sources ++ source ∷ []) ≡ suc n = (let both = length-append sources (source ∷ []) in omega (arith, both, at)) in
     let more : held_by held (take (suc n) paths) ≡ held_by held (take n paths) ++ held (get_or paths n d).now ∷ [] = ap (held_by held) (take-suc paths n d lt) ∙ map-append (λ (path : Path). held path.now) (take n paths) (get_or paths n d ∷ []) in
     let so_far : had_by sources ≡ held_by held (take n paths) = opened.are ∙ ap (λ k. held_by held (take k paths)) at in
     record {
+      files = all_both (λ one. IsOfFile left failed one) sources (source ∷ []) opened.files (file, tt);
       are = had_both sources (source ∷ []) ∙ ap₂ (λ (xs ys : List (Option (List ℕ))). xs ++ ys) so_far (ap (λ (one : Option (List ℕ)). one ∷ []) same) ∙ sym more ∙ ap (λ k. held_by held (take k paths)) (sym long);
       next = tt;
     }
 
 -- the next one cannot be opened
-pub opened_up_to : (held : Held) (paths : List Path) (sources : List Seen) (n : ℕ) (d : Path) (refused : Option (List ℕ)) (fault : TextFault) → AreOpened held None paths sources → length sources ≡ n → n < length paths → Unopened (get_or paths n d).now refused fault → AreOpened held refused paths sources
+pub opened_up_to : {S : Type 0} {left : S → Option (List ℕ)} {failed : S → Bool} (held : Held) (paths : List Path) (sources : List Seen) (n : ℕ) (d : Path) (refused : Option (List ℕ)) (fault : TextFault) → AreOpened left failed held None paths sources → length sources ≡ n → n < length paths → Unopened (get_or paths n d).now refused fault → AreOpened left failed held refused paths sources
 opened_up_to held paths sources n d refused fault opened at lt (inl is) = rw is.1 opened
 opened_up_to held paths sources n d refused fault opened at lt (inr is) = rw is.1 record {
+  files = opened.files;
   are = opened.are;
   next = (get_or paths n d, drop (n + 1) paths, ap (λ k. drop k paths) at ∙ drop_more paths n d lt, refl);
 }

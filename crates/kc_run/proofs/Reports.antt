@@ -76,12 +76,12 @@ sink_unused : {A : Type 0} (failed : Bool) (begun untouched : Type 0) (x : A) �
 sink_unused failed begun untouched x mark = record { write = λ e. absurd cc; failed_is = λ bad. absurd (let never : false ≡ true = sym mark ∙ bad in cc); kept = tt }
 
 -- all files hold what the volumes hold
-all_held : (ends : Ends) (after : List Path) (files : List Seen) → AreOpened ends.held ends.refused after files → length files ≡ length after → ends.input.had ∷ had_by files ≡ ends.input.had ∷ held_by ends.held after
+all_held : {S : Type 0} {left : S → Option (List ℕ)} {failed : S → Bool} (ends : Ends) (after : List Path) (files : List Seen) → AreOpened left failed ends.held ends.refused after files → length files ≡ length after → ends.input.had ∷ had_by files ≡ ends.input.had ∷ held_by ends.held after
 all_held ends after files opened long =
     ap (λ (rest : List (Option (List ℕ))). ends.input.had ∷ rest) (opened.are ∙ ap (held_by ends.held) (take_all (length files) after (omega (arith, long))))
 
-pub volumes_given : (order : CustodyOrder) (old account : CustodyAccount) (m : State) (start : Seen) (after : List Path) (ends : Ends) (files : List Seen) (r : Result Answered TextFault) → HasBegun order old m start → AreOpened ends.held ends.refused after files → length files ≡ length after
-    → ReadsOn old account ends.refused (ends.input ∷ files) 1 (Ok None) → Gives account ends r → ReportsVolumes order.origin order.form order.scope after start ends (answered_as r)
+pub volumes_given : {S : Type 0} {left : S → Option (List ℕ)} {failed : S → Bool} (order : CustodyOrder) (old account : CustodyAccount) (m : State) (start : Seen) (after : List Path) (ends : Ends) (files : List Seen) (r : Result Answered TextFault) → HasBegun order old m start → AreOpened left failed ends.held ends.refused after files → length files ≡ length after
+    → ReadsOn old account ends.refused (ends.input ∷ files) 1 (Ok None) → Gives account ends r → ReportsVolumes left failed order.origin order.form order.scope after start ends (answered_as r)
 volumes_given order old account m start after ends files r begun opened long reads gives = by_result r gives
   where
     told : HasTold order account m (ends.input.had ∷ held_by ends.held after)
@@ -96,7 +96,7 @@ volumes_given order old account m start after ends files r begun opened long rea
     shut : is_some ends.refused ≡ true → ⊥
     shut none = let e = reads.unopened none in absurd cc
 
-    by_result : (r : Result Answered TextFault) → Gives account ends r → ReportsVolumes order.origin order.form order.scope after start ends (answered_as r)
+    by_result : (r : Result Answered TextFault) → Gives account ends r → ReportsVolumes left failed order.origin order.form order.scope after start ends (answered_as r)
     by_result (Ok answered) gives = record {
       files = files;
       opened = opened;
@@ -130,8 +130,8 @@ volumes_given order old account m start after ends files r begun opened long rea
         last_trace fault (inl same) e = cc
         last_trace fault (inr same) e = cc
 
-pub volumes_refused : (order : CustodyOrder) (old account : CustodyAccount) (m : State) (start : Seen) (after : List Path) (ends : Ends) (files : List Seen) (ending : Ending) → HasBegun order old m start → AreOpened ends.held ends.refused after files
-    → ReadsOn old account ends.refused (ends.input ∷ files) 1 (Ok (Some ending)) → ends.out.failed ≡ false → ends.untouched → ReportsVolumes order.origin order.form order.scope after start ends (Ok ending)
+pub volumes_refused : {S : Type 0} {left : S → Option (List ℕ)} {failed : S → Bool} (order : CustodyOrder) (old account : CustodyAccount) (m : State) (start : Seen) (after : List Path) (ends : Ends) (files : List Seen) (ending : Ending) → HasBegun order old m start → AreOpened left failed ends.held ends.refused after files
+    → ReadsOn old account ends.refused (ends.input ∷ files) 1 (Ok (Some ending)) → ends.out.failed ≡ false → ends.untouched → ReportsVolumes left failed order.origin order.form order.scope after start ends (Ok ending)
 volumes_refused order old account m start after ends files ending begun opened reads mark untouched = record {
   files = files;
   opened = opened;
@@ -149,8 +149,8 @@ volumes_refused order old account m start after ends files ending begun opened r
   sink = sink_unused _ _ _ ending mark;
 }
 
-pub volumes_failed : (order : CustodyOrder) (old account : CustodyAccount) (m : State) (start : Seen) (after : List Path) (ends : Ends) (files : List Seen) (f : TextFault) → HasBegun order old m start → AreOpened ends.held ends.refused after files
-    → ReadsOn old account ends.refused (ends.input ∷ files) 1 (Err f) → ends.out.failed ≡ false → ends.untouched → ReportsVolumes order.origin order.form order.scope after start ends (Err f)
+pub volumes_failed : {S : Type 0} {left : S → Option (List ℕ)} {failed : S → Bool} (order : CustodyOrder) (old account : CustodyAccount) (m : State) (start : Seen) (after : List Path) (ends : Ends) (files : List Seen) (f : TextFault) → HasBegun order old m start → AreOpened left failed ends.held ends.refused after files
+    → ReadsOn old account ends.refused (ends.input ∷ files) 1 (Err f) → ends.out.failed ≡ false → ends.untouched → ReportsVolumes left failed order.origin order.form order.scope after start ends (Err f)
 volumes_failed order old account m start after ends files f begun opened reads mark untouched = record {
   files = files;
   opened = opened;
@@ -269,8 +269,8 @@ begun_texts origin start trace unread f none other h = record {
   told = h.told;
 }
 
-pub not_begun : {A : Type 0} (order : CustodyOrder) (start : Seen) (after : List Path) (ends : Ends) (f : TextFault) → ends.refused ≡ None → ends.unread → ends.input.failed ≡ false → ends.out.failed ≡ false → ends.untouched → TellsSources {A = A} (start ∷ []) (Err f)
-    → ((trace : Seen) → TellsTexts {A = A} order.origin start trace (Unit {0}) (Err f)) → TellsCustody {A = A} order.scope.vm order.origin start.had (Unit {0}) (Err f) → f ≢ texts.Write → ((said : TraceFault) → f ≢ texts.Trace said) → ReportsCustody order.origin order.form order.scope after start ends (Err f)
+pub not_begun : {A : Type 0} {S : Type 0} {left : S → Option (List ℕ)} {failed : S → Bool} (order : CustodyOrder) (start : Seen) (after : List Path) (ends : Ends) (f : TextFault) → ends.refused ≡ None → ends.unread → ends.input.failed ≡ false → ends.out.failed ≡ false → ends.untouched → TellsSources {A = A} (start ∷ []) (Err f)
+    → ((trace : Seen) → TellsTexts {A = A} order.origin start trace (Unit {0}) (Err f)) → TellsCustody {A = A} order.scope.vm order.origin start.had (Unit {0}) (Err f) → f ≢ texts.Write → ((said : TraceFault) → f ≢ texts.Trace said) → ReportsCustody left failed order.origin order.form order.scope after start ends (Err f)
 not_begun order start [] ends f opened unread mark out untouched sources told custody write trace = record {
   opened = opened;
   ending = tt;
@@ -293,7 +293,7 @@ not_begun order start [] ends f opened unread mark out untouched sources told cu
 }
 not_begun order start (path ∷ after) ends f opened unread mark out untouched sources told custody write trace = record {
   files = [];
-  opened = record { are = refl; next = rw opened tt };
+  opened = record { files = tt; are = refl; next = rw opened tt };
   ending = tt;
   read = λ e. inl (elim (sources.read (let same : f ≡ texts.Read = cc in ap Err same)) [
     | inl is ↦ inl is
@@ -312,11 +312,11 @@ not_begun order start (path ∷ after) ends f opened unread mark out untouched s
 }
 
 -- of one trace, or of several volumes
-pub one_reported : (origin : Origin) (form : CustodyForm) (scope : Scope) (after : List Path) (start : Seen) (ends : Ends) (ended : Ended) → length after ≡ 0 → ReportsTrace origin form scope start ends ended → ReportsCustody origin form scope after start ends ended
+pub one_reported : {S : Type 0} {left : S → Option (List ℕ)} {failed : S → Bool} (origin : Origin) (form : CustodyForm) (scope : Scope) (after : List Path) (start : Seen) (ends : Ends) (ended : Ended) → length after ≡ 0 → ReportsTrace origin form scope start ends ended → ReportsCustody left failed origin form scope after start ends ended
 one_reported origin form scope [] start ends ended none is = is
 one_reported origin form scope (path ∷ after) start ends ended none is = absurd (omega (arith, none))
 
-pub all_reported : (origin : Origin) (form : CustodyForm) (scope : Scope) (after : List Path) (start : Seen) (ends : Ends) (ended : Ended) → length after ≢ 0 → ReportsVolumes origin form scope after start ends ended → ReportsCustody origin form scope after start ends ended
+pub all_reported : {S : Type 0} {left : S → Option (List ℕ)} {failed : S → Bool} (origin : Origin) (form : CustodyForm) (scope : Scope) (after : List Path) (start : Seen) (ends : Ends) (ended : Ended) → length after ≢ 0 → ReportsVolumes left failed origin form scope after start ends ended → ReportsCustody left failed origin form scope after start ends ended
 all_reported origin form scope [] start ends ended some is = absurd (some refl)
 all_reported origin form scope (path ∷ after) start ends ended some is = is
 

@@ -1,5 +1,5 @@
 -- What a run that reports custody leaves: of the input, and of the files of the volumes after it.
-use Rattle.std.specs.Prelude.{◌≡◌, ◌≢◌, ◌⊎◌, ◌<◌, ◌+◌, ◌++◌, ◌∷◌, ℕ, List, [], length, drop, map, take, Option, Some, None, is_some, true, false, Result, Ok, Err, IfOk, IfErr, IfSome, OnOk}
+use Rattle.std.specs.Prelude.{◌≡◌, ◌≢◌, ◌⊎◌, ◌<◌, ◌+◌, ◌++◌, ◌∷◌, ℕ, Bool, List, [], length, drop, map, take, Option, Some, None, is_some, true, false, Result, Ok, Err, IfOk, IfErr, IfSome, OnOk}
 use Rattle.std.specs.List.{AllByRecursion}
 use Rattle.std.specs.Io.KnownBytes.{IsAtEnd}
 use Rattle.kc_types.specs.declared.call.Call.{Call}
@@ -27,7 +27,7 @@ use Rattle.kc_cli.specs.Volumes.{known, HasTold}
 use Rattle.kc_args.specs.Jobs.{Path}
 use Rattle.kc_run.specs.declared.ending.Ending.{Ending}
 use Rattle.kc_run.specs.declared.ending.Ending.TheVariants as endings
-use Rattle.kc_run.specs.Opening.{Held}
+use Rattle.kc_run.specs.Opening.{Held, IsOfFile}
 use Rattle.kc_run.specs.Endings.{Ended}
 use Rattle.kc_run.specs.Ends.{Ends}
 
@@ -71,14 +71,15 @@ pub record ReadsOn (old new : CustodyAccount) (refused : Option (List ℕ)) (sou
   pub started : result ≢ Err texts.Start
 
 -- these sources are those of the files at these paths that were opened, in order; one that could not be opened is the next
-pub record AreOpened (held : Held) (refused : Option (List ℕ)) (paths : List Path) (sources : List Seen) : Type 0 where
+pub record AreOpened {S : Type 0} (left : S → Option (List ℕ)) (failed : S → Bool) (held : Held) (refused : Option (List ℕ)) (paths : List Path) (sources : List Seen) : Type 0 where
+  pub files : AllByRecursion (λ source. IsOfFile left failed source) sources
   pub are : had_by sources ≡ held_by held (take (length sources) paths)
   pub next : IfSome refused (λ name. (path : Path) × (rest : List Path) × (drop (length sources) paths ≡ path ∷ rest) × (name ≡ path.now))
 
 -- how reading went on over the files at these paths, of which the first is the volume of this number
-pub record ReadsFiles (old new : CustodyAccount) (held : Held) (refused : Option (List ℕ)) (number : ℕ) (paths : List Path) (result : Result (Option Ending) TextFault) : Type 0 where
+pub record ReadsFiles {S : Type 0} (left : S → Option (List ℕ)) (failed : S → Bool) (old new : CustodyAccount) (held : Held) (refused : Option (List ℕ)) (number : ℕ) (paths : List Path) (result : Result (Option Ending) TextFault) : Type 0 where
   pub sources : List Seen
-  pub opened : AreOpened held refused paths sources
+  pub opened : AreOpened left failed held refused paths sources
   pub all : result ≡ Ok None → length sources ≡ length paths
   pub reads : ReadsOn old new refused sources number result
 
@@ -112,9 +113,9 @@ IsVolumesEnding origin form scope start after files ends (endings.Refused number
 IsVolumesEnding origin form scope start after files ends ending = ⊥
 
 -- a report of the custody of several volumes ended so: of that in the input, and of those in the files at these paths
-pub record ReportsVolumes (origin : Origin) (form : CustodyForm) (scope : Scope) (after : List Path) (start : Seen) (ends : Ends) (ended : Ended) : Type 0 where
+pub record ReportsVolumes {S : Type 0} (left : S → Option (List ℕ)) (fails : S → Bool) (origin : Origin) (form : CustodyForm) (scope : Scope) (after : List Path) (start : Seen) (ends : Ends) (ended : Ended) : Type 0 where
   pub files : List Seen
-  pub opened : AreOpened ends.held ends.refused after files
+  pub opened : AreOpened left fails ends.held ends.refused after files
   pub ending : IfOk ended (IsVolumesEnding origin form scope start after files ends)
   -- a failed read is one of theirs, or a file could not be opened, and each is reported as nothing else
   pub read : ended ≡ Err texts.Read → HasFailedRead (start ∷ ends.input ∷ files) ⊎ (is_some ends.refused ≡ true)
@@ -127,6 +128,6 @@ pub record ReportsVolumes (origin : Origin) (form : CustodyForm) (scope : Scope)
   pub sink : TellsSink ends.out.failed (Begins (IsCustodyText origin form scope) start.had (known (ends.input.had ∷ held_by ends.held after)) ends.out.had ends.out.has) ends.untouched ended
 
 -- of one trace if there are no volumes after it
-abbrev pub ReportsCustody : Origin → CustodyForm → Scope → List Path → Seen → Ends → Ended → Type 0
-ReportsCustody origin form scope [] start ends ended = ReportsTrace origin form scope start ends ended
-ReportsCustody origin form scope after start ends ended = ReportsVolumes origin form scope after start ends ended
+abbrev pub ReportsCustody : {S : Type 0} → (S → Option (List ℕ)) → (S → Bool) → Origin → CustodyForm → Scope → List Path → Seen → Ends → Ended → Type 0
+ReportsCustody left failed origin form scope [] start ends ended = ReportsTrace origin form scope start ends ended
+ReportsCustody left failed origin form scope after start ends ended = ReportsVolumes left failed origin form scope after start ends ended

@@ -1,9 +1,8 @@
 -- What a job's files hold, and how opening them fails.
-use Rattle.std.specs.Prelude.{◌≡◌, ℕ, Bool, List, codes, drop, Option, Some, None}
+use Rattle.std.specs.Prelude.{◌≡◌, ℕ, Bool, false, List, codes, Option, Some, None}
 use Rattle.kc_faults.specs.declared.fault.TextFault.{TextFault}
 use Rattle.kc_faults.specs.declared.fault.TextFault.TheVariants as texts
-use Rattle.kc_run.specs.declared.beginning.Beginning.{Beginning}
-use Rattle.kc_run.specs.declared.beginning.Beginning.TheVariants as beginnings
+use Rattle.kc_texts.specs.Ends.{Seen, seen}
 use Rattle.kc_args.specs.Jobs.{Path}
 
 -- the bytes of the file at each path, if the files report them
@@ -14,22 +13,18 @@ Held = List ℕ → Option (List ℕ)
 abbrev pub default_config : List ℕ
 default_config = codes "{\"frames\":8,\"core\":1,\"host\":4,\"leaves\":1,\"approved\":[\"ba7816bf8f01cfea414140de5dae2223b00361a396177a9cb410ff61f20015ad\"]}"
 
--- what calls begin with: the bytes of the file that is named, or the default configuration
-abbrev pub text_at : Held → Option Path → Option (List ℕ)
-text_at held None = Some default_config
-text_at held (Some path) = held path.now
+-- this source is the default configuration, of which no read fails
+abbrev pub IsDefault : Seen → Type 0
+IsDefault source = (source.had ≡ Some default_config) × (source.failed ≡ false)
+
+-- this source is an open file, as it was before any read of it failed and as it was left; `left` and `failed` say of a file what is left of it, and whether a read of it failed
+pub record IsOfFile {S : Type 0} (left : S → Option (List ℕ)) (failed : S → Bool) (source : Seen) : Type 0 where
+  pub old : S
+  pub new : S
+  pub ready : failed old ≡ false
+  pub seen_is : source ≡ seen failed left old new
 
 -- the file at this path could not be opened, or there was no memory to open it
-abbrev pub IsOpenFault : Option Path → Option (List ℕ) → TextFault → Type 0
-IsOpenFault None refused fault = (refused ≡ None) × (fault ≡ texts.Memory)
-IsOpenFault (Some path) refused texts.Read = refused ≡ Some path.now
-IsOpenFault (Some path) refused fault = (refused ≡ None) × (fault ≡ texts.Memory)
-
--- the bytes that are left of what calls begin with, and whether a read of it failed
-abbrev pub left_of : {S : Type 0} → (S → Option (List ℕ)) → Beginning S → Option (List ℕ)
-left_of left (beginnings.Default text) = Some (drop text.position text.bytes.items)
-left_of left (beginnings.File file) = left file
-
-abbrev pub failed_of : {S : Type 0} → (S → Bool) → Beginning S → Bool
-failed_of failed (beginnings.Default text) = text.failed
-failed_of failed (beginnings.File file) = failed file
+abbrev pub IsOpenFault : Path → Option (List ℕ) → TextFault → Type 0
+IsOpenFault path refused texts.Read = refused ≡ Some path.now
+IsOpenFault path refused fault = (refused ≡ None) × (fault ≡ texts.Memory)

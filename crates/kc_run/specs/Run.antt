@@ -21,20 +21,18 @@ use Rattle.kc_cli.specs.declared.order.ReplayForm.{ReplayForm}
 use Rattle.kc_cli.specs.Engine.{IsReplayText, DiffersFromLeft}
 use Rattle.kc_cli.specs.Answers.{AreAnswered}
 use Rattle.kc_cli.specs.Live.{IsLiveText, CouldRun, HasBadActor}
-use Rattle.kc_args.specs.declared.job.Start.{Start}
-use Rattle.kc_args.specs.declared.job.Start.TheVariants as starts
 use Rattle.kc_args.specs.declared.job.Action.{Action}
 use Rattle.kc_args.specs.declared.job.Action.TheVariants as actions
 use Rattle.kc_args.specs.Jobs.{Path, path_of, origin_at}
 use Rattle.kc_run.specs.declared.ending.Ending.{Ending}
 use Rattle.kc_run.specs.declared.ending.Ending.TheVariants as endings
-use Rattle.kc_run.specs.Opening.{Held, text_at, IsOpenFault}
+use Rattle.kc_run.specs.Opening.{IsDefault, IsOfFile, IsOpenFault}
 use Rattle.kc_run.specs.Ends.{Ends, ends_of}
 use Rattle.kc_run.specs.Custody.{ReportsCustody}
 use Rattle.kc_run.specs.Endings.{Ended, Took, status_after, fault_in, answered_in, difference_in, volume_in, IsReported}
 
 -- a file is not open, and so nothing was read of standard input, and nothing written
-pub record IsUnopened (path : Option Path) (ends : Ends) (ended : Ended) : Type 0 where
+pub record IsUnopened (path : Path) (ends : Ends) (ended : Ended) : Type 0 where
   pub fault : TextFault
   pub ended_is : ended ≡ Err fault
   pub opening : IsOpenFault path ends.refused fault
@@ -46,6 +44,10 @@ abbrev pub IsAnswered : Origin → Option (List ℕ) → Option (List ℕ) → E
 IsAnswered origin start trace (endings.Answered answered) = AreAnswered origin start trace answered
 IsAnswered origin start trace (endings.Another answered line) = AreAnswered origin start trace answered
 IsAnswered origin start trace ending = ⊥
+
+-- what runs then reads the file at this path, or that cannot be opened
+abbrev pub OverFile : {S : Type 0} → (S → Option (List ℕ)) → (S → Bool) → Path → (Seen → Ends → Ended → Type 0) → Ends → Ended → Type 0
+OverFile left failed path Runs ends ended = IsUnopened path ends ended ⊎ ((source : Seen) × IsOfFile left failed source × (source.had ≡ ends.held path.now) × Runs source ends ended)
 
 -- whether the state left is that of a third text, if there is one; if it is not, the first line of that text that differs
 abbrev pub IsCompared : Origin → Bool → Option (List ℕ) → Option (List ℕ) → Option Seen → Ending → Type 0
@@ -70,10 +72,9 @@ pub record Replays (origin : Origin) (form : ReplayForm) (blank : Bool) (workers
   pub sink : TellsSink ends.out.failed (Begins (IsReplayText origin form blank) start.had ends.input.had ends.out.had ends.out.has) ends.untouched ended
 
 -- a replay from an open start, which compares the state left with what this file holds, if one is named
-abbrev pub ReplaysTo : Origin → ReplayForm → Bool → ℕ → Option Path → Seen → Ends → Ended → Type 0
-ReplaysTo origin form blank workers None start ends ended = Replays origin form blank workers start None ends ended
-ReplaysTo origin form blank workers (Some path) start ends ended =
-    IsUnopened (Some path) ends ended ⊎ ((to : Seen) × (to.had ≡ ends.held path.now) × Replays origin form blank workers start (Some to) ends ended)
+abbrev pub ReplaysTo : {S : Type 0} → (S → Option (List ℕ)) → (S → Bool) → Origin → ReplayForm → Bool → ℕ → Option Path → Seen → Ends → Ended → Type 0
+ReplaysTo left failed origin form blank workers None start ends ended = Replays origin form blank workers start None ends ended
+ReplaysTo left failed origin form blank workers (Some path) start ends ended = OverFile left failed path (λ to. Replays origin form blank workers start (Some to)) ends ended
 
 -- a live run over open sources ended so
 pub record RunsLive (workers : ℕ) (config : Seen) (ends : Ends) (ended : Ended) : Type 0 where
@@ -124,18 +125,19 @@ pub record RedactsHost (origin : Origin) (start : Seen) (ends : Ends) (ended : E
   pub sink : TellsSink ends.out.failed (Begins (IsHostRedacted origin) start.had ends.input.had ends.out.had ends.out.has) ends.untouched ended
   pub fault : IfErr ended IsHostRedactFault
 
--- an engine runs once what calls begin with is open
-abbrev pub BeginsAt : Start → (Seen → Ends → Ended → Type 0) → Ends → Ended → Type 0
-BeginsAt start Runs ends ended = IsUnopened (path_of start) ends ended ⊎ ((source : Seen) × (source.had ≡ text_at ends.held (path_of start)) × Runs source ends ended)
+-- what calls begin with is the default configuration, or the file that is named
+abbrev pub BeginsAt : {S : Type 0} → (S → Option (List ℕ)) → (S → Bool) → Option Path → (Seen → Ends → Ended → Type 0) → Ends → Ended → Type 0
+BeginsAt left failed None Runs ends ended = (source : Seen) × IsDefault source × Runs source ends ended
+BeginsAt left failed (Some path) Runs ends ended = OverFile left failed path Runs ends ended
 
 -- how an action ended; only custody reads the files of volumes after the input
-abbrev pub IsEnding : Action → List Path → Ends → Ended → Type 0
-IsEnding (actions.Replay start to form blank workers) after ends ended = BeginsAt start (ReplaysTo (origin_at start) form blank workers to) ends ended
-IsEnding (actions.Live config workers) after ends ended = BeginsAt (starts.Boot config) (RunsLive workers) ends ended
-IsEnding (actions.Custody start form scope) after ends ended = BeginsAt start (ReportsCustody (origin_at start) form scope after) ends ended
-IsEnding (actions.Audit all) after ends ended = AuditsDump all ends ended
-IsEnding actions.Redact after ends ended = RedactsTrace ends ended
-IsEnding (actions.RedactHost start) after ends ended = BeginsAt start (RedactsHost (origin_at start)) ends ended
+abbrev pub IsEnding : {S : Type 0} → (S → Option (List ℕ)) → (S → Bool) → Action → List Path → Ends → Ended → Type 0
+IsEnding left failed (actions.Replay start to form blank workers) after ends ended = BeginsAt left failed (path_of start) (ReplaysTo left failed (origin_at start) form blank workers to) ends ended
+IsEnding left failed (actions.Live config workers) after ends ended = BeginsAt left failed config (RunsLive workers) ends ended
+IsEnding left failed (actions.Custody start form scope) after ends ended = BeginsAt left failed (path_of start) (ReportsCustody left failed (origin_at start) form scope after) ends ended
+IsEnding left failed (actions.Audit all) after ends ended = AuditsDump all ends ended
+IsEnding left failed actions.Redact after ends ended = RedactsTrace ends ended
+IsEnding left failed (actions.RedactHost start) after ends ended = BeginsAt left failed (path_of start) (RedactsHost (origin_at start)) ends ended
 
 -- how an action ended over the file that is named, by all the bytes that it held; `left` and `failed` say of a file what is left of it, and whether a read of it failed. Nothing was read of standard input
 pub record ReadsFile {S : Type 0} (left : S → Option (List ℕ)) (failed : S → Bool) (path : Path) (action : Action) (after : List Path) (ends : Ends) (ended : Ended) : Type 0 where
@@ -143,12 +145,12 @@ pub record ReadsFile {S : Type 0} (left : S → Option (List ℕ)) (failed : S �
   pub new : S
   pub bytes : left old ≡ ends.held path.now
   pub unread : ends.unread
-  pub ending : IsEnding action after (ends_of ends.held ends.refused (seen failed left old new) (new ≡ old) ends.out ends.untouched) ended
+  pub ending : IsEnding left failed action after (ends_of ends.held ends.refused (seen failed left old new) (new ≡ old) ends.out ends.untouched) ended
 
 -- how it ended over the file that is named, or over standard input if none is
 abbrev pub IsEndingOf : {S : Type 0} → (S → Option (List ℕ)) → (S → Bool) → Option Path → Action → List Path → Ends → Ended → Type 0
-IsEndingOf left failed None action after ends ended = IsEnding action after ends ended
-IsEndingOf left failed (Some path) action after ends ended = IsUnopened (Some path) ends ended ⊎ ReadsFile left failed path action after ends ended
+IsEndingOf left failed None action after ends ended = IsEnding left failed action after ends ended
+IsEndingOf left failed (Some path) action after ends ended = IsUnopened path ends ended ⊎ ReadsFile left failed path action after ends ended
 
 -- what a run of a job leaves, and the exit status, the fault, the counts, the line that differs and the volume that is refused, which it returns: the exit status and the error sink say how the job ended
 pub record IsRun {S : Type 0} (left : S → Option (List ℕ)) (failed : S → Bool) (job : Job) (after : List Path) (ends : Ends) (err : Took) (silent : Type 0) (status : ℕ) (fault : Option TextFault) (answered : Option Answered) (difference volume : Option ℕ) : Type 0 where

@@ -4,13 +4,14 @@ ghost use Rattle.kc_model.specs.State.{State};
 ghost use Rattle.kc_texts.specs.Ends.{Seen, seen};
 ghost use Rattle.kc_cli.specs.declared.custody.CustodyOrder.{CustodyOrder};
 ghost use Rattle.kc_cli.specs.Volumes.{HasTold};
+ghost use Rattle.kc_args.specs.Jobs.{path_of};
 ghost use Rattle.kc_run.specs.Custody.{AreOpened, HasBegun, ReadsOn, ReadsFiles, ReportsTrace, ReportsVolumes, ReportsCustody};
 ghost use Rattle.kc_run.specs.Opening.{Held};
 ghost use Rattle.kc_run.specs.Endings.{took};
 ghost use Rattle.kc_run.specs.Ends.{ends_of};
 ghost use Rattle.kc_run.specs.Run.{BeginsAt};
 
-use crate::beginning::{begin, close, open};
+use crate::beginning::{DefaultText, open};
 use crate::ending::Ending;
 use crate::engines::{System, counted};
 use crate::files::Files;
@@ -52,15 +53,15 @@ fn read_files<F: Files>(
     requires files { F.refused files.old ≡ None }
     requires told { (order : CustodyOrder) × (m : State) × (sources : List (Option (List ℕ)))
         × HasTold order account.old m sources }
-    ensures read { ReadsFiles account.old account.new (F.held files.old) (F.refused files.new) 2 after.now result }
+    ensures read { ReadsFiles F.File.left F.File.failed account.old account.new (F.held files.old) (F.refused files.new) 2 after.now result }
     ensures same { F.held files.new ≡ F.held files.old }
 {
     let mut number = 1;
     for path in after {
         number += 1;
-        let mut file = open(files, path)?;
-        let read = read_volume(alloc, account, number, &mut file);
-        files.close(file);
+        let mut volume = open(files, path)?;
+        let read = read_volume(alloc, account, number, &mut volume);
+        files.close(volume);
         let refusal = read?;
         match refusal {
             Some(ending) => return Ok(Some(ending)),
@@ -81,7 +82,8 @@ fn read_all<F: Files, T: Source>(
     requires files { F.refused files.old ≡ None }
     requires input { T.failed input.old ≡ false }
     requires told { (order : CustodyOrder) × (m : State) × HasTold order account.old m [] }
-    ensures read { (sources : List Seen) × AreOpened (F.held files.old) (F.refused files.new) after.now sources
+    ensures read { (sources : List Seen)
+        × AreOpened F.File.left F.File.failed (F.held files.old) (F.refused files.new) after.now sources
         × (result ≡ Ok None → length sources ≡ length after.now)
         × ReadsOn account.old account.new (F.refused files.new)
         (seen T.failed T.left input.old input.new ∷ sources) 1 result }
@@ -133,7 +135,7 @@ fn report_volumes<F: Files, T: Source, K: Sink, R: Threads + Wait + Sync>(
     requires out { K.failed out.old ≡ false }
     requires begun { (order : CustodyOrder) × (m : State) × (start : Seen) × HasBegun order account m start }
     ensures { (order : CustodyOrder) (m : State) (start : Seen) → HasBegun order account m start
-        → ReportsVolumes order.origin order.form order.scope after.entry.now start
+        → ReportsVolumes F.File.left F.File.failed order.origin order.form order.scope after.entry.now start
         (ends_of (F.held files.old) (F.refused files.new) (seen T.failed T.left input.old input.new)
         (input.new ≡ input.old) (took K.failed K.taken out.old out.new) (out.new ≡ out.old)) result }
 {
@@ -153,8 +155,36 @@ fn report_volumes<F: Files, T: Source, K: Sink, R: Threads + Wait + Sync>(
     }
 }
 
-/// Reports the custody of the trace that the input holds, or of this and of the volumes that the files hold.
+/// Reports the custody of the trace that the input holds, or of this and of the volumes that the files hold, from an open
+/// start.
 #[inline(never)]
+fn custody_from<F: Files, C: Source, T: Source, K: Sink, R: Threads + Wait + Sync>(
+    system: &System<'_, R>,
+    files: &mut F,
+    start: &mut C,
+    input: &mut T,
+    after: &[&str],
+    out: &mut K,
+    order: CustodyOrder,
+) -> Result<Ending, TextFault>
+    requires files { F.refused files.old ≡ None }
+    requires start { C.failed start.old ≡ false }
+    requires input { T.failed input.old ≡ false }
+    requires out { K.failed out.old ≡ false }
+    ensures { ReportsCustody F.File.left F.File.failed order.origin order.form order.scope after.entry.now
+        (seen C.failed C.left start.old start.new)
+        (ends_of (F.held files.old) (F.refused files.new) (seen T.failed T.left input.old input.new)
+        (input.new ≡ input.old) (took K.failed K.taken out.old out.new) (out.new ≡ out.old)) result }
+{
+    let account = CustodyAccount::begin(system.threads, system.alloc, start, order)?;
+    if after.is_empty() {
+        report_trace(system, account, input, out)
+    } else {
+        report_volumes(system, files, account, input, after, out)
+    }
+}
+
+/// Does the same from where calls begin.
 pub(crate) fn custody<F: Files, T: Source, K: Sink, R: Threads + Wait + Sync>(
     system: &System<'_, R>,
     files: &mut F,
@@ -167,17 +197,17 @@ pub(crate) fn custody<F: Files, T: Source, K: Sink, R: Threads + Wait + Sync>(
     requires files { F.refused files.old ≡ None }
     requires input { T.failed input.old ≡ false }
     requires out { K.failed out.old ≡ false }
-    ensures { BeginsAt start.entry (ReportsCustody order.origin order.form order.scope after.entry.now)
+    ensures { BeginsAt F.File.left F.File.failed (path_of start.entry)
+        (ReportsCustody F.File.left F.File.failed order.origin order.form order.scope after.entry.now)
         (ends_of (F.held files.old) (F.refused files.new) (seen T.failed T.left input.old input.new)
         (input.new ≡ input.old) (took K.failed K.taken out.old out.new) (out.new ≡ out.old)) result }
 {
-    let mut beginning = begin(system.alloc, files, start)?;
-    let begun = CustodyAccount::begin(system.threads, system.alloc, &mut beginning, order);
-    close(files, beginning);
-    let account = begun?;
-    if after.is_empty() {
-        report_trace(system, account, input, out)
-    } else {
-        report_volumes(system, files, account, input, after, out)
-    }
+    let Some(path) = start.path() else {
+        let mut text = DefaultText::new();
+        return custody_from(system, files, &mut text, input, after, out, order);
+    };
+    let mut file = open(files, path)?;
+    let ended = custody_from(system, files, &mut file, input, after, out, order);
+    files.close(file);
+    ended
 }

@@ -1,13 +1,13 @@
 //! The engines, over the files that a job names, an input and a sink.
 ghost use Rattle.std.specs.Prelude.{◌≡◌, false, None};
 ghost use Rattle.kc_texts.specs.Ends.{seen};
-ghost use Rattle.kc_args.specs.Jobs.{origin_at};
+ghost use Rattle.kc_args.specs.Jobs.{origin_at, path_of};
 ghost use Rattle.kc_run.specs.Opening.{Held};
 ghost use Rattle.kc_run.specs.Endings.{took, done_as, answered_as, compared_as, ending_of, judged_as};
 ghost use Rattle.kc_run.specs.Ends.{ends_of};
 ghost use Rattle.kc_run.specs.Run.{BeginsAt, ReplaysTo, RunsLive, AuditsDump, RedactsTrace, RedactsHost};
 
-use crate::beginning::{begin, close, open};
+use crate::beginning::{DefaultText, open};
 use crate::ending::Ending;
 use crate::files::Files;
 use kc_args::Start;
@@ -85,6 +85,8 @@ fn judged(answer: Result<bool, TextFault>, other: Ending) -> Result<Ending, Text
 
 /// Replays the trace from an open start, and compares the state that it leaves with what the file `to` holds, if it is
 /// named.
+// (Here and below: not inlined, or the buffers of all engines would be in one frame.)
+#[inline(never)]
 fn replay_to<F: Files, C: Source, T: Source, K: Sink, R: Threads + Wait + Sync>(
     system: &System<'_, R>,
     files: &mut F,
@@ -98,7 +100,7 @@ fn replay_to<F: Files, C: Source, T: Source, K: Sink, R: Threads + Wait + Sync>(
     requires start { C.failed start.old ≡ false }
     requires input { T.failed input.old ≡ false }
     requires out { K.failed out.old ≡ false }
-    ensures { ReplaysTo order.origin order.form order.is_blank order.workers to.entry
+    ensures { ReplaysTo F.File.left F.File.failed order.origin order.form order.is_blank order.workers to.entry
         (seen C.failed C.left start.old start.new)
         (ends_of (F.held files.old) (F.refused files.new) (seen T.failed T.left input.old input.new)
         (input.new ≡ input.old) (took K.failed K.taken out.old out.new) (out.new ≡ out.old)) result }
@@ -106,23 +108,21 @@ fn replay_to<F: Files, C: Source, T: Source, K: Sink, R: Threads + Wait + Sync>(
     let Some(path) = to else {
         return counted(replay_text(system.threads, system.alloc, start, input, out, order));
     };
-    let mut file = open(files, path)?;
+    let mut state = open(files, path)?;
     let answer = replay_to_text(
         system.threads,
         system.alloc,
         start,
         input,
-        &mut file,
+        &mut state,
         out,
         order,
     );
-    files.close(file);
+    files.close(state);
     compared(answer)
 }
 
 /// Replays the trace from where calls begin.
-// (Here and below: not inlined, or the buffers of all engines would be in one frame.)
-#[inline(never)]
 pub(crate) fn replay<F: Files, T: Source, K: Sink, R: Threads + Wait + Sync>(
     system: &System<'_, R>,
     files: &mut F,
@@ -135,13 +135,18 @@ pub(crate) fn replay<F: Files, T: Source, K: Sink, R: Threads + Wait + Sync>(
     requires files { F.refused files.old ≡ None }
     requires input { T.failed input.old ≡ false }
     requires out { K.failed out.old ≡ false }
-    ensures { BeginsAt start.entry (ReplaysTo order.origin order.form order.is_blank order.workers to.entry)
+    ensures { BeginsAt F.File.left F.File.failed (path_of start.entry)
+        (ReplaysTo F.File.left F.File.failed order.origin order.form order.is_blank order.workers to.entry)
         (ends_of (F.held files.old) (F.refused files.new) (seen T.failed T.left input.old input.new)
         (input.new ≡ input.old) (took K.failed K.taken out.old out.new) (out.new ≡ out.old)) result }
 {
-    let mut beginning = begin(system.alloc, files, start)?;
-    let ended = replay_to(system, files, &mut beginning, input, to, out, order);
-    close(files, beginning);
+    let Some(path) = start.path() else {
+        let mut text = DefaultText::new();
+        return replay_to(system, files, &mut text, input, to, out, order);
+    };
+    let mut file = open(files, path)?;
+    let ended = replay_to(system, files, &mut file, input, to, out, order);
+    files.close(file);
     ended
 }
 
@@ -158,21 +163,18 @@ pub(crate) fn live<F: Files, T: Source, K: Sink, R: Threads + Wait + Sync>(
     requires files { F.refused files.old ≡ None }
     requires input { T.failed input.old ≡ false }
     requires out { K.failed out.old ≡ false }
-    ensures { BeginsAt (Start.Boot config.entry) (RunsLive workers)
+    ensures { BeginsAt F.File.left F.File.failed config.entry (RunsLive workers)
         (ends_of (F.held files.old) (F.refused files.new) (seen T.failed T.left input.old input.new)
         (input.new ≡ input.old) (took K.failed K.taken out.old out.new) (out.new ≡ out.old)) result }
 {
-    let mut beginning = begin(system.alloc, files, Start::Boot(config))?;
-    let answer = live_text(
-        system.threads,
-        system.alloc,
-        &mut beginning,
-        input,
-        out,
-        workers,
-        &OpenGate,
-    );
-    close(files, beginning);
+    let (threads, alloc) = (system.threads, system.alloc);
+    let Some(path) = config else {
+        let mut text = DefaultText::new();
+        return done(live_text(threads, alloc, &mut text, input, out, workers, &OpenGate));
+    };
+    let mut file = open(files, path)?;
+    let answer = live_text(threads, alloc, &mut file, input, out, workers, &OpenGate);
+    files.close(file);
     done(answer)
 }
 
@@ -222,21 +224,18 @@ pub(crate) fn redact_host<F: Files, T: Source, K: Sink, R: Threads + Wait + Sync
     requires files { F.refused files.old ≡ None }
     requires input { T.failed input.old ≡ false }
     requires out { K.failed out.old ≡ false }
-    ensures { BeginsAt start.entry (RedactsHost (origin_at start.entry))
+    ensures { BeginsAt F.File.left F.File.failed (path_of start.entry) (RedactsHost (origin_at start.entry))
         (ends_of (F.held files.old) (F.refused files.new) (seen T.failed T.left input.old input.new)
         (input.new ≡ input.old) (took K.failed K.taken out.old out.new) (out.new ≡ out.old)) result }
 {
+    let (threads, alloc, lanes) = (system.threads, system.alloc, system.lanes);
     let origin = start.origin();
-    let mut beginning = begin(system.alloc, files, start)?;
-    let answer = redact_host_text(
-        system.threads,
-        system.alloc,
-        &mut beginning,
-        input,
-        out,
-        origin,
-        system.lanes,
-    );
-    close(files, beginning);
+    let Some(path) = start.path() else {
+        let mut text = DefaultText::new();
+        return done(redact_host_text(threads, alloc, &mut text, input, out, origin, lanes));
+    };
+    let mut file = open(files, path)?;
+    let answer = redact_host_text(threads, alloc, &mut file, input, out, origin, lanes);
+    files.close(file);
     done(answer)
 }

@@ -27,7 +27,7 @@ fn run_action<F: Files, T: Source, K: Sink, R: Threads + Wait + Sync>(
     requires files { F.refused files.old ≡ None }
     requires input { T.failed input.old ≡ false }
     requires out { K.failed out.old ≡ false }
-    ensures { IsEnding action.entry after.entry.now
+    ensures { IsEnding F.File.left F.File.failed action.entry after.entry.now
         (ends_of (F.held files.old) (F.refused files.new) (seen T.failed T.left input.old input.new)
         (input.new ≡ input.old) (took K.failed K.taken out.old out.new) (out.new ≡ out.old)) result }
 {

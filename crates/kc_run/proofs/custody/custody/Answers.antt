@@ -1,50 +1,9 @@
-use Rattle.std.proofs.Common.{rules, ◌≡◌, inr, refl, sym, ◌∙◌}
-use Rattle.std.proofs.lemmas.Bool.{eqb-true, eqb-false}
-use Rattle.std.proofs.lemmas.Result.{err_from_is_err_and}
-use Rattle.kc_run.proofs.Reports.{not_begun, none_refused, some_begun, one_reported, all_reported}
+use Rattle.std.proofs.Common.{inr, refl, ap, Some}
 use Rattle.kc_run.proofs.custody.custody.Goals as goal
 
-pub returns-in_err-account : goal.returns-in_err-account
-returns-in_err-account g c =
-    let made = err_from_is_err_and c.from_residual-in_err-account.result c.from_residual-in_err-account.ensures.1 in
-    let is = c.in_err-account.ensures in
-    rw (made.1, made.2, c.close.ensures.refused, c.in_ok-beginning.ensures.opened)
-    (inr (
-      _,
-      c.in_ok-beginning.ensures.text,
-      not_begun c.args.order _ c.args.after.now _ c.in_err-account.field-0.0 refl refl c.requires.input c.requires.out refl is.sources is.texts is.custody
-          (λ same. is.write (let e = same in cc)) (none_refused _ _ _ c.in_err-account.field-0.0 is.texts),
-    ))
+pub returns-in_default : goal.returns-in_default
+returns-in_default g c = rw (← c.path.ensures, c.in_default.is) (_, (ap Some c.new-text.ensures, refl), c.custody_from.ensures)
 
-pub report_trace-requires-clause-begun : goal.report_trace-requires-clause-begun
-report_trace-requires-clause-begun g c =
-    let is = c.in_ok-account.ensures in
-    let begun = some_begun c.args.order _ is.ok.0 _ record { told = is.ok.3; begins = is.ok.1; digest = is.ok.2; slot = is.custody.named; ended = is.sources.ended.0; mark = is.mark } in
-    search rules
-
-pub report_volumes-requires-clause-begun : goal.report_volumes-requires-clause-begun
-report_volumes-requires-clause-begun g c =
-    let is = c.in_ok-account.ensures in
-    let begun = some_begun c.args.order _ is.ok.0 _ record { told = is.ok.3; begins = is.ok.1; digest = is.ok.2; slot = is.custody.named; ended = is.sources.ended.0; mark = is.mark } in
-    search rules
-
-pub returns-then-is_empty : goal.returns-then-is_empty
-returns-then-is_empty g c =
-    let is = c.in_ok-account.ensures in
-    rw (c.close.ensures.refused, c.in_ok-beginning.ensures.opened)
-    (inr (
-      _,
-      c.in_ok-beginning.ensures.text,
-      one_reported _ _ _ c.args.after.now _ _ _ (eqb-true _ _ (sym c.is_empty.ensures ∙ c.if-is_empty.true))
-          (c.report_trace.ensures c.args.order is.ok.0 _ (g.F.Files.held c.args.files.now) record { told = is.ok.3; begins = is.ok.1; digest = is.ok.2; slot = is.custody.named; ended = is.sources.ended.0; mark = is.mark }),
-    ))
-
-pub returns-else-is_empty : goal.returns-else-is_empty
-returns-else-is_empty g c =
-    let is = c.in_ok-account.ensures in
-    inr (
-      _,
-      c.in_ok-beginning.ensures.text,
-      all_reported _ _ _ c.args.after.now _ _ _ (eqb-false _ _ (sym c.is_empty.ensures ∙ c.if-is_empty.false))
-          (rw (c.close.ensures.same, c.in_ok-beginning.ensures.same) at (c.report_volumes.ensures c.args.order is.ok.0 _ record { told = is.ok.3; begins = is.ok.1; digest = is.ok.2; slot = is.custody.named; ended = is.sources.ended.0; mark = is.mark })),
-    )
+pub returns : goal.returns
+returns g c =
+    rw (← c.path.ensures, c.in-Some.is, c.close.ensures.refused) (inr (_, record { old = c.in_ok-file.file; new = c.custody_from-ended.new.start; ready = c.in_ok-file.ensures.ready; seen_is = refl }, c.in_ok-file.ensures.bytes, rw c.in_ok-file.ensures.same at c.custody_from-ended.ensures))

@@ -7,10 +7,10 @@ use Rattle.kc_run.proofs.custody.read_all.Goals as goal
 pub returns-in_err-refusal-clause-read : goal.returns-in_err-refusal-clause-read
 returns-in_err-refusal-clause-read g c =
     let made = err_from_is_err_and c.from_residual.result c.from_residual.ensures.1 in
-    rw (made.1, made.2, c.requires.files) ([], record { are = refl; next = tt }, λ e. absurd cc, c.in_err-refusal.ensures)
+    rw (made.1, made.2, c.requires.files) ([], record { files = tt; are = refl; next = tt }, λ e. absurd cc, c.in_err-refusal.ensures)
 
 pub returns-in-Some-clause-read : goal.returns-in-Some-clause-read
-returns-in-Some-clause-read g c = rw c.requires.files ([], record { are = refl; next = tt }, λ e. absurd cc, rw c.in-Some.is at c.in_ok-refusal.ensures)
+returns-in-Some-clause-read g c = rw c.requires.files ([], record { files = tt; are = refl; next = tt }, λ e. absurd cc, rw c.in-Some.is at c.in_ok-refusal.ensures)
 
 pub read_files-requires-clause-told : goal.read_files-requires-clause-told
 read_files-requires-clause-told g c =

@@ -10,4 +10,4 @@ returns-in_default g c =
 pub returns : goal.returns
 returns g c =
     let done = c.replay_to_text-answer.ensures in
-    rw (c.in-Some.is, c.compared.ensures, c.close.ensures.refused, c.in_ok-file.ensures.opened) (inr (_, c.in_ok-file.ensures.bytes, compares _ _ _ _ _ _ _ c.replay_to_text-answer.result refl done.answered done.ok done.difference done.sources done.texts done.replay done.sink))
+    rw (c.in-Some.is, c.compared.ensures, c.close.ensures.refused, c.in_ok-state.ensures.opened) (inr (_, record { old = c.in_ok-state.state; new = c.replay_to_text-answer.new.to; ready = c.in_ok-state.ensures.ready; seen_is = refl }, c.in_ok-state.ensures.bytes, compares _ _ _ _ _ _ _ c.replay_to_text-answer.result refl done.answered done.ok done.difference done.sources done.texts done.replay done.sink))
