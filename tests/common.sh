@@ -16,6 +16,13 @@ count() {
 # not_tried WHAT WHY: reports what this machine cannot try.
 not_tried() { echo "not tried: $1: $2"; }
 
+# takes_programs FOLDER: ends the script if no program may be executed in a folder.
+takes_programs() {
+    printf '#!/bin/sh\n' > "$1/script" && chmod 755 "$1/script" && "$1/script" 2> /dev/null && rm "$1/script" && return
+    echo "no program may be executed in $1: TMPDIR may name another folder" >&2
+    exit 2
+}
+
 # ends: prints the last line, which bin/test reads, and ends the script.
 ends() {
     echo "$passed passed, $failed failed"
