@@ -13,6 +13,19 @@ count() {
     fi
 }
 
+# adds FILE: prints what another script printed, and adds its checks, which its last line counts.
+adds() {
+    local last
+    last=$(tail -n 1 "$1")
+    if [[ $last =~ ^([0-9]+)\ passed,\ ([0-9]+)\ failed$ ]]; then
+        passed=$((passed + BASH_REMATCH[1]))
+        failed=$((failed + BASH_REMATCH[2]))
+        head -n -1 "$1"
+    else
+        count 1 "its last line has its counts" "$(tail -n 3 "$1")"
+    fi
+}
+
 # not_tried WHAT WHY: reports what this machine cannot try.
 not_tried() { echo "not tried: $1: $2"; }
 
