@@ -26,7 +26,7 @@ FORGED = b"PWNED: my code in"
 def files_of_start():
     """The names of all files from 0 on."""
     names = []
-    for file in range(64):
+    for file in range(256):
         with contextlib.suppress(OSError):
             names.append(os.readlink(f"/proc/self/fd/{file}").split(":")[0].removesuffix(" (deleted)"))
     return names
@@ -261,6 +261,20 @@ def staying(host):
     time.sleep(3600)
 
 
+def separating(host):
+    """Makes namespaces, by each call that does."""
+    libc, kinds = ctypes.CDLL(None, use_errno=True), (0x20000, 0x2000000, 0x4000000, 0x8000000, 0x10000000, 0x20000000, 0x40000000)
+    for name, call in (("unshare", lambda kind: libc.unshare(kind)),
+                       ("clone", lambda kind: libc.syscall(56, kind | signal.SIGCHLD, 0, 0, 0, 0)),
+                       ("clone3", lambda kind: libc.syscall(435, struct.pack("<11Q", kind, *[0] * 10), 88))):
+        made = 0
+        for kind in kinds:
+            if not os.fork():
+                os._exit(call(kind) >= 0)
+            made += os.waitstatus_to_exitcode(os.wait()[1])
+        say(f"{name}: {made} made")
+
+
 def stopping(host):
     host.boot_all()
     host.run_all()
@@ -342,7 +356,7 @@ def main(name, *words):
     {it.__name__: it for it in HOSTS}[name](host)
 
 
-HOSTS = [good, elsewhere, omitted, added, exchanged, unnamed, processors, knowing, lingering, forking, staying, stopping,
-         unread, deaf, talking, forging, typing, pieces, holding]
+HOSTS = [good, elsewhere, omitted, added, exchanged, unnamed, processors, knowing, lingering, forking, staying, separating,
+         stopping, unread, deaf, talking, forging, typing, pieces, holding]
 if __name__ == "__main__":
     main(*sys.argv[1:])

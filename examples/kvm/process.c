@@ -9,6 +9,9 @@
 #include <errno.h>
 #include <fcntl.h>
 #include <grp.h>
+#include <linux/audit.h>
+#include <linux/filter.h>
+#include <linux/seccomp.h>
 #include <poll.h>
 #include <sched.h>
 #include <signal.h>
@@ -40,12 +43,36 @@ static void place_files(const struct beginning *it) {
     if (close_range(it->count, ~0U, 0)) _exit(3);
 }
 
+/* Has the kernel refuse namespaces. In one of its own a user may mount a file system that answers nothing, and a process
+ * that waits for that does not end, nor does whoever waits for a pipe that it has locked. */
+static bool forbid_namespaces(void) {
+    const unsigned kinds = CLONE_NEWUSER | CLONE_NEWNS | CLONE_NEWPID | CLONE_NEWNET | CLONE_NEWIPC | CLONE_NEWUTS |
+                           CLONE_NEWCGROUP;
+    const struct sock_filter rules[] = {
+        BPF_STMT(BPF_LD | BPF_W | BPF_ABS, offsetof(struct seccomp_data, arch)),
+        BPF_JUMP(BPF_JMP | BPF_JEQ | BPF_K, AUDIT_ARCH_X86_64, 0, 8),
+        BPF_STMT(BPF_LD | BPF_W | BPF_ABS, offsetof(struct seccomp_data, nr)),
+        BPF_JUMP(BPF_JMP | BPF_JGE | BPF_K, 0x40000000, 6, 0), /* other numbers for the same calls */
+        BPF_JUMP(BPF_JMP | BPF_JEQ | BPF_K, SYS_unshare, 5, 0),
+        BPF_JUMP(BPF_JMP | BPF_JEQ | BPF_K, SYS_setns, 4, 0),
+        BPF_JUMP(BPF_JMP | BPF_JEQ | BPF_K, SYS_clone3, 4, 0), /* its flags are in memory; then clone is tried */
+        BPF_JUMP(BPF_JMP | BPF_JEQ | BPF_K, SYS_clone, 0, 4),
+        BPF_STMT(BPF_LD | BPF_W | BPF_ABS, offsetof(struct seccomp_data, args)),
+        BPF_JUMP(BPF_JMP | BPF_JSET | BPF_K, kinds, 0, 2),
+        BPF_STMT(BPF_RET | BPF_K, SECCOMP_RET_ERRNO | EPERM),
+        BPF_STMT(BPF_RET | BPF_K, SECCOMP_RET_ERRNO | ENOSYS),
+        BPF_STMT(BPF_RET | BPF_K, SECCOMP_RET_ALLOW),
+    };
+    const struct sock_fprog program = {sizeof rules / sizeof *rules, (struct sock_filter *)rules};
+    return !prctl(PR_SET_SECCOMP, SECCOMP_MODE_FILTER, &program, 0, 0);
+}
+
 /* Gives up what an untrusted process may not have: its user, if that is root, and what other programs could give it. */
 static void give_up(const struct beginning *it) {
     if (it->is_root &&
         (setgroups(0, NULL) || setresgid(NOBODY, NOBODY, NOBODY) || setresuid(NOBODY, NOBODY, NOBODY)))
         _exit(3);
-    if (prctl(PR_SET_NO_NEW_PRIVS, 1, 0, 0, 0) || prctl(PR_SET_PDEATHSIG, SIGKILL)) _exit(3);
+    if (prctl(PR_SET_NO_NEW_PRIVS, 1, 0, 0, 0) || prctl(PR_SET_PDEATHSIG, SIGKILL) || !forbid_namespaces()) _exit(3);
 }
 
 /* A host's program: its words, those of the protocol, and of the environment only the path. */
@@ -111,8 +138,9 @@ static pid_t start(struct beginning *it) {
     static _Alignas(16) char stack[STACK];
     const int flags = it->is_root ? CLONE_NEWPID : CLONE_NEWUSER | CLONE_NEWPID;
     pid_t first = clone(wait_for_host, stack + STACK, flags | SIGCHLD, it);
-    if (first < 0) first = clone(wait_for_host, stack + STACK, SIGCHLD, it);
-    if (first < 0) fail("the host's process");
+    if (first >= 0) return first;
+    print_line(OF_MONITOR, "monitor: no PID namespace for the host: %s", strerror(errno));
+    if ((first = clone(wait_for_host, stack + STACK, SIGCHLD, it)) < 0) fail("the host's process");
     return first;
 }
 
