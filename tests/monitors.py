@@ -69,7 +69,8 @@ MISTAKES = [
             "               !pthread_cond_wait(&output.moved, &output.lock))\n"),
     Mistake("what the host writes into its own memory is a fault", "mmu.c",
             "        is_wrong |= has_page(memory->pages, record.gfn) == is_shared;\n",
-            "        is_wrong |= has_page(memory->pages, record.gfn) == is_shared || (!is_shared && has_page(mmu->host, frame));\n"),
+            "        is_wrong |= has_page(memory->pages, record.gfn) == is_shared;\n"
+            "        is_wrong |= !is_shared && has_page(mmu->host, frame);\n"),
     Mistake("an image may be anywhere", "guest.c",
             " || guest->images[image].base != base ||\n",
             " ||\n"),
@@ -78,7 +79,7 @@ MISTAKES = [
             "    return guest->boot;\n"),
     Mistake("an image may be another guest's", "guest.c",
             " || !has_bytes(guest, base, file, from, length))\n",
-            ")\n"),
+            " || (!has_bytes(guest, base, file, from, length) && !guest))\n"),
     Mistake("a guest may have more processors", "guest.c",
             "guest->is_as_named && number < guest->boot->vcpus; number++)\n",
             "guest->is_as_named && number < VCPUS; number++)\n"),
@@ -86,14 +87,11 @@ MISTAKES = [
             '".%05u"',
             '".%u"'),
     Mistake("a volume is listed when it begins", "core.c",
-            "    keep_state(core, core->volume + 1);\n    list_volume(core);\n    if (core->published",
-            "    keep_state(core, core->volume + 1);\n    core->volume++, list_volume(core), core->volume--;\n"
-            "    if (core->published"),
+            "    list_volume(core);\n",
+            "    core->volume++, list_volume(core), core->volume--;\n"),
     Mistake("what is published is of the volume after it", "core.c",
-            "    expect(kcore_turn(&core->session), \"kcore_turn\");\n    keep_state(core, core->volume + 1);\n    list",
-            "    expect(kcore_turn(&core->session), \"kcore_turn\");\n"
-            "    expect(kcore_digest(&core->session, digest, sizeof digest, &used), \"kcore_digest\");\n"
-            "    keep_state(core, core->volume + 1);\n    list"),
+            '    if (core->published >= 0) add(core->published, "what is published", line, length);\n',
+            '    if (length) add(core->published, "what is published", line, published_line(core, line));\n'),
     Mistake("what is past an image's end stays", "guest.c",
             "        if (end) mmu_zero_end(",
             "        if (0) mmu_zero_end("),

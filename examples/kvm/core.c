@@ -95,21 +95,26 @@ static void list_volume(struct core *core) {
     add(core->list, "the list of volumes", line, length);
 }
 
-/* Ends a volume: what is listed is whole, and what is published is listed, whenever this program is killed. */
-static void end_volume(struct core *core) {
-    char digits[65], line[200];
+/* The line that is published of a volume: its number, its calls so far, and the digest of their redacted text. */
+static int published_line(struct core *core, char line[200]) {
+    char digits[65];
     uint8_t digest[32];
     size_t used;
-    if (close(core->trace)) fail("the trace");
-    expect(kcore_digest(&core->session, digest, sizeof digest, &used), "kcore_digest");
     unsigned calls = core->written - 1; /* the header is a line too */
+    expect(kcore_digest(&core->session, digest, sizeof digest, &used), "kcore_digest");
+    digits_of(digest, digits);
+    return snprintf(line, 200, "{\"volume\":%u,\"calls\":%u,\"trace_sha256\":\"%s\"}\n", core->volume, calls, digits);
+}
+
+/* Ends a volume. What is listed is whole, and what is published is listed, whenever this program is killed. */
+static void end_volume(struct core *core) {
+    char line[200];
+    int length = core->published < 0 ? 0 : published_line(core, line);
+    if (close(core->trace)) fail("the trace");
     expect(kcore_turn(&core->session), "kcore_turn");
     keep_state(core, core->volume + 1);
     list_volume(core);
-    if (core->published < 0) return;
-    digits_of(digest, digits);
-    add(core->published, "what is published", line,
-        snprintf(line, sizeof line, "{\"volume\":%u,\"calls\":%u,\"trace_sha256\":\"%s\"}\n", core->volume, calls, digits));
+    if (core->published >= 0) add(core->published, "what is published", line, length);
 }
 
 static void next_volume(struct core *core) {

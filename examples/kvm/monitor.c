@@ -108,7 +108,8 @@ static struct options read_options(char **words) {
         else if (!strcmp(word, "--storm")) options.plan.storm = number_of(next);
         else refuse(word);
     }
-    if (options.resumed && (options.published || options.record || options.plan.count)) refuse(options.resumed);
+    if (options.resumed && (options.published || options.record || options.plan.count || options.plan.words))
+        refuse("--resume goes with --trace, --redacted and --states only");
     if (options.plan.count || options.resumed) return options;
     for (unsigned guest = 0; guest < sizeof usual / sizeof *usual; guest++)
         if (!access(usual[guest][0], R_OK)) read_guest(&options, usual[guest][1]);
@@ -248,7 +249,8 @@ static int start(struct monitor *monitor, struct options *options, pthread_t *se
     open_kvm(monitor);
     monitor->served = eventfd(0, EFD_CLOEXEC);
     monitor->stop = eventfd(0, EFD_CLOEXEC);
-    if (monitor->served < 0 || monitor->stop < 0 || pthread_create(serving, NULL, serve_host, monitor)) fail("a thread");
+    if (monitor->served < 0 || monitor->stop < 0) fail("an event");
+    if (pthread_create(serving, NULL, serve_host, monitor)) fail("a thread");
     return signals;
 }
 

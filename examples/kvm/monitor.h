@@ -204,8 +204,8 @@ void guest_close(struct guest *guest);
 
 /* Serves the host's calls, and prints what it prints, until it is stopped: a thread. */
 void *serve_host(void *monitor);
-/* Sends the host a line: what happened (fault, notified or ended), slot, virtual processor, a number. It waits for room,
- * for as long as the guest does not end. Called without the lock. */
+/* Sends the host a line: what happened (fault, notified or ended), slot, virtual processor, a number. It waits for room
+ * as long as the guest does not end, so it is called without the lock. */
 void monitor_event(struct monitor *monitor, const char *name, const struct vcpu *vcpu, uint32_t number);
 
 /* Microseconds of the clock. */

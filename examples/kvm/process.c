@@ -43,8 +43,8 @@ static void place_files(const struct beginning *it) {
     if (close_range(it->count, ~0U, 0)) _exit(3);
 }
 
-/* Has the kernel refuse namespaces. In one of its own a user may mount a file system that answers nothing, and a process
- * that waits for that does not end, nor does whoever waits for a pipe that it has locked. */
+/* Has the kernel refuse namespaces. In one of its own a user may mount a file system that answers nothing; a process that
+ * waits for it cannot be ended, nor can whoever waits for a pipe that this process has locked. */
 static bool forbid_namespaces(void) {
     const unsigned kinds = CLONE_NEWUSER | CLONE_NEWNS | CLONE_NEWPID | CLONE_NEWNET | CLONE_NEWIPC | CLONE_NEWUTS |
                            CLONE_NEWCGROUP;
@@ -146,7 +146,7 @@ static pid_t start(struct beginning *it) {
 
 void host_start(struct host_process *host, const struct plan *plan, int memory) {
     struct beginning it = {.plan = plan, .count = IMAGE_FILES, .is_root = !geteuid()};
-    it.files[0] = open("/dev/null", O_RDONLY | O_CLOEXEC);
+    if ((it.files[0] = open("/dev/null", O_RDONLY | O_CLOEXEC)) < 0) fail("/dev/null");
     it.files[MEMORY] = memory;
     open_pipe(&host->output, &it.files[1], true);
     it.files[2] = it.files[1];
