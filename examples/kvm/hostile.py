@@ -28,7 +28,7 @@ def files_of_start():
     names = []
     for file in range(256):
         with contextlib.suppress(OSError):
-            names.append(os.readlink(f"/proc/self/fd/{file}").split(":")[0].removesuffix(" (deleted)"))
+            names.append(os.path.basename(os.readlink(f"/proc/self/fd/{file}").split(":")[0]))
     return names
 
 
@@ -263,7 +263,9 @@ def staying(host):
 
 def separating(host):
     """Makes namespaces, by each call that does."""
-    libc, kinds = ctypes.CDLL(None, use_errno=True), (0x20000, 0x2000000, 0x4000000, 0x8000000, 0x10000000, 0x20000000, 0x40000000)
+    libc = ctypes.CDLL(None)
+    # for mounts, cgroups, names, IPC, users, processes, networks
+    kinds = 0x20000, 0x2000000, 0x4000000, 0x8000000, 0x10000000, 0x20000000, 0x40000000
     for name, call in (("unshare", lambda kind: libc.unshare(kind)),
                        ("clone", lambda kind: libc.syscall(56, kind | signal.SIGCHLD, 0, 0, 0, 0)),
                        ("clone3", lambda kind: libc.syscall(435, struct.pack("<11Q", kind, *[0] * 10), 88))):
@@ -336,7 +338,7 @@ def pieces(host):
     time.sleep(0.1)
     os.write(CALLS, b"ke\ntake\n\n" + b"a" * 16383 + b"\n" + b"take 1")
     os.write(CALLS, b"a" * 100000 + b"\ntake\n" + b"take\0\n")
-    say("replies:", [host.reply().split(" ")[0] for _ in range(7)])
+    say("replies:", *(host.reply().split(" ")[0] for _ in range(7)))
 
 
 def holding(host):
@@ -356,7 +358,7 @@ def main(name, *words):
     {it.__name__: it for it in HOSTS}[name](host)
 
 
-HOSTS = [good, elsewhere, omitted, added, exchanged, unnamed, processors, knowing, lingering, forking, staying, separating,
-         stopping, unread, deaf, talking, forging, typing, pieces, holding]
+HOSTS = [good, elsewhere, omitted, added, exchanged, unnamed, processors, knowing, lingering, forking, staying,
+         separating, stopping, unread, deaf, talking, forging, typing, pieces, holding]
 if __name__ == "__main__":
     main(*sys.argv[1:])

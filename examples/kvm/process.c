@@ -43,8 +43,8 @@ static void place_files(const struct beginning *it) {
     if (close_range(it->count, ~0U, 0)) _exit(3);
 }
 
-/* Has the kernel refuse namespaces. In one of its own a user may mount a file system that answers nothing; a process that
- * waits for it cannot be ended, nor can whoever waits for a pipe that this process has locked. */
+/* Has the kernel refuse namespaces. In one of its own a user may mount a file system that answers nothing; a process
+ * that waits for it cannot be ended, nor can whoever waits for a pipe that this process has locked. */
 static bool forbid_namespaces(void) {
     const unsigned kinds = CLONE_NEWUSER | CLONE_NEWNS | CLONE_NEWPID | CLONE_NEWNET | CLONE_NEWIPC | CLONE_NEWUTS |
                            CLONE_NEWCGROUP;
