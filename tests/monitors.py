@@ -1,5 +1,208 @@
-"""Monitors with a mistake each, edits of examples/kvm, which the checks of tests/kvm have to find."""
+"""How tests/kvm makes and runs the monitor of examples/kvm, and monitors with a mistake each, which its checks have to
+find."""
+import json
+import os
+import re
+import shutil
+import subprocess
+import sys
+import time
 import typing
+
+from common import PROGRAM, TOP
+
+EXAMPLE = TOP / "examples" / "kvm"
+SECONDS = 600
+COMPARED = re.compile(
+    r"monitor: (\d+) calls, (\d+) faults, (\d+) exits; (\d+) frames: (\d+) private pages, (\d+) shared, "
+    r"(\d+) otherwise than the record")
+OVER = "monitor: the time is over"
+
+
+def is_made(results, folder, made_by=None, sources=EXAMPLE):
+    """Makes the monitor and its guests in a folder, over a library that is named or the one that make finds."""
+    include = os.environ.get("INCLUDE", TOP / "include")
+    library = [f"LIBRARY={made_by}", f"INCLUDE={include}"] if made_by else []
+    words = ["make", "-s", "-C", sources, f"OUT={folder}", *library, "BIOS=", "KERNEL="]
+    environment = {name: value for name, value in os.environ.items() if name not in ("LIBRARY", "INCLUDE", "OUT")}
+    ran = subprocess.run(words, stdout=subprocess.PIPE, stderr=subprocess.STDOUT, text=True, env=environment)
+    is_quiet = results.count(not ran.returncode and not ran.stdout, "it compiles without a word", ran.stdout)
+    if is_quiet:
+        talk = (folder / "talk").read_bytes()
+        (folder / "other").write_bytes(talk.replace(b"hello from guest ", b"hallo from guest "))
+        shutil.copy(EXAMPLE / "hostile.py", folder)
+        (folder / "hostile.py").chmod(0o755)
+    return is_quiet
+
+
+def boot_record(frame, sizes):
+    owner = "core" if frame < sizes["core"] else "host" if frame < sizes["core"] + sizes["host"] else "free"
+    return owner, None, 0, False
+
+
+def records_of_custody(lines):
+    """The record of each frame, as the changes that custody reports from boot on leave it."""
+    records = [boot_record(frame, lines[0]) for frame in range(lines[0]["frames"])]
+    for line in lines:
+        if "frame" in line:
+            to = line["to"]
+            records[line["frame"]] = to["owner"], to["gfn"], to["share"], to["present"]
+    return records
+
+
+def records_of_monitor(text):
+    for line in text.splitlines():
+        _, owner, gfn, share, present = line.split()
+        yield owner, None if gfn == "-" else int(gfn), int(share), present == "1"
+
+
+def records_of_dump(text):
+    for line in text.splitlines():
+        if line.startswith("frame "):
+            _, _, owner, share, gfn, present, *_ = line.split()
+            owner = f"vm{owner}" if owner.isdigit() else owner
+            yield owner, None if gfn == "-" else int(gfn), int(share), present == "1"
+
+
+class NotInTime(Exception):
+    """How far a part had come when its time was over."""
+
+
+class Trial:
+    """A folder with the monitor that was made, and what its runs leave there; a run takes up to this many seconds."""
+
+    def __init__(self, results, folder, seconds=SECONDS):
+        self.results, self.folder, self.seconds, self.started = results, folder, seconds, []
+
+    def count(self, is_well, said, more=""):
+        return self.results.count(is_well, f"{self.said}: {said}", more)
+
+    def machine(self, frames, host):
+        name = f"machine-{frames}.json"
+        files = [self.folder / image for image in ("talk", "other", "storm", "bios") if (self.folder / image).exists()]
+        words = [sys.executable, "-B", EXAMPLE / "machine.py", str(frames), str(host), *files]
+        (self.folder / name).write_bytes(subprocess.run(words, stdout=subprocess.PIPE, check=True).stdout)
+        return self.folder / name
+
+    def words(self, said, config, *words, seconds=None):
+        """The command line of a run, whose files begin with trace."""
+        self.said, self.config, self.limit = said, config, seconds or self.seconds
+        self.trace, self.record = self.folder / "trace", self.folder / "record"
+        for file in self.folder.glob("trace*"):
+            file.unlink()
+        common = ["--config", config, "--trace", self.trace, "--record", self.record, "--seconds", self.limit]
+        return [self.folder / "monitor", *map(str, common), *(str(word).format(out=self.folder) for word in words)]
+
+    def start(self, said, config, *words, seconds=None, **streams):
+        streams = {"stdin": subprocess.DEVNULL, "stdout": subprocess.PIPE, "stderr": subprocess.STDOUT} | streams
+        words = self.words(said, config, *words, seconds=seconds)
+        self.started.append(subprocess.Popen(words, cwd=self.folder, text=True, **streams))
+        return self.started[-1]
+
+    def try_part(self, part, sizes):
+        """Tries a part. Whatever comes of it, none of its runs goes on."""
+        try:
+            part(self, self.machine(*sizes))
+        finally:
+            for process in self.started:
+                process.kill()
+                process.wait()
+            self.started.clear()
+
+    def ended(self, process, status=0, is_cut_off=False):
+        """Waits until a run has ended, and returns its lines. If its time was over, that is an error of the monitor's
+        only if it does not end then; unless it was meant to be cut off, the part is not tried."""
+        try:
+            output = process.communicate(timeout=self.limit + 30)[0]
+        except subprocess.TimeoutExpired:
+            process.kill()
+            output = process.communicate()[0]
+        lines = output.splitlines()
+        if not is_cut_off and OVER in lines:
+            calls = [match[1] for match in map(COMPARED.fullmatch, lines) if match]
+            raise NotInTime(f"it had made {calls[-1] if calls else 'no'} calls after {self.limit} seconds")
+        self.count(process.returncode == status, "it ends well", f"status {process.returncode}: {output[-300:]}")
+        return lines
+
+    def run(self, said, config, *words):
+        return self.ended(self.start(said, config, *words))
+
+    def hosted(self, said, config, guests, name, seconds=None):
+        """Runs the monitor with a host of hostile.py. Whatever that does, the MMU is as the record says, the trace is
+        replayed, and the run ends in time. Returns what the host printed, and all lines."""
+        begun = time.monotonic()
+        lines = self.ended(self.start(said, config, *guests, "--", self.folder / "hostile.py", name, seconds=seconds),
+                           is_cut_off=seconds)
+        took = time.monotonic() - begun
+        self.count(not seconds or took < seconds + 20, "it ends in time", f"after {took:.0f} seconds")
+        self.compared(lines)
+        self.audited()
+        return [line.removeprefix("host: ") for line in lines if line.startswith("host: ")], lines
+
+    def compared(self, lines, times=1):
+        """The MMU itself is as the record says, whenever it was looked at."""
+        found = [match for match in map(COMPARED.fullmatch, lines) if match]
+        self.count(len(found) >= times and all(match[7] == "0" for match in found), "the MMU is that of the record",
+                   "; ".join(match[0] for match in found))
+        return found[-1] if found else None
+
+    def volumes(self):
+        """The volumes, in the order of their names."""
+        return [self.trace, *sorted(self.folder.glob("trace.[0-9][0-9][0-9][0-9][0-9]"))]
+
+    def state(self, number):
+        """The text of the state in which a volume begins."""
+        return self.folder / f"trace.{number:05}.state"
+
+    def kcore(self, *words, stdin):
+        with open(stdin, "rb") as given:
+            return subprocess.run([PROGRAM, *words], stdin=given, capture_output=True, text=True)
+
+    def replayed(self):
+        """Replays each volume from the state that the last one left. Returns the dump at the end, and all changes."""
+        began, changes, said = ("--config", self.config), [], ""
+        for volume in self.volumes():
+            custody = self.kcore("custody", *began, stdin=volume)
+            dump = self.kcore("replay", *began, "--dump", stdin=volume)
+            state = self.kcore("replay", *began, "--state", stdin=volume)
+            (self.folder / "state").write_text(state.stdout)
+            began = "--from", self.folder / "state"
+            changes += map(json.loads, custody.stdout.splitlines())
+            said += custody.stderr + dump.stderr + state.stderr
+        self.count(not said, "its trace is replayed", said[:200])
+        return dump.stdout, changes
+
+    def audited(self, has_record=True):
+        """The replayed trace: its dump has no findings, and dump and custody have the monitor's records."""
+        dump, changes = self.replayed()
+        (self.folder / "dump").write_text(dump)
+        audit = self.kcore("audit", stdin=self.folder / "dump")
+        self.count(audit.stdout.startswith('{"findings":0'), "its audit finds nothing", audit.stdout + audit.stderr)
+        if not changes:
+            return
+        reported, left = records_of_custody(changes), list(records_of_dump(dump))
+        self.count(reported == left, "custody leaves the replayed records")
+        if has_record:
+            kept = list(records_of_monitor(self.record.read_text()))
+            wrong = [frame for frame, pair in enumerate(zip(reported, kept)) if pair[0] != pair[1]]
+            is_same = len(reported) == len(kept) and not wrong
+            self.count(is_same, "custody leaves the monitor's records", f"frames {wrong[:5]}")
+        picture = self.kcore("custody", "--config", self.config, "--svg", stdin=self.trace)
+        self.count(not picture.returncode and picture.stdout.startswith("<svg"), "it has a picture", picture.stderr)
+
+
+def waits(trial, is_so):
+    """Waits until something is so, for as long as a run may take."""
+    end = time.monotonic() + trial.limit
+    while not is_so():
+        if time.monotonic() > end:
+            raise NotInTime(f"it had not come as far after {trial.limit} seconds")
+        time.sleep(0.05)
+
+
+def has_calls(trial, count):
+    """Waits until the trace has this many calls."""
+    waits(trial, lambda: trial.trace.exists() and trial.trace.read_bytes().count(b"\n") > count)
 
 
 class Mistake(typing.NamedTuple):
@@ -37,15 +240,61 @@ MISTAKES = [
     Mistake("a call is not in the trace", "core.c",
             "    write_trace(core);\n    expect(kcore_changes(",
             "    expect(kcore_changes("),
-    Mistake("the core does not get the bytes of images", "monitor.c",
+    Mistake("the core does not get the bytes of images", "calls.c",
             '    bool has_copy = is_call(line, "remap", 3, n) &&',
             "    bool has_copy = false &&"),
-    Mistake("a guest runs on when it is cleared", "monitor.c",
+    Mistake("a guest runs on when it is cleared", "calls.c",
             "    if (cleared) guest_end(cleared);\n",
             ""),
-    Mistake("the host keeps the user", "monitor.c",
-            "    if (!geteuid() &&",
-            "    if (0 &&"),
+    Mistake("the host keeps the user", "process.c",
+            "    if (it->is_root &&",
+            "    if (!it->is_root &&"),
+    Mistake("the host keeps the terminal", "process.c",
+            "    if (setsid() < 0 || prctl(",
+            "    if (prctl("),
+    Mistake("the host makes namespaces", "process.c",
+            " || !forbid_namespaces()) _exit(3);",
+            ") _exit(forbid_namespaces() ? 3 : 2);"),
+    Mistake("the host prints as the monitor", "process.c",
+            "    it.files[2] = it.files[1];\n",
+            "    it.files[2] = 2;\n"),
+    Mistake("the host inherits files", "process.c",
+            "    if (close_range(it->count, ~0U, 0)) _exit(3);\n",
+            ""),
+    Mistake("what the host leaves outlives the monitor", "process.c",
+            "    const int flags = it->is_root ? CLONE_NEWPID : CLONE_NEWUSER | CLONE_NEWPID;\n",
+            "    const int flags = CLONE_NEWUTS;\n"),
+    Mistake("printing waits for whoever reads", "output.c",
+            "    if (output.left_out || !keep(source, text, length)) output.left_out++;\n",
+            "    if (write(STDOUT_FILENO, text, length) < 0 || source > OF_MONITOR) keep(source, text, length);\n"),
+    Mistake("the run waits for the last line to be read", "output.c",
+            "               !pthread_cond_clockwait(&output.moved, &output.lock, CLOCK_MONOTONIC, &end))\n",
+            "               !pthread_cond_wait(&output.moved, &output.lock))\n"),
+    Mistake("what the host writes into its own memory is a fault", "mmu.c",
+            "        is_wrong |= has_page(memory->pages, record.gfn) == is_shared;\n",
+            "        is_wrong |= has_page(memory->pages, record.gfn) == is_shared;\n"
+            "        is_wrong |= !is_shared && has_page(mmu->host, frame);\n"),
+    Mistake("an image may be anywhere", "guest.c",
+            " || guest->images[image].base != base ||\n",
+            " ||\n"),
+    Mistake("an image more may be there", "guest.c",
+            "    return guest->boot && image == guest->image_count;\n",
+            "    return guest->boot;\n"),
+    Mistake("an image may be another guest's", "guest.c",
+            " || !has_bytes(guest, base, file, from, length))\n",
+            " || (!has_bytes(guest, base, file, from, length) && !guest))\n"),
+    Mistake("a guest may have more processors", "guest.c",
+            "guest->is_as_named && number < guest->boot->vcpus; number++)\n",
+            "guest->is_as_named && number < VCPUS; number++)\n"),
+    Mistake("names of volumes do not sort", "core.c",
+            '".%05u"',
+            '".%u"'),
+    Mistake("a volume is listed when it begins", "core.c",
+            "    list_volume(core);\n",
+            "    core->volume++, list_volume(core), core->volume--;\n"),
+    Mistake("what is published is of the volume after it", "core.c",
+            '    if (core->published >= 0) add(core->published, "what is published", line, length);\n',
+            '    if (length) add(core->published, "what is published", line, published_line(core, line));\n'),
     Mistake("what is past an image's end stays", "guest.c",
             "        if (end) mmu_zero_end(",
             "        if (0) mmu_zero_end("),

@@ -20,14 +20,14 @@ double now(void) {
 /* Ends the program for a status that no caller of the monitor's can bring about. */
 static void expect(uint32_t status, const char *what) {
     if (status == KCORE_DONE) return;
-    fprintf(stderr, "monitor: %s: status %u\n", what, (unsigned)status);
-    exit(3);
+    end_with("%s: status %u", what, (unsigned)status);
 }
 
-/* The file of a volume: TRACE for the first, TRACE.N for volume N. */
+/* A file of a volume: TRACE for the first trace, and with a number of five digits for all others, so that their names
+ * sort in their order. */
 static void volume_path(const struct core *core, unsigned volume, const char *end, char path[PATH_MAX]) {
     char number[16] = "";
-    if (volume > 1) snprintf(number, sizeof number, ".%u", volume);
+    if (volume > 1 || *end) snprintf(number, sizeof number, ".%05u", volume);
     if (snprintf(path, PATH_MAX, "%s%s%s", core->path, number, end) < PATH_MAX) return;
     errno = ENAMETOOLONG;
     fail("the trace");
@@ -69,10 +69,56 @@ static void write_trace(struct core *core) {
     if (status != KCORE_NO_SUCH_LINE) expect(status, "kcore_line");
 }
 
-static void next_volume(struct core *core) {
+/* Adds a line to a file. */
+static void add(int file, const char *what, const char *line, int length) {
+    if (length < 0 || write(file, line, length) != length) fail(what);
+}
+
+static void digits_of(const uint8_t *digest, char digits[65]) {
+    for (int byte = 0; byte < 32; byte++) sprintf(digits + 2 * byte, "%02x", digest[byte]);
+}
+
+static const char *name_of(const char *path) {
+    const char *slash = strrchr(path, '/');
+    return slash ? slash + 1 : path;
+}
+
+/* Lists a volume that has ended: the names of its trace and, if they are kept, of the states before and after it. */
+static void list_volume(struct core *core) {
+    char trace[PATH_MAX], before[PATH_MAX], after[PATH_MAX], line[3 * PATH_MAX];
+    volume_path(core, core->volume, "", trace);
+    volume_path(core, core->volume, ".state", before);
+    volume_path(core, core->volume + 1, ".state", after);
+    int length = core->keeps_states ? snprintf(line, sizeof line, "%s\t%s\t%s\n", name_of(trace), name_of(before),
+                                               name_of(after))
+                                    : snprintf(line, sizeof line, "%s\n", name_of(trace));
+    add(core->list, "the list of volumes", line, length);
+}
+
+/* The line that is published of a volume: its number, its calls so far, and the digest of their redacted text. */
+static int published_line(struct core *core, char line[200]) {
+    char digits[65];
+    uint8_t digest[32];
+    size_t used;
+    unsigned calls = core->written - 1; /* the header is a line too */
+    expect(kcore_digest(&core->session, digest, sizeof digest, &used), "kcore_digest");
+    digits_of(digest, digits);
+    return snprintf(line, 200, "{\"volume\":%u,\"calls\":%u,\"trace_sha256\":\"%s\"}\n", core->volume, calls, digits);
+}
+
+/* Ends a volume. What is listed is whole, and what is published is listed, whenever this program is killed. */
+static void end_volume(struct core *core) {
+    char line[200];
+    int length = core->published < 0 ? 0 : published_line(core, line);
     if (close(core->trace)) fail("the trace");
     expect(kcore_turn(&core->session), "kcore_turn");
     keep_state(core, core->volume + 1);
+    list_volume(core);
+    if (core->published >= 0) add(core->published, "what is published", line, length);
+}
+
+static void next_volume(struct core *core) {
+    end_volume(core);
     open_volume(core);
     write_trace(core);
 }
@@ -107,17 +153,32 @@ static void resume(struct core *core, const char *path) {
     const uint8_t *text = about.st_size ? mmap(NULL, about.st_size, PROT_READ, MAP_PRIVATE, file, 0) : (uint8_t *)"";
     if (text == MAP_FAILED) fail(path);
     status = kcore_resume(&core->session, text, about.st_size, &place);
-    if (status) fprintf(stderr, "monitor: %s: refused at %u\n", path, (unsigned)place);
-    expect(status, path);
+    if (status) end_with("%s: refused at %u: status %u", path, (unsigned)place, (unsigned)status);
     if (about.st_size) munmap((void *)text, about.st_size);
     close(file);
+}
+
+/* Adds the digest of the configuration to what is published. */
+static void publish_configuration(struct core *core, const char *text, size_t length) {
+    char line[200], digits[65];
+    sha256(text, length, digits);
+    add(core->published, "what is published", line,
+        snprintf(line, sizeof line, "{\"config_sha256\":\"%s\"}\n", digits));
 }
 
 static void boot(struct core *core, const char *path) {
     size_t length;
     char *text = read_whole(path, &length);
     expect(kcore_boot(&core->session, (const uint8_t *)text, length), path);
+    if (core->published >= 0) publish_configuration(core, text, length);
     free(text);
+}
+
+void core_publish(struct core *core, const char *path) {
+    struct stat about;
+    core->published = open(path, O_WRONLY | O_CREAT | O_APPEND | O_CLOEXEC, 0644);
+    if (core->published < 0 || fstat(core->published, &about)) fail(path);
+    if (S_ISREG(about.st_mode) && about.st_size) end_with("%s: it has another history", path);
 }
 
 void core_open(struct core *core, const char *path, bool is_state) {
@@ -133,16 +194,20 @@ void core_open(struct core *core, const char *path, bool is_state) {
 }
 
 void core_trace(struct core *core, const char *trace, bool redacted) {
+    char path[PATH_MAX];
     core->path = trace;
     core->redacted = redacted;
+    if (snprintf(path, sizeof path, "%s.list", trace) >= (int)sizeof path) errno = ENAMETOOLONG, fail("the list");
+    core->list = open(path, O_WRONLY | O_CREAT | O_TRUNC | O_APPEND | O_CLOEXEC, 0600);
+    if (core->list < 0) fail(path);
     keep_state(core, core->volume + 1);
     open_volume(core);
     write_trace(core);
 }
 
 void core_close(struct core *core) {
-    if (close(core->trace)) fail("the trace");
-    keep_state(core, core->volume + 1);
+    end_volume(core);
+    if (close(core->list) || (core->published >= 0 && close(core->published))) fail("the list of volumes");
     expect(kcore_end(&core->session), "kcore_end");
     free(core->reply);
     free(core->line);

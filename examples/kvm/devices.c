@@ -6,13 +6,10 @@
 enum { SERIAL = 0x3f8, DEBUG = 0xe9, FIRMWARE_DEBUG = 0x402, CMOS = 0x70, KEYBOARD = 0x64 };
 enum { DATA, INTERRUPTS, IDENTITY, LINE_CONTROL, MODEM_CONTROL, LINE_STATUS, MODEM_STATUS };
 
-/* A character of the guest's output, which is printed by lines. */
 static void print(struct devices *devices, unsigned vm, char character) {
-    if (character == '\r') return;
-    if (character != '\n') devices->line[devices->length++] = character >= ' ' && character < 127 ? character : '.';
-    if (character != '\n' && devices->length < sizeof devices->line) return;
-    printf("guest %u: %.*s\n", vm, (int)devices->length, devices->line);
-    devices->length = 0;
+    char name[20];
+    snprintf(name, sizeof name, "guest %u", vm);
+    print_character(&devices->line, OF_GUEST, name, character);
 }
 
 /* Whether the first two registers are the line's speed. */

@@ -10,6 +10,7 @@
 #include <sys/eventfd.h>
 #include <sys/ioctl.h>
 #include <sys/mman.h>
+#include <sys/stat.h>
 #include <unistd.h>
 
 /* The ports of 32 bits by which a guest calls. A write to one of the first five is a call: bits 0 to 17 are the guest
@@ -93,7 +94,10 @@ void guest_open(struct monitor *monitor, unsigned slot) {
     if (!guest) fail("memory");
     guest->monitor = monitor;
     guest->slot = slot;
-    guest->mode = monitor->modes[slot];
+    if (slot < monitor->plan->count) {
+        guest->boot = &monitor->plan->boots[slot];
+        guest->mode = monitor->modes[slot];
+    }
     guest->users = 1;
     for (unsigned number = 0; number < VCPUS; number++) {
         guest->vcpus[number].guest = guest;
@@ -197,12 +201,43 @@ static void create_vcpu(struct vcpu *vcpu) {
     set_registers(vcpu);
 }
 
+/* Whether its private pages from a guest frame on have these bytes of a file. */
+static bool has_bytes(const struct guest *guest, uint32_t gfn, int file, off_t from, size_t length) {
+    uint8_t guests[PAGE], files[PAGE];
+    for (size_t at = 0; at < length; at += PAGE) {
+        ssize_t part = length - at < PAGE ? length - at : PAGE;
+        if (pread(guest->memory.pages, guests, part, (off_t)gfn * PAGE + at) != part) fail("a page is not read");
+        if (pread(file, files, part, from + at) != part || memcmp(guests, files, part)) return false;
+    }
+    return true;
+}
+
+/* Whether its images are those that the command line has for it, one after another: each MiB of a file is one. An
+ * approval is of the bytes of an image; where it is, and which others are there, decides what they mean. */
+static bool has_named_images(const struct guest *guest) {
+    unsigned image = 0;
+    for (unsigned part = 0; guest->boot && part < guest->boot->count; part++) {
+        int file = guest->boot->parts[part].file;
+        struct stat about;
+        if (fstat(file, &about)) fail("an image");
+        for (off_t from = 0; from < about.st_size; from += IMAGE, image++) {
+            uint32_t base = guest->boot->parts[part].base + from / PAGE;
+            off_t length = about.st_size - from < IMAGE ? about.st_size - from : IMAGE;
+            if (image == guest->image_count || guest->images[image].base != base ||
+                guest->images[image].length != length || !has_bytes(guest, base, file, from, length))
+                return false;
+        }
+    }
+    return guest->boot && image == guest->image_count;
+}
+
 void guest_activate(struct guest *guest) {
+    guest->is_as_named = has_named_images(guest);
     for (unsigned number = 0; number < guest->image_count; number++) {
         uint32_t length = guest->images[number].length, end = length % PAGE;
         if (end) mmu_zero_end(&guest->monitor->mmu, guest->slot, guest->images[number].base + length / PAGE, end);
     }
-    for (unsigned number = 0; number < VCPUS; number++)
+    for (unsigned number = 0; guest->is_as_named && number < guest->boot->vcpus; number++)
         if (guest->vcpus[number].is_registered) create_vcpu(&guest->vcpus[number]);
     guest->is_active = true;
 }
@@ -248,8 +283,8 @@ static void measure(struct vcpu *vcpu, uint32_t times) {
     double time = now(), asking = monitor->core.asking;
     pthread_mutex_unlock(&monitor->lock);
     if (times)
-        printf("guest %u: %u times: %.2f us each, of these %.2f us in the core\n", vcpu->guest->slot, times,
-               (time - vcpu->begun) / times, (asking - vcpu->asked) / times);
+        print_line(OF_GUEST, "guest %u: %u times: %.2f us each, of these %.2f us in the core", vcpu->guest->slot, times,
+                   (time - vcpu->begun) / times, (asking - vcpu->asked) / times);
     vcpu->begun = time;
     vcpu->asked = asking;
 }
@@ -297,10 +332,10 @@ static void report(struct vcpu *vcpu) {
     struct kvm_run *run = vcpu->run;
     struct kvm_regs at;
     if (ioctl(vcpu->file, KVM_GET_REGS, &at)) fail("registers");
-    fprintf(stderr, "monitor: guest %u ends at %llx: ", vcpu->guest->slot, at.rip);
     if (run->exit_reason == KVM_EXIT_INTERNAL_ERROR && run->internal.suberror == KVM_INTERNAL_ERROR_EMULATION)
-        fprintf(stderr, "KVM does not emulate this instruction\n");
-    else fprintf(stderr, "exit %u\n", run->exit_reason);
+        print_line(OF_MONITOR, "monitor: guest %u ends at %llx: KVM does not emulate this instruction",
+                   vcpu->guest->slot, at.rip);
+    else print_line(OF_MONITOR, "monitor: guest %u ends at %llx: exit %u", vcpu->guest->slot, at.rip, run->exit_reason);
 }
 
 /* Answers an exit. Returns whether the virtual processor goes on. */
@@ -325,7 +360,7 @@ static void run_until_end(struct vcpu *vcpu) {
             if (!answers(vcpu)) return;
         } else if (errno != EINTR && errno != EAGAIN) {
             if (!vcpu->guest->has_ended)
-                fprintf(stderr, "monitor: guest %u: KVM_RUN: %s\n", vcpu->guest->slot, strerror(errno));
+                print_line(OF_MONITOR, "monitor: guest %u: KVM_RUN: %s", vcpu->guest->slot, strerror(errno));
             return;
         }
     }
@@ -350,8 +385,11 @@ static void *run(void *of) {
 
 const char *guest_run(struct monitor *monitor, uint32_t slot, uint32_t number) {
     struct guest *guest = slot < SLOTS ? monitor->guests[slot] : NULL;
-    if (!guest || !guest->is_active || number >= VCPUS || !guest->vcpus[number].run) return "refused not-active";
-    struct vcpu *vcpu = &guest->vcpus[number];
+    struct vcpu *vcpu = guest && number < VCPUS ? &guest->vcpus[number] : NULL;
+    if (!vcpu || !guest->is_active || !vcpu->is_registered) return "refused not-active";
+    if (!guest->boot) return "refused other-guest";
+    if (!guest->is_as_named) return "refused other-images";
+    if (!vcpu->run) return "refused other-vcpu";
     if (vcpu->has_ended) return "refused ended";
     vcpu->may_go = true;
     pthread_cond_broadcast(&monitor->moved);

@@ -1,5 +1,5 @@
 /* The host: it loads images, supplies frames and, if it is hostile, tries what it may not do. It does everything
- * through its two sockets and its own memory. */
+ * through its three pipes and its own memory. */
 #include "host.h"
 #include <errno.h>
 #include <fcntl.h>
@@ -10,42 +10,67 @@
 #include <string.h>
 #include <sys/mman.h>
 #include <sys/ptrace.h>
-#include <sys/socket.h>
 #include <sys/uio.h>
 #include <unistd.h>
 
-enum { PAGE = 4096, IMAGE = 1048576, REMEMBERED = 1024, ANSWER = 64, REPLY = 8200 };
+enum { PAGE = 4096, IMAGE = 1048576, REMEMBERED = 1024, ANSWER = 64, REPLY = 8300 };
 /* What guests/talk.c has at which guest frame. */
 enum { CODE = 4, SECRET = 512, LETTER = 513, THROWN = 514 };
 static const uint64_t SECRET_TAG = 0x5ec4e7;
 
+/* Lines that come through a pipe, and what has come of the next. */
+struct lines {
+    int file;
+    char bytes[REPLY];
+    size_t begin, end;
+};
+
 struct host {
     const struct plan *plan;
     uint8_t *memory;
-    int calls, events;
-    char reply[REPLY];
+    struct lines replies, events;
     uint32_t next;                         /* frames of the host at boot from here on are unused */
-    uint32_t frame_of[GUESTS][REMEMBERED]; /* what was supplied at the first guest frames */
-    bool runs[GUESTS];                     /* a guest whose first virtual processor has not ended */
+    uint32_t frame_of[MOST_GUESTS][REMEMBERED]; /* what was supplied at the first guest frames */
+    bool runs[MOST_GUESTS];                     /* a guest whose first virtual processor has not ended */
     bool has_offered;
+    const char *reply; /* the last one */
     unsigned storm, leaks;
     uint64_t chance;
-    int pipes[GUESTS][2];
+    int pipes[MOST_GUESTS][2];
 };
 
 static _Noreturn void stop(const char *what) {
-    fprintf(stderr, "host: %s: %s\n", what, strerror(errno));
+    fprintf(stderr, "%s: %s\n", what, strerror(errno));
     exit(3);
 }
 
 /* Calls. */
 
+/* The next line, without its end, if it has come; else NULL. It stays until more is read. */
+static const char *next_line(struct lines *lines) {
+    char *line = lines->bytes + lines->begin, *end = memchr(line, '\n', lines->end - lines->begin);
+    if (!end) return NULL;
+    *end = 0;
+    lines->begin = end + 1 - lines->bytes;
+    return line;
+}
+
+/* Reads what comes next. When the monitor ends the run it closes the pipe, and the host ends. */
+static void read_more(struct lines *lines) {
+    memmove(lines->bytes, lines->bytes + lines->begin, lines->end - lines->begin);
+    lines->end -= lines->begin;
+    lines->begin = 0;
+    ssize_t got = read(lines->file, lines->bytes + lines->end, sizeof lines->bytes - lines->end);
+    if (got < 0 && errno == EINTR) return;
+    if (got <= 0) exit(0);
+    lines->end += got;
+}
+
 /* Sends bytes as a line, and returns the reply, which stays until the next one. */
 static const char *send_line(struct host *host, const char *line, size_t length) {
-    if (send(host->calls, line, length, MSG_NOSIGNAL) < 0) exit(0); /* the monitor has ended the run */
-    ssize_t got = recv(host->calls, host->reply, REPLY - 1, 0);
-    if (got <= 0) exit(0);
-    host->reply[got] = 0;
+    const struct iovec parts[] = {{(char *)line, length}, {"\n", 1}};
+    if (writev(CALLS, parts, 2) != (ssize_t)length + 1) exit(0);
+    while (!(host->reply = next_line(&host->replies))) read_more(&host->replies);
     return host->reply;
 }
 
@@ -73,7 +98,7 @@ static uint32_t take(struct host *host) { return number_in(ask(host, "take"), "f
 static uint32_t any_frame(struct host *host) { return host->next < host->plan->last ? host->next++ : take(host); }
 
 static void remember(struct host *host, uint32_t vm, uint32_t gfn, uint32_t frame) {
-    if (vm < GUESTS && gfn < REMEMBERED) host->frame_of[vm][gfn] = frame;
+    if (vm < MOST_GUESTS && gfn < REMEMBERED) host->frame_of[vm][gfn] = frame;
 }
 
 /* What a host is for. */
@@ -129,14 +154,14 @@ static void supply(struct host *host, uint32_t vm, uint32_t vcpu, uint32_t gfn) 
         if (is_done(reply)) remember(host, vm, gfn, frame);
         else if (!strcmp(reply, "refused not-host")) continue; /* given away in the storm */
         else if (frame == UINT32_MAX || !strcmp(reply, "refused tables-full"))
-            printf("host: no frame for guest %u at %u, which waits: %s\n", vm, gfn, reply);
+            printf("no frame for guest %u at %u, which waits: %s\n", vm, gfn, reply);
         else ask(host, "give %u", frame); /* it no longer waits, or was cleared */
         return;
     }
 }
 
 static void clear(struct host *host, uint32_t vm) {
-    if (is_done(ask(host, "clear %u", vm)) && vm < GUESTS) host->runs[vm] = false;
+    if (is_done(ask(host, "clear %u", vm)) && vm < MOST_GUESTS) host->runs[vm] = false;
 }
 
 /* What it may not do. */
@@ -154,7 +179,7 @@ static const char *text_at(const struct host *host, uint32_t frame) {
 /* Goes for a frame in both ways: it asks the core, and it reads its memory. */
 static void look(struct host *host, const char *what, uint32_t frame) {
     const char *reply = ask(host, "hfault %u", frame);
-    printf("host: looks at %s: %s, its memory has \"%s\"\n", what, reply, text_at(host, frame));
+    printf("looks at %s: %s, its memory has \"%s\"\n", what, reply, text_at(host, frame));
 }
 
 /* Has a pipe keep a page, as no mapping does. */
@@ -166,7 +191,7 @@ static void pin(struct host *host, uint32_t vm, uint32_t frame) {
 static void read_pin(struct host *host, uint32_t vm) {
     char text[PAGE];
     if (read(host->pipes[vm][0], text, PAGE) != PAGE) stop("the pipe");
-    printf("host: the page that a pipe has kept: \"%.32s\"\n", text);
+    printf("the page that a pipe has kept: \"%.32s\"\n", text);
     close(host->pipes[vm][0]);
     close(host->pipes[vm][1]);
 }
@@ -175,46 +200,49 @@ static void read_pin(struct host *host, uint32_t vm) {
 static void send_rubbish(struct host *host) {
     static const char *const lines[] = {"hfault", "hfault  1", "hfault 4294967296", "remap 0 0 4294967295",
                                         "remap 0 0 x", "run 0 9", "run 99 0", "regvm 4294967295", "clear 63",
-                                        "setboot 0 0 4096", "verify 0", "grantr 0 0 0 64", "\n", "kcore-trace 2"};
+                                        "setboot 0 0 4096", "verify 0", "grantr 0 0 0 64", "", "kcore-trace 2"};
     static char longest[16000];
     unsigned done = 0, count = sizeof lines / sizeof *lines;
     for (unsigned number = 0; number < count; number++) done += is_done(ask(host, "%s", lines[number]));
     memset(longest, 'a', sizeof longest);
     done += is_done(send_line(host, longest, sizeof longest));
     done += is_done(send_line(host, "take\0", 5));
-    printf("host: sends %u lines that are not calls of its own: %u done\n", count + 2, done);
+    printf("sends %u lines that are not calls of its own: %u done\n", count + 2, done);
 }
 
-/* Tries ways around the core: the monitor's memory, and tracing the monitor. */
-static void try_doors(void) {
+/* Tries ways around the core: the monitor's memory, tracing the monitor, and its terminal. */
+static void try_doors(const struct host *host) {
+    int monitor = host->plan->monitor;
     char path[40];
-    snprintf(path, sizeof path, "/proc/%d/mem", (int)getppid());
+    snprintf(path, sizeof path, "/proc/%d/mem", monitor);
     int file = open(path, O_RDWR);
-    printf("host: opens the monitor's memory: %s\n", file < 0 ? strerror(errno) : "done");
+    printf("opens the monitor's memory: %s\n", file < 0 ? strerror(errno) : "done");
     if (file >= 0) close(file);
-    printf("host: traces the monitor: %s\n", ptrace(PTRACE_SEIZE, getppid(), NULL, NULL) ? strerror(errno) : "done");
+    printf("traces the monitor: %s\n", ptrace(PTRACE_SEIZE, monitor, NULL, NULL) ? strerror(errno) : "done");
+    file = open("/dev/tty", O_RDWR);
+    printf("opens the monitor's terminal: %s\n", file < 0 ? strerror(errno) : "done");
 }
 
 static void attack_at_boot(struct host *host) {
     uint32_t vm = host->plan->count, code = host->frame_of[0][CODE];
     bool is_active = boot(host, vm, &host->plan->boots[0], true);
-    printf("host: an altered image is %s; has it run: ", is_active ? "approved" : "rejected");
+    printf("an altered image is %s; has it run: ", is_active ? "approved" : "rejected");
     printf("%s\n", ask(host, "run %u 0", vm));
     ask(host, "clear %u", vm);
     memset(at(host, code), 0x90, PAGE);
-    printf("host: alters a page of an image after its remap: %s\n", ask(host, "hfault %u", code));
-    printf("host: speaks for a guest: %s\n", ask(host, "grant 0 0 %u", SECRET));
-    printf("host: gives a frame to a virtual processor that waits for none: %s\n", ask(host, "map 0 0 %u", host->next));
+    printf("alters a page of an image after its remap: %s\n", ask(host, "hfault %u", code));
+    printf("speaks for a guest: %s\n", ask(host, "grant 0 0 %u", SECRET));
+    printf("gives a frame to a virtual processor that waits for none: %s\n", ask(host, "map 0 0 %u", host->next));
     send_rubbish(host);
-    try_doors();
+    try_doors(host);
 }
 
 /* The first fault of guest 1 is answered with a page of guest 0's image, and with a frame of the core's. */
 static void attack_by_frames(struct host *host, uint32_t vm, uint32_t vcpu) {
     if (vm != 1 || host->has_offered) return;
     host->has_offered = true;
-    printf("host: offers guest 1 a frame of guest 0: %s\n", ask(host, "map 1 %u %u", vcpu, host->frame_of[0][CODE]));
-    printf("host: offers guest 1 a frame of the core: %s\n", ask(host, "map 1 %u 0", vcpu));
+    printf("offers guest 1 a frame of guest 0: %s\n", ask(host, "map 1 %u %u", vcpu, host->frame_of[0][CODE]));
+    printf("offers guest 1 a frame of the core: %s\n", ask(host, "map 1 %u 0", vcpu));
 }
 
 static void attack_before_sharing(struct host *host, uint32_t vm) {
@@ -222,7 +250,7 @@ static void attack_before_sharing(struct host *host, uint32_t vm) {
     look(host, "the secret", secret);
     look(host, "the letter, not shared yet", host->frame_of[vm][LETTER]);
     strcpy((char *)at(host, secret), "a forged secret");
-    printf("host: takes the secret's frame back: %s\n", ask(host, "give %u", secret));
+    printf("takes the secret's frame back: %s\n", ask(host, "give %u", secret));
 }
 
 /* Takes free frames until it has the one that was dropped, and looks at that. The others go back. */
@@ -238,10 +266,10 @@ static void attack_dropped(struct host *host, uint32_t vm) {
 static void read_letter(struct host *host, uint32_t vm, bool is_first) {
     uint32_t letter = host->frame_of[vm][LETTER];
     if (is_first)
-        printf("host: the letter, shared but not asked for: its memory has \"%s\"\n", text_at(host, letter));
-    if (!is_done(ask(host, "hfault %u", letter))) printf("host: may not read the letter: %s\n", host->reply);
+        printf("the letter, shared but not asked for: its memory has \"%s\"\n", text_at(host, letter));
+    if (!is_done(ask(host, "hfault %u", letter))) printf("may not read the letter: %s\n", host->reply);
     if (!is_first) return;
-    printf("host: the letter, shared and asked for: its memory has \"%s\"\n", text_at(host, letter));
+    printf("the letter, shared and asked for: its memory has \"%s\"\n", text_at(host, letter));
     snprintf((char *)at(host, letter) + ANSWER, ANSWER, "thank you, guest %u", vm);
 }
 
@@ -283,7 +311,7 @@ static uint32_t by_chance(struct host *host, uint32_t below) {
 }
 
 static void send_by_chance(struct host *host) {
-    static const char characters[] = "0123456789 \n\0grantrevokedrophfaultmapclearverify";
+    static const char characters[] = "0123456789 \r\0grantrevokedrophfaultmapclearverify";
     char line[24];
     size_t length = 1 + by_chance(host, sizeof line);
     for (size_t at = 0; at < length; at++) line[at] = characters[by_chance(host, sizeof characters - 1)];
@@ -317,7 +345,7 @@ static void storm(struct host *host) {
     for (int call = 0; call < 20; call++) storm_once(host);
     host->storm -= host->storm < 20 ? host->storm : 20;
     look_for_leaks(host);
-    if (!host->storm) printf("host: the storm is over: %u words of private pages seen\n", host->leaks);
+    if (!host->storm) printf("the storm is over: %u words of private pages seen\n", host->leaks);
 }
 
 /* The run. */
@@ -325,14 +353,14 @@ static void storm(struct host *host) {
 /* Ends guest 1 while it runs, takes every free frame, and looks for what it left. */
 static void end_one(struct host *host) {
     uint32_t frame, count = 0, left = 0;
-    printf("host: ends guest 1, which runs: %s\n", ask(host, "clear 1"));
-    printf("host: has it run: %s\n", ask(host, "run 1 1"));
+    printf("ends guest 1, which runs: %s\n", ask(host, "clear 1"));
+    printf("has it run: %s\n", ask(host, "run 1 1"));
     while ((frame = take(host)) != UINT32_MAX) {
         ask(host, "hfault %u", frame);
         count++;
         for (int byte = 0; byte < PAGE; byte++) left += at(host, frame)[byte] != 0;
     }
-    printf("host: takes %s free frames: %u bytes in them\n", count ? "all" : "no", left);
+    printf("takes %s free frames: %u bytes in them\n", count ? "all" : "no", left);
 }
 
 static void serve_event(struct host *host, const char *line) {
@@ -346,22 +374,22 @@ static void serve_event(struct host *host, const char *line) {
         serve_notice(host, vm, number);
         ask(host, "run %u %u", vm, vcpu);
     } else if (!strcmp(name, "ended") && !vcpu) {
-        printf("host: guest %u has ended\n", vm);
+        printf("guest %u has ended\n", vm);
         host->runs[vm] = false;
     }
 }
 
-static bool receive_event(struct host *host) {
-    char line[128];
-    ssize_t length = recv(host->events, line, sizeof line - 1, 0);
-    if (length <= 0) return false;
-    line[length] = 0;
-    serve_event(host, line);
-    return true;
+/* Serves the events that have come, or waits for one. */
+static void serve_events(struct host *host, bool waits) {
+    struct pollfd file = {EVENTS, POLLIN, 0};
+    int ready = poll(&file, 1, waits ? -1 : 0);
+    if (ready < 0 && errno != EINTR) stop("poll");
+    if (ready > 0) read_more(&host->events);
+    for (const char *line; (line = next_line(&host->events));) serve_event(host, line);
 }
 
 static bool any_runs(const struct host *host) {
-    for (unsigned vm = 0; vm < GUESTS; vm++)
+    for (unsigned vm = 0; vm < MOST_GUESTS; vm++)
         if (host->runs[vm]) return true;
     return false;
 }
@@ -369,27 +397,25 @@ static bool any_runs(const struct host *host) {
 static void boot_all(struct host *host) {
     for (unsigned vm = 0; vm < host->plan->count; vm++) {
         host->runs[vm] = boot(host, vm, &host->plan->boots[vm], false);
-        if (!host->runs[vm]) printf("host: guest %u is not booted: %s\n", vm, host->reply);
+        if (!host->runs[vm]) printf("guest %u is not booted: %s\n", vm, host->reply);
     }
     if (host->plan->is_hostile) attack_at_boot(host);
     for (unsigned vm = 0; vm < host->plan->count; vm++)
         for (unsigned vcpu = 0; vcpu < host->plan->boots[vm].vcpus; vcpu++) ask(host, "run %u %u", vm, vcpu);
 }
 
-_Noreturn void host_main(int memory, int calls, int events, const struct plan *plan) {
+_Noreturn void host_main(const struct plan *plan) {
     static struct host host;
-    host = (struct host){.plan = plan, .calls = calls, .events = events, .next = plan->first, .storm = plan->storm,
-                         .chance = 88172645463325252};
+    host = (struct host){.plan = plan, .next = plan->first, .storm = plan->storm, .chance = 88172645463325252,
+                         .replies.file = REPLIES, .events.file = EVENTS};
     size_t size = (size_t)plan->frames * PAGE;
-    host.memory = mmap(NULL, size, PROT_READ | PROT_WRITE, MAP_SHARED | MAP_NORESERVE, memory, 0);
+    setvbuf(stdout, NULL, _IOLBF, 0);
+    host.memory = mmap(NULL, size, PROT_READ | PROT_WRITE, MAP_SHARED | MAP_NORESERVE, MEMORY, 0);
     if (host.memory == MAP_FAILED) stop("memory");
     boot_all(&host);
     while (any_runs(&host) || host.storm) {
-        struct pollfd file = {events, POLLIN, 0};
-        int ready = poll(&file, 1, host.storm ? 0 : -1);
-        if (ready < 0 && errno != EINTR) stop("poll");
-        if (ready > 0 && !receive_event(&host)) break;
-        if (!ready) storm(&host);
+        serve_events(&host, !host.storm);
+        if (host.storm) storm(&host);
     }
     if (plan->is_hostile) end_one(&host);
     exit(0);

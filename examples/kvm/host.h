@@ -1,10 +1,15 @@
-/* The untrusted part, a process of its own: it has its memory, two sockets and its images, and nothing else. */
+/* The untrusted part, a process of its own: it has its memory, three pipes and its images, and nothing else. */
 #ifndef HOST_H
 #define HOST_H
 #include <stdbool.h>
 #include <stdint.h>
+#include <sys/types.h>
 
-enum { GUESTS = 8, PARTS = 4 };
+enum { MOST_GUESTS = 8, PARTS = 4 };
+
+/* The numbers of its files: after the standard streams its memory, in which frame f is at f * 4,096; the pipe to which
+ * it writes calls, and that from which it reads the replies; the pipe of events; the images; its program. */
+enum { MEMORY = 3, CALLS, REPLIES, EVENTS, IMAGE_FILES };
 
 /* Files that a guest boots from, open, each at its guest frame. */
 struct boot {
@@ -17,13 +22,15 @@ struct boot {
 
 struct plan {
     uint32_t frames, first, last; /* of the machine; the host's at boot are first to last - 1 */
-    struct boot boots[GUESTS];
+    struct boot boots[MOST_GUESTS];
     unsigned count;
+    pid_t monitor; /* for what it may not do */
     bool is_hostile;
     unsigned storm; /* random calls and accesses */
+    char **words;   /* of another host's command line, or NULL */
+    int program;    /* its file, open */
 };
 
-/* Boots the guests, supplies them with frames until all have ended, and exits. Through `calls` a line is sent for each
- * call, and its reply received; through `events` lines come. Frame f is at f * 4,096 in the memory. */
-_Noreturn void host_main(int memory, int calls, int events, const struct plan *plan);
+/* Boots the guests, supplies them with frames until all have ended, and exits. */
+_Noreturn void host_main(const struct plan *plan);
 #endif

@@ -206,16 +206,6 @@ static uint32_t count_pages(int file) {
     return count;
 }
 
-/* Whether the host's file has the bytes of a private page. Zeros are nobody's. */
-static bool has_leaked(struct mmu *mmu, struct memory *memory, uint32_t frame, uint32_t gfn) {
-    static const uint8_t zero[PAGE];
-    uint8_t hosts[PAGE], guests[PAGE];
-    read_page(memory->pages, gfn, guests);
-    if (!memcmp(guests, zero, PAGE)) return false;
-    read_page(mmu->host, frame, hosts);
-    return !memcmp(guests, hosts, PAGE);
-}
-
 /* Compares one guest's memory with the records of its frames. */
 static void compare_guest(struct mmu *mmu, struct core *core, uint32_t vm, uint32_t *seen, struct comparison *found) {
     struct memory *memory = mmu->of[vm];
@@ -226,7 +216,6 @@ static void compare_guest(struct mmu *mmu, struct core *core, uint32_t vm, uint3
         if (record.owner != KCORE_VM || record.vm != vm) continue;
         bool is_shared = record.present, is_wrong = seen[record.gfn] != (is_shared ? frame + 1 : OWN);
         is_wrong |= has_page(memory->pages, record.gfn) == is_shared;
-        is_wrong |= !is_shared && !is_wrong && has_leaked(mmu, memory, frame, record.gfn);
         *(is_shared ? &shared_pages : &private_pages) += 1;
         found->wrong += is_wrong;
     }

@@ -1,35 +1,30 @@
-/* The monitor: it starts the host's process, answers its calls, and has the MMU follow. */
+/* The monitor: its command line, and the run from start to end. */
 #include "monitor.h"
-#include "host.h"
 #include <errno.h>
 #include <fcntl.h>
-#include <grp.h>
 #include <poll.h>
 #include <signal.h>
 #include <stdio.h>
 #include <stdlib.h>
 #include <string.h>
+#include <sys/eventfd.h>
 #include <sys/ioctl.h>
 #include <sys/prctl.h>
 #include <sys/signalfd.h>
-#include <sys/socket.h>
-#include <sys/wait.h>
 #include <unistd.h>
 
 static const char usage[] =
-    "usage: monitor [--config PATH] [--trace PATH] [--redacted] [--states] [--calls N] [--record PATH] [--seconds N] "
-    "[--attack] [--storm N] [GUEST..]\n"
+    "usage: monitor [--config PATH] [--trace PATH] [--redacted] [--states] [--calls N] [--published PATH] "
+    "[--record PATH] [--seconds N] [--attack] [--storm N] [GUEST..] [-- HOST [WORD..]]\n"
     "       monitor --resume PATH [--trace PATH] [--redacted] [--states]\n"
     "       GUEST: bare:PATH@GFN[*VCPUS], bios:PATH@GFN or multiboot:PATH@GFN,PATH@GFN\n";
 
-enum { NOBODY = 65534, LONGEST_MESSAGE = 16384 };
-
 struct options {
-    const char *configuration, *resumed, *trace, *record;
+    const char *configuration, *resumed, *trace, *record, *published;
     bool is_redacted, keeps_states;
     unsigned seconds, calls;
     struct plan plan;
-    enum mode modes[GUESTS];
+    enum mode modes[MOST_GUESTS];
 };
 
 /* What runs if no guest is named, as far as it exists. */
@@ -37,11 +32,6 @@ static const char *const usual[][2] = {{"out/talk", "bare:out/talk@0*2"},
                                        {"out/talk", "bare:out/talk@0*2"},
                                        {"out/bios", "bios:out/bios@0xe0"},
                                        {"out/kernel", "multiboot:out/kernel@0x1000,out/kernel.boot@0x10"}};
-
-_Noreturn void fail(const char *what) {
-    fprintf(stderr, "monitor: %s: %s\n", what, strerror(errno));
-    exit(3);
-}
 
 /* The command line. */
 
@@ -63,7 +53,7 @@ static void read_guest(struct options *options, const char *word) {
     static const char *const modes[] = {[BARE] = "bare", [BIOS] = "bios", [MULTIBOOT] = "multiboot"};
     char text[4096], *rest = text, *part;
     unsigned slot = options->plan.count++, mode = BARE;
-    struct boot *boot = slot < GUESTS ? &options->plan.boots[slot] : NULL;
+    struct boot *boot = slot < MOST_GUESTS ? &options->plan.boots[slot] : NULL;
     if (!boot || snprintf(text, sizeof text, "%s", word) >= (int)sizeof text) refuse(word);
     char *kind = strsep(&rest, ":"), *vcpus = rest ? strchr(rest, '*') : NULL;
     if (vcpus) *vcpus++ = 0;
@@ -81,10 +71,28 @@ static void read_guest(struct options *options, const char *word) {
     }
 }
 
+/* A host other than the monitor's own: a program and its words. */
+static void read_host(struct options *options, char **words) {
+    if (!*words) refuse("--");
+    options->plan.words = words;
+    options->plan.program = open(*words, O_RDONLY | O_CLOEXEC);
+    if (options->plan.program < 0) fail(*words);
+}
+
+/* The names of traces are in a list, with tabs between them. */
+static const char *trace_of(const char *word) {
+    if (strpbrk(word, "\t\n\r")) refuse("--trace has a tab or the end of a line in its name");
+    return word;
+}
+
 static struct options read_options(char **words) {
     struct options options = {.configuration = "out/machine.json", .trace = "out/trace", .seconds = 600};
     for (const char *word; (word = *words++);) {
         const char *next = *words;
+        if (!strcmp(word, "--")) {
+            read_host(&options, words);
+            break;
+        }
         if (!strcmp(word, "--redacted")) options.is_redacted = true;
         else if (!strcmp(word, "--states")) options.keeps_states = true;
         else if (!strcmp(word, "--attack")) options.plan.is_hostile = true;
@@ -92,13 +100,16 @@ static struct options read_options(char **words) {
         else if (words++, !next) refuse(word);
         else if (!strcmp(word, "--config")) options.configuration = next;
         else if (!strcmp(word, "--resume")) options.resumed = next;
-        else if (!strcmp(word, "--trace")) options.trace = next;
+        else if (!strcmp(word, "--trace")) options.trace = trace_of(next);
+        else if (!strcmp(word, "--published")) options.published = next;
         else if (!strcmp(word, "--calls")) options.calls = number_of(next);
         else if (!strcmp(word, "--record")) options.record = next;
         else if (!strcmp(word, "--seconds")) options.seconds = number_of(next);
         else if (!strcmp(word, "--storm")) options.plan.storm = number_of(next);
         else refuse(word);
     }
+    if (options.resumed && (options.published || options.record || options.plan.count || options.plan.words))
+        refuse("--resume goes with --trace, --redacted and --states only");
     if (options.plan.count || options.resumed) return options;
     for (unsigned guest = 0; guest < sizeof usual / sizeof *usual; guest++)
         if (!access(usual[guest][0], R_OK)) read_guest(&options, usual[guest][1]);
@@ -106,157 +117,45 @@ static struct options read_options(char **words) {
     return options;
 }
 
-/* The host's process. */
-
-/* Gives up what an untrusted process may not have: its user, if that is root, and what other programs could give it. */
-static void give_up(void) {
-    if (!geteuid() && (setgroups(0, NULL) || setresgid(NOBODY, NOBODY, NOBODY) || setresuid(NOBODY, NOBODY, NOBODY)))
-        fail("the host's user");
-    if (prctl(PR_SET_NO_NEW_PRIVS, 1, 0, 0, 0) || prctl(PR_SET_PDEATHSIG, SIGKILL)) fail("the host's process");
-}
-
-/* Starts it, before this process has anything that it could inherit. *calls is the socket of its calls. */
-static pid_t start_host(struct monitor *monitor, const struct plan *plan, int *calls) {
-    int call_ends[2], event_ends[2];
-    if (socketpair(AF_UNIX, SOCK_SEQPACKET | SOCK_CLOEXEC, 0, call_ends) ||
-        socketpair(AF_UNIX, SOCK_SEQPACKET | SOCK_CLOEXEC, 0, event_ends))
-        fail("sockets");
-    pid_t monitors = getpid(), child = fork();
-    if (child < 0) fail("fork");
-    if (!child) {
-        close(call_ends[0]);
-        close(event_ends[0]);
-        give_up();
-        if (getppid() != monitors) _exit(3);
-        host_main(monitor->mmu.host, call_ends[1], event_ends[1], plan);
-    }
-    close(call_ends[1]);
-    close(event_ends[1]);
-    for (unsigned guest = 0; guest < plan->count; guest++)
-        for (unsigned part = 0; part < plan->boots[guest].count; part++)
-            close(plan->boots[guest].parts[part].file);
-    *calls = call_ends[0];
-    monitor->events = event_ends[0];
-    return child;
-}
-
-void monitor_event(struct monitor *monitor, const char *name, const struct vcpu *vcpu, uint32_t number) {
-    char line[80];
-    int length = snprintf(line, sizeof line, "%s %u %u %u", name, vcpu->guest->slot, vcpu->number, number);
-    while (send(monitor->events, line, length, MSG_NOSIGNAL) < 0) {
-        if (errno == EPIPE || errno == ECONNRESET) return; /* the host is gone, and the run is at its end */
-        if (errno != EINTR) fail("an event");
-    }
-}
-
-/* The host's calls. */
-
-/* Whether a line is this call, with `count` numbers. The core decides whether it is a call at all. */
-static bool is_call(const char *line, const char *name, unsigned count, uint32_t *numbers) {
-    size_t length = strlen(name);
-    if (strncmp(line, name, length)) return false;
-    const char *at = line + length;
-    for (unsigned n = 0; n < count; n++) {
-        char *end;
-        if (*at++ != ' ' || *at < '0' || *at > '9') return false;
-        errno = 0;
-        unsigned long number = strtoul(at, &end, 10);
-        if (errno || number > UINT32_MAX) return false;
-        numbers[n] = number;
-        at = end;
-    }
-    return !*at;
-}
-
-/* Copies a page of an image before it is handed over. The core gets that copy, so the guest has what is measured,
- * whatever the host writes meanwhile. Returns whether there is such a page. */
-static bool copy_page(struct monitor *monitor, uint32_t frame, uint8_t *copy) {
-    if (frame >= monitor->core.size.frames) return false;
-    kcore_record record = core_record_of(&monitor->core, frame);
-    if (record.owner != KCORE_HOST || !record.present) return false;
-    mmu_read_host(&monitor->mmu, frame, copy);
-    const kcore_request write = {KCORE_HWRITE, {frame, 0}};
-    if (core_do(&monitor->core, KCORE_NONE, 0, write, copy).kind != KCORE_IS_DONE) {
-        errno = EPROTO;
-        fail("a write to a frame that the host has");
-    }
-    return true;
-}
-
-/* Keeps what the monitor needs of a call that was done, besides what the MMU follows. */
-static void note(struct monitor *monitor, const char *line, const char *reply) {
-    uint32_t n[3];
-    bool is_done = !strcmp(reply, "done");
-    if (is_done && is_call(line, "regvm", 1, n)) guest_open(monitor, n[0]);
-    else if (is_done && is_call(line, "regvcpu", 2, n)) monitor->guests[n[0]]->vcpus[n[1]].is_registered = true;
-    else if (is_done && is_call(line, "verify", 1, n)) guest_activate(monitor->guests[n[0]]);
-    else if (!strncmp(reply, "image ", 6) && is_call(line, "setboot", 3, n)) {
-        struct guest *guest = monitor->guests[n[0]];
-        guest->images[guest->image_count].base = n[1];
-        guest->images[guest->image_count++].length = n[2];
-    }
-}
-
-/* Answers a line of the host's, with the lock. */
-static const char *answer(struct monitor *monitor, const char *line, size_t length) {
-    uint32_t n[3];
-    uint8_t copy[PAGE];
-    if (is_call(line, "run", 2, n)) return guest_run(monitor, n[0], n[1]);
-    bool has_copy = is_call(line, "remap", 3, n) && copy_page(monitor, n[2], copy);
-    const char *reply = core_ask(&monitor->core, line, length);
-    struct guest *cleared = is_call(line, "clear", 1, n) && !strcmp(reply, "done") ? monitor->guests[n[0]] : NULL;
-    if (cleared) guest_end(cleared);
-    mmu_follow(&monitor->mmu, monitor->core.changes, monitor->core.count, has_copy ? copy : NULL);
-    if (cleared) guest_close(cleared);
-    note(monitor, line, reply);
-    return reply;
-}
-
-/* Receives a line, and sends the reply. Returns whether the host is still there, and has room for it. A message that is
- * longer than the buffer is cut off, and is still longer than any call. */
-static bool serve(struct monitor *monitor, int calls) {
-    char line[LONGEST_MESSAGE + 1];
-    ssize_t length = recv(calls, line, LONGEST_MESSAGE, 0);
-    if (length < 0 && errno != ECONNRESET) fail("the host's call");
-    if (length <= 0) return false;
-    line[length] = 0;
-    pthread_mutex_lock(&monitor->lock);
-    const char *reply = answer(monitor, line, length);
-    ssize_t sent = send(calls, reply, strlen(reply), MSG_NOSIGNAL | MSG_DONTWAIT);
-    pthread_mutex_unlock(&monitor->lock);
-    return sent >= 0;
-}
-
 /* The run. */
 
 static bool compare(struct monitor *monitor) {
     struct comparison found = mmu_compare(&monitor->mmu, &monitor->core);
-    printf("monitor: %llu calls, %u faults, %u exits; %u frames: %u private pages, %u shared, "
-           "%u otherwise than the record\n",
-           (unsigned long long)monitor->core.calls, monitor->faults, monitor->exits, monitor->mmu.frames,
-           found.private_pages, found.shared_pages, found.wrong);
+    print_line(OF_MONITOR,
+               "monitor: %llu calls, %u faults, %u exits; %u frames: %u private pages, %u shared, "
+               "%u otherwise than the record",
+               (unsigned long long)monitor->core.calls, monitor->faults, monitor->exits, monitor->mmu.frames,
+               found.private_pages, found.shared_pages, found.wrong);
     return !found.wrong;
 }
 
-/* Serves the host until it ends, the time is over, or a signal ends the run. SIGUSR1 only compares. */
-static bool serve_all(struct monitor *monitor, int calls, int signals, unsigned seconds) {
-    struct pollfd files[] = {{calls, POLLIN, 0}, {signals, POLLIN, 0}};
+/* Reads a signal. SIGUSR1 only compares; returns whether it was that one. */
+static bool only_compares(struct monitor *monitor, int signals, bool *is_well) {
+    struct signalfd_siginfo signal;
+    if (read(signals, &signal, sizeof signal) != sizeof signal) fail("a signal");
+    if (signal.ssi_signo != SIGUSR1) return false;
+    pthread_mutex_lock(&monitor->lock);
+    *is_well &= compare(monitor);
+    pthread_mutex_unlock(&monitor->lock);
+    return true;
+}
+
+/* Waits until the host ends, the time is over, or a signal ends the run. */
+static bool wait_for_end(struct monitor *monitor, int signals, unsigned seconds) {
+    struct pollfd files[] = {{signals, POLLIN, 0}, {monitor->served, POLLIN, 0}, {monitor->host.file, POLLIN, 0}};
     double end = now() + seconds * 1e6;
     bool is_well = true;
     for (;;) {
         double left = end - now();
-        if (left <= 0) return is_well;
-        if (poll(files, 2, left < 1e9 ? left / 1e3 + 1 : 1e6) < 0 && errno != EINTR) fail("poll");
-        struct signalfd_siginfo signal;
-        if (files[1].revents) {
-            if (read(signals, &signal, sizeof signal) != sizeof signal) fail("a signal");
-            if (signal.ssi_signo != SIGUSR1) return is_well;
-            pthread_mutex_lock(&monitor->lock);
-            is_well &= compare(monitor);
-            pthread_mutex_unlock(&monitor->lock);
-        }
-        if (files[0].revents && !serve(monitor, calls)) return is_well;
+        if (left <= 0) break;
+        int ready = poll(files, 3, left < 1e9 ? left / 1e3 + 1 : 1e6);
+        if (ready < 0 && errno != EINTR) fail("poll");
+        if (ready <= 0) continue;
+        if (files[0].revents && !only_compares(monitor, signals, &is_well)) return is_well;
+        if (files[1].revents || files[2].revents) return is_well;
     }
+    print_line(OF_MONITOR, "monitor: the time is over");
+    return is_well;
 }
 
 /* The record of each frame, a line each, for a comparison with what the trace leaves. */
@@ -280,7 +179,6 @@ static bool end_guests(struct monitor *monitor, const char *record) {
     monitor->is_over = true;
     bool is_well = compare(monitor);
     if (record) write_record(monitor, record);
-    shutdown(monitor->events, SHUT_RDWR);
     for (unsigned slot = 0; slot < SLOTS; slot++)
         if (monitor->guests[slot]) {
             guest_end(monitor->guests[slot]);
@@ -293,15 +191,18 @@ static bool end_guests(struct monitor *monitor, const char *record) {
 
 static void ignore(int number) { (void)number; }
 
-/* Signals are read by the main thread alone; SIGUSR2 has a virtual processor look up. */
+/* Signals are read by the main thread alone; SIGUSR2 has a virtual processor look up. A pipe that nobody reads is no
+ * reason to end. */
 static int open_signals(void) {
     const int read_ones[] = {SIGINT, SIGTERM, SIGHUP, SIGUSR1};
-    struct sigaction looks_up = {.sa_handler = ignore};
+    struct sigaction looks_up = {.sa_handler = ignore}, ignored = {.sa_handler = SIG_IGN};
     sigset_t set;
     sigemptyset(&set);
     for (size_t n = 0; n < sizeof read_ones / sizeof *read_ones; n++) sigaddset(&set, read_ones[n]);
     int file = signalfd(-1, &set, SFD_CLOEXEC);
-    if (file < 0 || pthread_sigmask(SIG_BLOCK, &set, NULL) || sigaction(SIGUSR2, &looks_up, NULL)) fail("signals");
+    if (file < 0 || pthread_sigmask(SIG_BLOCK, &set, NULL) || sigaction(SIGUSR2, &looks_up, NULL) ||
+        sigaction(SIGPIPE, &ignored, NULL))
+        fail("signals");
     return file;
 }
 
@@ -316,7 +217,7 @@ static void open_kvm(struct monitor *monitor) {
 /* Takes up the core of a monitor that was killed, in a state that it had kept. The processors of its guests are gone
  * with it, so all guests are cleared: their frames are zeroed and given back. */
 static int take_up(const struct options *options) {
-    struct core core = {.keeps_states = options->keeps_states};
+    struct core core = {.keeps_states = options->keeps_states, .published = -1};
     unsigned cleared = 0;
     core_open(&core, options->resumed, true);
     core_trace(&core, options->trace, options->is_redacted);
@@ -327,35 +228,62 @@ static int take_up(const struct options *options) {
     return 0;
 }
 
+/* Starts the host, before this process has anything that it could inherit, and all else. Returns the file by which
+ * signals come. */
+static int start(struct monitor *monitor, struct options *options, pthread_t *serving) {
+    struct core *core = &monitor->core;
+    if (prctl(PR_SET_DUMPABLE, 0, 0, 0, 0)) fail("prctl"); /* not even the same user may look into this process */
+    core->most = options->calls;
+    core->keeps_states = options->keeps_states;
+    if (options->published) core_publish(core, options->published);
+    core_open(core, options->configuration, false);
+    mmu_open(&monitor->mmu, core->size.frames);
+    options->plan.frames = core->size.frames;
+    options->plan.first = core->size.core;
+    options->plan.last = core->size.core + core->size.host;
+    options->plan.monitor = getpid();
+    host_start(&monitor->host, &options->plan, monitor->mmu.host);
+    core_trace(core, options->trace, options->is_redacted);
+    int signals = open_signals();
+    output_open();
+    open_kvm(monitor);
+    monitor->served = eventfd(0, EFD_CLOEXEC);
+    monitor->stop = eventfd(0, EFD_CLOEXEC);
+    if (monitor->served < 0 || monitor->stop < 0) fail("an event");
+    if (pthread_create(serving, NULL, serve_host, monitor)) fail("a thread");
+    return signals;
+}
+
+/* Ends the host, and then the thread that serves it: whatever that waited for is over. */
+static void end_host(struct monitor *monitor, pthread_t serving) {
+    const uint64_t one = 1;
+    host_end(&monitor->host);
+    if (write(monitor->stop, &one, sizeof one) != sizeof one || pthread_join(serving, NULL)) fail("a thread");
+}
+
+static void close_all(struct monitor *monitor, int signals) {
+    const int files[] = {signals, monitor->kvm, monitor->served, monitor->stop, monitor->host.calls,
+                         monitor->host.replies, monitor->host.events, monitor->host.output};
+    for (size_t n = 0; n < sizeof files / sizeof *files; n++)
+        if (close(files[n])) fail("a file");
+    mmu_close(&monitor->mmu);
+    core_close(&monitor->core);
+}
+
 int main(int count, char **words) {
     (void)count;
     struct options options = read_options(words + 1);
     if (options.resumed) return take_up(&options);
-    struct monitor monitor = {.lock = PTHREAD_MUTEX_INITIALIZER, .moved = PTHREAD_COND_INITIALIZER};
+    static struct monitor monitor = {.lock = PTHREAD_MUTEX_INITIALIZER, .moved = PTHREAD_COND_INITIALIZER};
+    pthread_t serving;
     memcpy(monitor.modes, options.modes, sizeof options.modes);
-    setvbuf(stdout, NULL, _IOLBF, 0);
-    if (prctl(PR_SET_DUMPABLE, 0, 0, 0, 0)) fail("prctl"); /* not even the same user may look into this process */
-    monitor.core.most = options.calls;
-    monitor.core.keeps_states = options.keeps_states;
-    core_open(&monitor.core, options.configuration, false);
-    mmu_open(&monitor.mmu, monitor.core.size.frames);
-    options.plan.frames = monitor.core.size.frames;
-    options.plan.first = monitor.core.size.core;
-    options.plan.last = monitor.core.size.core + monitor.core.size.host;
-    int calls, signals;
-    pid_t host = start_host(&monitor, &options.plan, &calls);
-    core_trace(&monitor.core, options.trace, options.is_redacted);
-    signals = open_signals();
-    open_kvm(&monitor);
-    bool is_well = serve_all(&monitor, calls, signals, options.seconds);
+    monitor.plan = &options.plan;
+    monitor.core.published = -1;
+    int signals = start(&monitor, &options, &serving);
+    bool is_well = wait_for_end(&monitor, signals, options.seconds);
+    end_host(&monitor, serving);
     is_well &= end_guests(&monitor, options.record);
-    kill(host, SIGKILL);
-    if (waitpid(host, NULL, 0) != host) fail("the host");
-    close(calls);
-    close(signals);
-    close(monitor.events);
-    close(monitor.kvm);
-    mmu_close(&monitor.mmu);
-    core_close(&monitor.core);
+    close_all(&monitor, signals);
+    output_close();
     return is_well ? 0 : 1;
 }

@@ -3,6 +3,7 @@
  * changed is carried out. */
 #ifndef MONITOR_H
 #define MONITOR_H
+#include "host.h"
 #include <kcore.h>
 #include <linux/kvm.h>
 #include <pthread.h>
@@ -12,10 +13,44 @@
 #include <stdint.h>
 #include <sys/types.h>
 
-enum { PAGE = 4096, GUEST_FRAMES = 262144, SLOTS = 64, VCPUS = 8, IMAGES = 4 };
+enum { PAGE = 4096, GUEST_FRAMES = 262144, SLOTS = 64, VCPUS = 8, IMAGES = 4, IMAGE = 1048576 };
 
-/* Ends the program with status 3: what was decided cannot be done. */
+/* Output (output.c): nothing waits for whoever reads it, except the end of the program, and that no longer than two
+ * seconds in which nothing is read. Lines for which there is no room are left out. */
+
+enum source { OF_HOST, OF_GUEST, OF_MONITOR };
+
+/* A line of a host's or a guest's that has not ended. */
+struct line {
+    char text[200];
+    size_t length;
+};
+
+void output_open(void);
+__attribute__((format(printf, 2, 3))) void print_line(enum source source, const char *format, ...);
+/* Adds a character, which is printed with the line that it belongs to. That begins with a name. */
+void print_character(struct line *line, enum source source, const char *name, char character);
+void output_close(void);
+
+/* Ends the program with status 3 and a line on standard error: what was decided cannot be done. */
+_Noreturn __attribute__((format(printf, 1, 2))) void end_with(const char *format, ...);
+/* The same, with the reason that errno has. */
 _Noreturn void fail(const char *what);
+
+/* The host's processes (process.c). */
+
+struct host_process {
+    pid_t first; /* the one that waits for the host */
+    int file;    /* its descriptor */
+    int calls, replies, events, output;
+};
+
+void host_start(struct host_process *host, const struct plan *plan, int memory);
+/* Ends the host and all that it started. */
+void host_end(struct host_process *host);
+
+/* Gives the SHA-256 digest of a text in digits (digest.c). */
+void sha256(const char *text, size_t length, char digits[65]);
 
 /* The core (core.c): its session, and the trace that is written of it. */
 
@@ -26,8 +61,8 @@ struct core {
     size_t count;
     uint8_t *reply, *line; /* with room for the longest of each, and a NUL */
     size_t reply_room, line_room;
-    const char *path; /* of the trace; that of volume N > 1 ends with .N */
-    int trace;
+    const char *path; /* of the trace; that of volume N > 1 ends with .N, of five digits */
+    int trace, list, published;
     unsigned volume;
     size_t written; /* lines of the volume that are in its file */
     size_t most;    /* calls of a volume; 0 for as many as it holds */
@@ -36,9 +71,13 @@ struct core {
     double asking; /* microseconds in the core, and in writing the trace */
 };
 
+/* Opens the file to which the digest of each volume is added at its end, and that of the configuration before. It has
+ * to be new, unless it is no ordinary file. */
+void core_publish(struct core *core, const char *path);
 /* Opens a core in the boot state of a configuration, or in the state of a text. */
 void core_open(struct core *core, const char *path, bool is_state);
-/* Begins the trace, to which each call is written, and keeps the states in which its volumes begin, if asked for. */
+/* Begins the trace, to which each call is written, with the list of its volumes, and keeps the states in which these
+ * begin, if asked for. */
 void core_trace(struct core *core, const char *trace, bool redacted);
 void core_close(struct core *core);
 
@@ -92,8 +131,7 @@ struct comparison mmu_compare(struct mmu *mmu, struct core *core);
 /* Devices (devices.c): a serial line, on which a guest prints, and what firmware looks for. */
 
 struct devices {
-    char line[200];
-    size_t length;
+    struct line line;
     uint8_t serial[8], speed[2], cmos, keyboard;
 };
 
@@ -122,8 +160,9 @@ struct vcpu {
 struct guest {
     struct monitor *monitor;
     unsigned slot;
+    const struct boot *boot; /* what the command line has for it, or NULL */
     enum mode mode;
-    bool is_active;
+    bool is_active, is_as_named; /* its images were approved, and are those of the command line */
     atomic_bool has_ended;
     unsigned users; /* its slot, and threads */
     int vm, ends;   /* KVM's, and what wakes the thread of its faults */
@@ -142,8 +181,10 @@ struct monitor {
     struct core core;
     struct mmu mmu;
     struct guest *guests[SLOTS];
-    enum mode modes[SLOTS];
-    int kvm, events; /* KVM, and the socket of what happens to guests */
+    const struct plan *plan;
+    enum mode modes[MOST_GUESTS];
+    struct host_process host;
+    int kvm, served, stop; /* KVM; set when the host makes no more calls; set when none is answered any more */
     size_t run_size;
     atomic_uint faults, exits;
     unsigned lives; /* of guests whose threads are not all gone */
@@ -161,7 +202,10 @@ void guest_end(struct guest *guest);
 /* Its slot is empty. */
 void guest_close(struct guest *guest);
 
-/* Sends the host a line: what happened (fault, notified or ended), slot, virtual processor, a number. */
+/* Serves the host's calls, and prints what it prints, until it is stopped: a thread. */
+void *serve_host(void *monitor);
+/* Sends the host a line: what happened (fault, notified or ended), slot, virtual processor, a number. It waits for room
+ * as long as the guest does not end, so it is called without the lock. */
 void monitor_event(struct monitor *monitor, const char *name, const struct vcpu *vcpu, uint32_t number);
 
 /* Microseconds of the clock. */
