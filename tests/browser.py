@@ -98,6 +98,12 @@ class Browser:
         """Writes a screenshot, as PNG."""
         path.write_bytes(base64.b64decode(self.ask("Page.captureScreenshot", format="png")["data"]))
 
+    def print(self, size):
+        """Prints the page on sheets of this width and height, in inches. Returns the PDF."""
+        width, height = size
+        said = self.ask("Page.printToPDF", printBackground=True, paperWidth=width, paperHeight=height)
+        return base64.b64decode(said["data"])
+
     def seconds(self):
         """The processor seconds that the processes of its pages have taken."""
         session, self.session = self.session, None

@@ -9,6 +9,7 @@ function choose(number) {
   byId("hover").textContent = "";
   draw();
   fillLives();
+  fillShares();
   fillRefusals();
   fillAccesses();
 }
@@ -58,18 +59,40 @@ function fillDigests() {
   }
 }
 
+// The VM that the address names, as `#vm=3`, if it can be shown, or the first.
+function addressed() {
+  const options = [...byId("vm").options].map(it => it.value), named = /^#vm=(\d+)$/.exec(location.hash)?.[1];
+  return Number(options.includes(named) ? named : options[0]);
+}
+
+// Shows the lines that are asked for, or says that there are none.
+function lookAtAsked() {
+  const [first, last] = ["first", "last"].map(it => byId(it).value);
+  const areThere = Number(first) >= 1 && Number(first) <= Math.min(Number(last), lastLine);
+  byId("hover").textContent = areThere ? "" : `There are no lines from ${first || "?"} to ${last || "?"}. The trace has lines 1 to ${lastLine}.`;
+  if (areThere) look(Number(first), Number(last) + 1);
+}
+
 function listen() {
-  byId("vm").onchange = () => choose(Number(byId("vm").value));
+  byId("vm").onchange = () => location.hash = `vm=${byId("vm").value}`;
+  window.onhashchange = () => choose(addressed());
+  // On paper all lives are shown, and the drawing is as wide as the paper.
+  window.onbeforeprint = () => {
+    isPrinting = true;
+    fillLives(shown.lives.length);
+    draw();
+  };
+  window.onafterprint = () => {
+    isPrinting = false;
+    draw();
+  };
   byId("everyone").onchange = fillRefusals;
   byId("in").onclick = () => zoom(1 / 1.6);
   byId("out").onclick = () => zoom(1.6);
   byId("left").onclick = () => move(-.25);
   byId("right").onclick = () => move(.25);
   byId("all").onclick = lookAtAll;
-  for (const id of ["first", "last"]) byId(id).onchange = () => {
-    const first = Number(byId("first").value), last = Number(byId("last").value);
-    if (first >= 1 && last >= first) look(first, last + 1);
-  };
+  for (const id of ["first", "last"]) byId(id).onchange = lookAtAsked;
   byId("question").oninput = () => byId("answer").textContent = "";
   byId("question").onsubmit = event => {
     event.preventDefault();
@@ -106,16 +129,17 @@ function start() {
   byId("about").textContent = `${numbered(head.frames, "frame", "frames")} and ${numbered(head.slots, "slot", "slots")}; ${numbered(end.calls, "call", "calls")}, on lines 2 to ${placed(lastLine)} of ${volumes.length ? numbered(volumes.length, "volume", "volumes") : "the trace"}; ${numbered(count, "call was", "calls were")} refused.`;
   byId("main").hidden = false;
   fillDigests();
-  for (const number of [...vms.keys()].sort((a, b) => a - b)) byId("vm").add(new Option(`vm ${number}`, number));
-  if (!vms.size) {
+  const numbers = offered();
+  for (const number of numbers) byId("vm").add(new Option(`vm ${number}`, number));
+  if (!numbers.length) {
     byId("vm").add(new Option("none", 0));
-    vm(0);
+    byId("everyone").checked = true;
   }
   if (volumes.length) Object.assign(byId("line"), { type: "text", pattern: "[0-9]+(:[0-9]+)?", placeholder: "or as 3:17", title: "A line of all volumes, or a volume and a line of it, as 3:17" });
   listen();
   from = 1;
   until = lastLine + 1;
-  choose(Number(byId("vm").value));
+  choose(addressed());
 }
 
 try {

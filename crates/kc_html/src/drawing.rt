@@ -3,9 +3,9 @@
 pub(crate) const DRAWING: &str = r##"
 // The page.
 
-let shown, from, until, rows = [], marks = [], rowHeight = 0, cursor = null, scale = 1;
+let shown, from, until, rows = [], marks = [], rowHeight = 0, cursor = null, scale = 1, isPrinting = false;
 const plot = byId("plot"), pen = plot.getContext("2d");
-const GUTTER = 126, STRIP = 48, AXIS = 22, MOST = 520;
+const GUTTER = 126, STRIP = 48, AXIS = 22, MOST = 520, PAPER = 720;
 const COLOURS = { private: "#7aa2cf", shared: "#8f4300", reached: "#120300", refusal: "#d4002a", ink: "#1a1a1a" };
 
 // A shared frame that the host has not mapped is hatched, if its row is high enough.
@@ -39,10 +39,10 @@ const lineAt = x => from + (x - GUTTER) / (width() - GUTTER - 8) * (until - from
 const topOf = row => STRIP + row * rowHeight;
 
 function draw() {
-  scale = Math.max(1, window.devicePixelRatio || 1);
+  scale = isPrinting ? 3 : Math.max(1, window.devicePixelRatio || 1);
   rows = shown.stays.filter(it => it.first < until && it.last + 1 > from);
   rowHeight = Math.min(18, MOST / Math.max(rows.length, 1));
-  const wide = Math.max(plot.clientWidth, 400), high = STRIP + Math.max(rows.length * rowHeight, 18) + AXIS;
+  const wide = isPrinting ? PAPER : Math.max(plot.clientWidth, 400), high = STRIP + Math.max(rows.length * rowHeight, 18) + AXIS;
   plot.width = Math.round(wide * scale);
   plot.height = Math.round(high * scale);
   plot.style.height = `${high}px`;
@@ -101,6 +101,16 @@ function textOfLife(it) {
   return began + measured + (it.cleared === null ? "" : `, cleared on line ${placed(it.cleared)}`);
 }
 
+// The mark of measuring in the box of a life, and words beside it, where there is room.
+function drawMeasured(it, x, to) {
+  const isSeen = it.active !== null && it.active >= from && it.active < until, at = across(it.active);
+  if (isSeen) pen.fillRect(at - .5, 17, 2, 16);
+  const said = it.active !== null ? `measured on line ${placed(it.active)}` : it.dead !== null ? "" : "not measured";
+  const rooms = isSeen ? [[at + 1.5, to], [x, at - .5]] : [[x, to]], length = pen.measureText(said).width + 10;
+  const room = rooms.find(([first, last]) => last - first > length);
+  if (room) pen.fillText(said, room[0] + 5, 29);
+}
+
 // Lives are boxes above the rows, and a boot that was rejected is a line through all of them, with words above.
 function drawLives(high) {
   let free = 0;
@@ -114,9 +124,7 @@ function drawLives(high) {
     pen.lineWidth = 1;
     pen.strokeRect(x + .5, 17.5, wide - 1, 15);
     pen.fillStyle = COLOURS.ink;
-    if (it.active !== null && it.active >= from && it.active < until) pen.fillRect(across(it.active) - .5, 28, 2, 5);
-    const said = it.active !== null ? `measured on line ${placed(it.active)}` : isDead ? "" : "not measured";
-    if (wide > pen.measureText(said).width + 10) pen.fillText(said, x + 5, 29);
+    drawMeasured(it, x, x + wide);
     if (!isDead || it.dead < from || it.dead >= until) continue;
     const at = across(it.dead + .5);
     pen.fillStyle = COLOURS.refusal;

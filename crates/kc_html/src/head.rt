@@ -5,29 +5,33 @@ pub const HEAD: &str = r##"<!doctype html>
 <html lang="en">
 <head>
 <meta charset="utf-8">
-<meta http-equiv="Content-Security-Policy" content="default-src 'none'; script-src 'sha256-o1u+9eJobFxraVj9IO4YXrF1z4ryVQm6YpQD/l6rzko='; style-src 'sha256-tu11GQs5W92bGcK1S2WniB5DRW+8fymuqX745x+owzI='; base-uri 'none'; form-action 'none'">
+<meta http-equiv="Content-Security-Policy" content="default-src 'none'; script-src 'sha256-3PzEMTKvQfO1032drY1hYLTqpe8OeLACFwHFjbXaHn0='; style-src 'sha256-XKVkzifYMbmyCly1sLUoHbHA4vv/JDbiF/BUDZqlRv4='; base-uri 'none'; form-action 'none'">
 <meta name="viewport" content="width=device-width, initial-scale=1">
 <title>Custody of a trace</title>
 <style>
-:root { color-scheme: light; }
-body { margin: 1rem auto; padding: 0 1rem; max-width: 90rem; font: 15px/1.45 system-ui, sans-serif; color: #1a1a1a; background: #fff; }
+:root { color-scheme: light dark; --ink: #1a1a1a; --faint: #4a4a4a; --ground: #fff; --raised: #f0f0f0; --pointed: #dcdcdc; --rule: #e2e2e2; --edge: #c4c4c4; --border: #6b6b6b; --link: #0b4f8a; --alarm: #a00020; --rejected: #fde8ec; }
+@media screen and (prefers-color-scheme: dark) {
+:root { --ink: #e6e6e6; --faint: #b8b8b8; --ground: #17191c; --raised: #2a2d31; --pointed: #3d4146; --rule: #34383d; --edge: #50555b; --border: #90959b; --link: #8cc4ff; --alarm: #ff8fa3; --rejected: #4d1522; }
+}
+body { margin: 1rem auto; padding: 0 1rem; max-width: 90rem; font: 15px/1.45 system-ui, sans-serif; color: var(--ink); background: var(--ground); }
 h1 { font-size: 1.4rem; margin: 0; }
 h2 { font-size: 1.1rem; margin: 1.4rem 0 .3rem; }
 p { margin: .3rem 0; }
 label { white-space: nowrap; }
-select, input, button { font: inherit; color: inherit; background: #fff; border: 1px solid #6b6b6b; border-radius: 3px; padding: .15rem .45rem; }
-button { background: #f0f0f0; cursor: pointer; }
-button:hover { background: #dcdcdc; }
-button.line { border: 0; background: none; padding: 0; color: #0b4f8a; text-decoration: underline; }
+select, input, button { font: inherit; color: inherit; background: var(--ground); border: 1px solid var(--border); border-radius: 3px; padding: .15rem .45rem; }
+button { background: var(--raised); cursor: pointer; }
+button:hover { background: var(--pointed); }
+button.line { border: 0; background: none; padding: 0; color: var(--link); text-decoration: underline; }
 input:not([type=checkbox]) { width: 6.5rem; }
-:focus-visible { outline: 3px solid #0b4f8a; outline-offset: 2px; }
+::placeholder { color: var(--faint); opacity: 1; }
+:focus-visible { outline: 3px solid var(--link); outline-offset: 2px; }
 .controls { display: flex; flex-wrap: wrap; gap: .5rem 1rem; align-items: center; margin: .8rem 0; }
 .buttons { display: flex; flex-wrap: wrap; gap: .3rem; }
 figure { margin: 0; }
 canvas { display: block; width: 100%; touch-action: pan-y; cursor: crosshair; }
 #hover { min-height: 1.45em; font-weight: 600; }
 .legend { display: flex; flex-wrap: wrap; gap: .2rem 1.3rem; list-style: none; margin: .2rem 0; padding: 0; }
-.legend svg { vertical-align: -2px; }
+.legend svg { vertical-align: -2px; background: #fff; outline: 1px solid #fff; }
 .private { fill: #7aa2cf; }
 .shared { fill: #8f4300; }
 .hatch { fill: none; stroke: #ffdcb8; }
@@ -35,29 +39,33 @@ canvas { display: block; width: 100%; touch-action: pan-y; cursor: crosshair; }
 .read { fill: #fff; stroke: #000; }
 .write { fill: #000; stroke: #fff; }
 .refusal { fill: #d4002a; stroke: #fff; }
-#keys { color: #4a4a4a; }
+#keys { color: var(--faint); }
 #question label { margin-right: .6rem; }
 #answer { display: block; min-height: 1.45em; margin: .4rem 0; font-weight: 600; }
-#fault { font-weight: 600; border: 2px solid #a00020; padding: .5rem; }
-.table { max-height: 24rem; overflow: auto; border: 1px solid #c4c4c4; margin-top: .3rem; }
+#fault { font-weight: 600; border: 2px solid var(--alarm); padding: .5rem; }
+.table { max-height: 24rem; overflow: auto; border: 1px solid var(--edge); margin-top: .3rem; }
 table { border-collapse: collapse; width: 100%; font-variant-numeric: tabular-nums; }
 caption { text-align: left; padding: .2rem .5rem; }
-th, td { text-align: left; vertical-align: top; padding: .1rem .5rem; border-bottom: 1px solid #e2e2e2; }
-thead th { position: sticky; top: 0; background: #f0f0f0; }
-td.number, th.number { text-align: right; width: 1%; white-space: nowrap; }
-tr.rejected td { background: #fde8ec; font-weight: 600; }
+th, td { text-align: left; vertical-align: top; padding: .1rem .5rem; border-bottom: 1px solid var(--rule); }
+thead th { position: sticky; top: 0; background: var(--raised); }
+td.number, th.number { text-align: right; width: 1%; }
+tr.measured td { border-bottom: 0; }
+tr.rejected td { background: var(--rejected); font-weight: 600; }
 code { font: .9em ui-monospace, monospace; overflow-wrap: anywhere; }
+td code { display: inline-block; font-size: .85em; }
 dl { display: grid; grid-template-columns: max-content 1fr; gap: .1rem .8rem; margin: .3rem 0; }
 dd { margin: 0; }
-footer { border-top: 1px solid #c4c4c4; margin-top: 1.5rem; }
+footer { border-top: 1px solid var(--edge); margin-top: 1.5rem; }
 @media print {
+:root { color-scheme: light; }
 body { margin: 0; padding: 0; max-width: none; font-size: 10pt; print-color-adjust: exact; -webkit-print-color-adjust: exact; }
-.buttons, #keys, #hover, #question, td button.more, label:has(#everyone) { display: none; }
-select, input { border: 0; padding: 0; appearance: none; }
+.buttons, #keys, #hover, #question, label:has(#everyone) { display: none; }
+select, input, button.more { border: 0; padding: 0; appearance: none; background: none; }
 canvas { break-inside: avoid; }
 .table { max-height: none; overflow: visible; border: 0; }
 thead th { position: static; }
-tr { break-inside: avoid; }
+h2, caption, thead, tr.measured { break-after: avoid; }
+thead, tr { break-inside: avoid; }
 button.line { color: inherit; text-decoration: none; }
 }
 </style>
@@ -107,6 +115,10 @@ button.line { color: inherit; text-decoration: none; }
 <div class="table" tabindex="0" role="region" aria-labelledby="lives-title"><table id="lives"></table></div>
 </section>
 <section>
+<h2 id="shares-title">Sharing</h2>
+<div class="table" tabindex="0" role="region" aria-labelledby="shares-title"><table id="shares"></table></div>
+</section>
+<section>
 <h2 id="refusals-title">Refused calls</h2>
 <label><input id="everyone" type="checkbox"> also those that do not concern this VM</label>
 <div class="table" tabindex="0" role="region" aria-labelledby="refusals-title"><table id="refusals"></table></div>
@@ -119,7 +131,7 @@ button.line { color: inherit; text-decoration: none; }
 <footer>
 <h2>Of what, and by what</h2>
 <dl id="digests"></dl>
-<p>The lines are in the source of this page as <code>kcore custody --refused --accesses</code> writes them, from the one that begins with <code>{"custody"</code> to the one that begins with <code>{"calls"</code>. What a browser shows of them is not proved.</p>
+<p>The lines are in the source of this page as <code>kcore custody --refused --accesses</code> writes them (or <code>--refused --unseen</code>), from the one that begins with <code>{"custody"</code> to the one that begins with <code>{"calls"</code>. What a browser shows of them is not proved.</p>
 </footer>
 <script id="lines" type="application/x-ndjson">
 "##;

@@ -3,7 +3,8 @@
 pub(crate) const READING: &str = r##"</script>
 <script>
 "use strict";
-// Reads the lines of `kcore custody --refused --accesses`, which docs/TEXTS.md describes, and shows them.
+// Reads the lines of `kcore custody --refused --accesses` or `--refused --unseen`, which docs/TEXTS.md describes, and shows
+// them.
 
 const byId = id => document.getElementById(id);
 const numbered = (count, one, many) => `${count.toLocaleString("en")} ${count === 1 ? one : many}`;
@@ -31,11 +32,23 @@ function life(of, registered) {
 }
 const lastLife = of => of.lives.length ? of.lives[of.lives.length - 1] : life(of, null);
 
-// A line as it is shown: if there are volumes, with the volume that it is in and its line there. (Line 1 is the header
-// of the first.)
-function placed(line) {
+// The volume that a line is in, if there are volumes, and its line there. (Line 1 is the header of the first.)
+function within(line) {
   const volume = volumes.findLast(it => it.line <= line) ?? volumes[0];
-  return volume ? `${line} (volume ${volume.volume}, line ${line - volume.line + 2})` : String(line);
+  return volume ? [volume.volume, line - volume.line + 2] : null;
+}
+
+// A line as it is shown in a sentence, and in a table, there as the box takes it.
+function placed(line) {
+  const it = within(line);
+  return it ? `${line} (volume ${it[0]}, line ${it[1]})` : String(line);
+}
+const placedShort = line => within(line)?.join(":") ?? String(line);
+
+// The VMs that can be shown: the one that all lines concern, as with `--vm`, or those that had anything.
+function offered() {
+  const alone = common?.size === 1 ? [...common].filter(it => vms.has(it)) : [];
+  return alone.length ? alone : [...vms.values()].filter(it => it.lives.length || it.stays.length).map(it => it.number).sort((a, b) => a - b);
 }
 
 function concern(one, other) {

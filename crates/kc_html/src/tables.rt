@@ -14,7 +14,7 @@ function goTo(line) {
   const it = document.createElement("button");
   it.type = "button";
   it.className = "line";
-  it.textContent = placed(line);
+  it.textContent = placedShort(line);
   it.onclick = () => {
     const length = Math.min(until - from, 400);
     look(line - length / 2, line + length / 2);
@@ -24,7 +24,7 @@ function goTo(line) {
 }
 
 // A table with these columns, whose first rows are there at once, and the others when they are asked for.
-function fill(id, columns, data, add, caption) {
+function fill(id, columns, data, add, caption, atOnce = 300) {
   const table = byId(id);
   table.replaceChildren();
   table.createCaption().textContent = caption;
@@ -53,21 +53,60 @@ function fill(id, columns, data, add, caption) {
     row.insertCell().colSpan = columns.length;
     row.cells[0].append(it);
   };
-  more(300);
+  more(atOnce);
 }
 
-function fillLives() {
-  const columns = [["registered", "number"], ["measured", "number"], ["rejected", "number"], ["cleared", "number"], ["frames", "number"], ["reads", "number"], ["writes", "number"], ["refused", "number"], ["boot images: first guest frame, bytes, SHA-256"]];
+const byLines = () => volumes.length ? "by volume and line, as 3:17" : "by lines of the trace";
+
+// The boot images of a life have a row of their own below it, so that there is room for their digests.
+function addImages(row, images) {
+  row.insertCell().colSpan = 8;
+  for (const image of images) {
+    const line = document.createElement("div"), digest = document.createElement("code");
+    digest.textContent = image.sha256;
+    line.append(`boot image: guest frame ${image.base}, ${numbered(image.len, "byte", "bytes")}, SHA-256 `, digest);
+    row.cells[0].append(line);
+  }
+}
+
+function fillLives(atOnce) {
+  const columns = ["registered", "measured", "rejected", "cleared", "frames", "reads", "writes", "refused"].map(it => [it, "number"]);
   const add = (row, it) => {
-    if (it.dead !== null) row.className = "rejected";
-    for (const line of [it.registered ?? `before line ${placed(2)}`, it.active ?? "", it.dead ?? "", it.cleared ?? ""]) cell(row, typeof line === "number" ? goTo(line) : line, "number");
+    const kind = it.dead !== null ? "rejected" : "";
+    row.className = kind;
+    for (const line of [it.registered ?? `before ${placedShort(2)}`, it.active ?? "", it.dead ?? "", it.cleared ?? ""]) cell(row, typeof line === "number" ? goTo(line) : line, "number");
     const unseen = head.accesses === "unseen" ? "not recorded" : null;
     for (const count of [it.frames.size, unseen ?? it.reads, unseen ?? it.writes, it.aimed]) cell(row, count, "number");
-    const images = document.createElement("code");
-    images.textContent = it.images.map(image => `${image.base}, ${image.len}, ${image.sha256}`).join("; ");
-    cell(row, images);
+    if (!it.images.length) return;
+    row.classList.add("measured");
+    const images = row.parentNode.insertRow();
+    images.className = kind;
+    addImages(images, it.images);
   };
-  fill("lives", columns, shown.lives, add, `${numbered(shown.lives.length, "life", "lives")} of vm ${shown.number}, by lines of the trace`);
+  fill("lives", columns, shown.lives, add, `${numbered(shown.lives.length, "life", "lives")} of vm ${shown.number}, ${byLines()}`, atOnce);
+}
+
+// The stretches in which frames were shared, each from the call that shared the frame to the one that ended that.
+function stretchesOf(stays) {
+  const found = [];
+  for (const { frame, gfn, parts } of stays) {
+    let open = null;
+    for (const it of parts) {
+      if (it.share === 0) open = null;
+      else if (!open) found.push(open = { frame, gfn, from: it.first, to: null });
+      if (open) open.to = it.last < lastLine ? it.last + 1 : null;
+    }
+  }
+  return found.sort((a, b) => a.from - b.from || a.frame - b.frame);
+}
+
+function fillShares() {
+  const columns = ["frame", "guest frame", "from", "to"].map(it => [it, "number"]), found = stretchesOf(shown.stays);
+  const add = (row, it) => {
+    for (const value of [it.frame, it.gfn, goTo(it.from), it.to === null ? "still shared" : goTo(it.to)]) cell(row, value, "number");
+  };
+  const others = head.state === null ? "" : "; a frame that no line names is not among them";
+  fill("shares", columns, found, add, `${numbered(found.length, "stretch", "stretches")} in which vm ${shown.number} shared a frame: from the call that shared it to the one that ended that, ${byLines()}${others}`);
 }
 
 function fillRefusals() {
