@@ -82,7 +82,7 @@ all_held ends after files opened long =
 
 pub volumes_given : {S : Type 0} {left : S → Option (List ℕ)} {failed : S → Bool} (order : CustodyOrder) (old account : CustodyAccount) (m : State) (start : Seen) (after : List Path) (ends : Ends) (files : List Seen) (r : Result Answered TextFault) → HasBegun order old m start → AreOpened left failed ends.held ends.refused after files → length files ≡ length after
     → ReadsOn old account ends.refused (ends.input ∷ files) 1 (Ok None) → Gives account ends r → ReportsVolumes left failed order.origin order.form order.scope after start ends (answered_as r)
-volumes_given order old account m start after ends files r begun opened long reads gives = by_result r gives
+volumes_given {left = left} {failed = failed} order old account m start after ends files r begun opened long reads gives = by_result r gives
   where
     told : HasTold order account m (ends.input.had ∷ held_by ends.held after)
     told = subst (λ (held : List (Option (List ℕ))). HasTold order account m held) (all_held ends after files opened long) (reads.told refl order m [] begun.told)
@@ -269,9 +269,9 @@ begun_texts origin start trace unread f none other h = record {
   told = h.told;
 }
 
-pub not_begun : {A : Type 0} {S : Type 0} {left : S → Option (List ℕ)} {failed : S → Bool} (order : CustodyOrder) (start : Seen) (after : List Path) (ends : Ends) (f : TextFault) → ends.refused ≡ None → ends.unread → ends.input.failed ≡ false → ends.out.failed ≡ false → ends.untouched → TellsSources {A = A} (start ∷ []) (Err f)
+pub not_begun : {A : Type 0} {S : Type 0} (left : S → Option (List ℕ)) (failed : S → Bool) (order : CustodyOrder) (start : Seen) (after : List Path) (ends : Ends) (f : TextFault) → ends.refused ≡ None → ends.unread → ends.input.failed ≡ false → ends.out.failed ≡ false → ends.untouched → TellsSources {A = A} (start ∷ []) (Err f)
     → ((trace : Seen) → TellsTexts {A = A} order.origin start trace (Unit {0}) (Err f)) → TellsCustody {A = A} order.scope.vm order.origin start.had (Unit {0}) (Err f) → f ≢ texts.Write → ((said : TraceFault) → f ≢ texts.Trace said) → ReportsCustody left failed order.origin order.form order.scope after start ends (Err f)
-not_begun order start [] ends f opened unread mark out untouched sources told custody write trace = record {
+not_begun left failed order start [] ends f opened unread mark out untouched sources told custody write trace = record {
   opened = opened;
   ending = tt;
   written = tt;
@@ -291,7 +291,7 @@ not_begun order start [] ends f opened unread mark out untouched sources told cu
   custody = begun_custody order.scope.vm order.origin start.had ends.unread f unread custody;
   sink = sink_kept _ _ _ f out untouched write;
 }
-not_begun order start (path ∷ after) ends f opened unread mark out untouched sources told custody write trace = record {
+not_begun left failed order start (path ∷ after) ends f opened unread mark out untouched sources told custody write trace = record {
   files = [];
   opened = record { files = tt; are = refl; next = rw opened tt };
   ending = tt;
@@ -312,13 +312,13 @@ not_begun order start (path ∷ after) ends f opened unread mark out untouched s
 }
 
 -- of one trace, or of several volumes
-pub one_reported : {S : Type 0} {left : S → Option (List ℕ)} {failed : S → Bool} (origin : Origin) (form : CustodyForm) (scope : Scope) (after : List Path) (start : Seen) (ends : Ends) (ended : Ended) → length after ≡ 0 → ReportsTrace origin form scope start ends ended → ReportsCustody left failed origin form scope after start ends ended
-one_reported origin form scope [] start ends ended none is = is
-one_reported origin form scope (path ∷ after) start ends ended none is = absurd (omega (arith, none))
+pub one_reported : {S : Type 0} (left : S → Option (List ℕ)) (failed : S → Bool) (origin : Origin) (form : CustodyForm) (scope : Scope) (after : List Path) (start : Seen) (ends : Ends) (ended : Ended) → length after ≡ 0 → ReportsTrace origin form scope start ends ended → ReportsCustody left failed origin form scope after start ends ended
+one_reported left failed origin form scope [] start ends ended none is = is
+one_reported left failed origin form scope (path ∷ after) start ends ended none is = absurd (omega (arith, none))
 
-pub all_reported : {S : Type 0} {left : S → Option (List ℕ)} {failed : S → Bool} (origin : Origin) (form : CustodyForm) (scope : Scope) (after : List Path) (start : Seen) (ends : Ends) (ended : Ended) → length after ≢ 0 → ReportsVolumes left failed origin form scope after start ends ended → ReportsCustody left failed origin form scope after start ends ended
-all_reported origin form scope [] start ends ended some is = absurd (some refl)
-all_reported origin form scope (path ∷ after) start ends ended some is = is
+pub all_reported : {S : Type 0} (left : S → Option (List ℕ)) (failed : S → Bool) (origin : Origin) (form : CustodyForm) (scope : Scope) (after : List Path) (start : Seen) (ends : Ends) (ended : Ended) → length after ≢ 0 → ReportsVolumes left failed origin form scope after start ends ended → ReportsCustody left failed origin form scope after start ends ended
+all_reported left failed origin form scope [] start ends ended some is = absurd (some refl)
+all_reported left failed origin form scope (path ∷ after) start ends ended some is = is
 
 -- what an account has to be to be reported
 pub some_begun : (order : CustodyOrder) (account : CustodyAccount) (m : State) (start : Seen) → HasBegun order account m start → (o : CustodyOrder) × (n : State) × (source : Seen) × HasBegun o account n source

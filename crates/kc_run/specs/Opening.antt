@@ -17,7 +17,7 @@ default_config = codes "{\"frames\":8,\"core\":1,\"host\":4,\"leaves\":1,\"appro
 abbrev pub IsDefault : Seen → Type 0
 IsDefault source = (source.had ≡ Some default_config) × (source.failed ≡ false)
 
--- this source is an open file, as it was before any read of it failed and as it was left; `left` and `failed` say of a file what is left of it, and whether a read of it failed
+-- this source is an open file, as it was when no read of it had failed and as it was left; `left` and `failed` say of a file what is left of it, and whether a read of it failed
 pub record IsOfFile {S : Type 0} (left : S → Option (List ℕ)) (failed : S → Bool) (source : Seen) : Type 0 where
   pub old : S
   pub new : S

@@ -45,7 +45,7 @@ IsAnswered origin start trace (endings.Answered answered) = AreAnswered origin s
 IsAnswered origin start trace (endings.Another answered line) = AreAnswered origin start trace answered
 IsAnswered origin start trace ending = ⊥
 
--- what runs then reads the file at this path, or that cannot be opened
+-- the file at this path cannot be opened, or it is open and what runs reads it
 abbrev pub OverFile : {S : Type 0} → (S → Option (List ℕ)) → (S → Bool) → Path → (Seen → Ends → Ended → Type 0) → Ends → Ended → Type 0
 OverFile left failed path Runs ends ended = IsUnopened path ends ended ⊎ ((source : Seen) × IsOfFile left failed source × (source.had ≡ ends.held path.now) × Runs source ends ended)
 

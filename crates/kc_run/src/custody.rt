@@ -53,7 +53,8 @@ fn read_files<F: Files>(
     requires files { F.refused files.old ≡ None }
     requires told { (order : CustodyOrder) × (m : State) × (sources : List (Option (List ℕ)))
         × HasTold order account.old m sources }
-    ensures read { ReadsFiles F.File.left F.File.failed account.old account.new (F.held files.old) (F.refused files.new) 2 after.now result }
+    ensures read { ReadsFiles F.File.left F.File.failed account.old account.new (F.held files.old) (F.refused files.new)
+        2 after.now result }
     ensures same { F.held files.new ≡ F.held files.old }
 {
     let mut number = 1;

@@ -10,4 +10,4 @@ returns-in_default g c =
 pub returns : goal.returns
 returns g c =
     let done = c.live_text-answer.ensures in
-    rw (c.in-Some.is, c.done.ensures, c.close.ensures.refused, c.in_ok-file.ensures.opened) (inr (_, record { old = c.in_ok-file.file; new = c.live_text-answer.new.config; ready = c.in_ok-file.ensures.ready; seen_is = refl }, c.in_ok-file.ensures.bytes, runs_live _ _ _ c.live_text-answer.result refl done.ok done.sources done.texts done.sink done.workers done.actor done.slot done.started done.unsettled))
+    rw (c.in-Some.is, c.done-2.ensures, c.close.ensures.refused, c.in_ok-file.ensures.opened) (inr (_, record { old = c.in_ok-file.file; new = c.live_text-answer.new.config; ready = c.in_ok-file.ensures.ready; seen_is = refl }, c.in_ok-file.ensures.bytes, runs_live _ _ _ c.live_text-answer.result refl done.ok done.sources done.texts done.sink done.workers done.actor done.slot done.started done.unsettled))

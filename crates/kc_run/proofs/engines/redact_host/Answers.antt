@@ -10,4 +10,4 @@ returns-in_default g c =
 pub returns : goal.returns
 returns g c =
     let done = c.redact_host_text-answer.ensures in
-    rw (← c.path.ensures, c.in-Some.is, c.done.ensures, c.close.ensures.refused, c.in_ok-file.ensures.opened, ← c.origin-origin.ensures) (inr (_, record { old = c.in_ok-file.file; new = c.redact_host_text-answer.new.start; ready = c.in_ok-file.ensures.ready; seen_is = refl }, c.in_ok-file.ensures.bytes, redacts_host _ _ _ c.redact_host_text-answer.result refl done.ok done.sources done.texts done.sink done.others))
+    rw (← c.path.ensures, c.in-Some.is, c.done-2.ensures, c.close.ensures.refused, c.in_ok-file.ensures.opened, ← c.origin-origin.ensures) (inr (_, record { old = c.in_ok-file.file; new = c.redact_host_text-answer.new.start; ready = c.in_ok-file.ensures.ready; seen_is = refl }, c.in_ok-file.ensures.bytes, redacts_host _ _ _ c.redact_host_text-answer.result refl done.ok done.sources done.texts done.sink done.others))
