@@ -8,6 +8,7 @@ mod Headings
 mod Named
 mod Marked
 mod Told
+mod Witnessed
 pub mod Sources
 pub mod Counted
 mod Volumes
