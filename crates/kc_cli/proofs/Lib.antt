@@ -5,7 +5,7 @@ mod Plain
 mod Reported
 mod Ledgers
 mod Headings
-mod Named
+mod Digested
 mod Marked
 mod Told
 mod Witnessed
