@@ -5,9 +5,10 @@ mod Plain
 mod Reported
 mod Ledgers
 mod Headings
-mod Named
+mod Digested
 mod Marked
 mod Told
+mod Witnessed
 pub mod Sources
 pub mod Counted
 mod Volumes

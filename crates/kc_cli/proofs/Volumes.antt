@@ -37,7 +37,7 @@ use Rattle.kc_cli.specs.Ledgers.{HasKept, Keeps, events_kept, IsGiven, IsGivenOf
 use Rattle.kc_cli.specs.Volumes.{known, HasTold}
 use Rattle.kc_cli.proofs.Counted.{answered_by}
 use Rattle.kc_cli.proofs.Headings.{headed}
-use Rattle.kc_cli.proofs.Named.{named_blind}
+use Rattle.kc_cli.proofs.Digested.{named_blind}
 use Rattle.kc_cli.proofs.Ledgers.{account_given, kept_within}
 use Rattle.kc_cli.proofs.Told.{is_told}
 

@@ -1,9 +1,9 @@
 //! The core that the calls of a trace begin with.
-ghost use Rattle.std.specs.Prelude.{◌≡◌, ◌≢◌, ◌≤◌, ℕ, List, Option, false, true, length, IfOk, IfErr, IfSome, OnOk, Ok, Err, Some};
+ghost use Rattle.std.specs.Prelude.{◌≡◌, ◌≢◌, ◌≤◌, ℕ, List, Option, false, true, length, is_some, IfOk, IfErr, IfSome, OnOk, Ok, Err};
 ghost use Rattle.std.specs.Io.KnownBytes.{IsAtEnd};
+ghost use Rattle.sha2.specs.Sha256.{sha256};
 ghost use Rattle.kc_types.specs.Limits.{byte_limit};
 ghost use Rattle.kc_model.specs.Lawful.{IsLawful};
-ghost use Rattle.kc_model.specs.State.{State};
 ghost use Rattle.kc_config_text.specs.ConfigText.{config_in};
 ghost use Rattle.kc_config_text.specs.declared.config_text.ConfigTextFault.{ConfigTextFault};
 ghost use Rattle.kc_state_text.specs.Refused.{IsRefusedState};
@@ -34,7 +34,7 @@ pub(crate) struct Begun {
 
 /// The digest of a configuration's text, if it is asked for.
 fn text_digest(text: &[u8], is_named: bool) -> Option<[u8; 32]>
-    ensures { (m : State) → NamesStart is_named Origin.Boot (Some text.now) m result }
+    ensures { (is_some result ≡ is_named) × IfSome result (λ digest. digest ≡ sha256 text.now) }
 {
     if !is_named {
         return None;

@@ -5,8 +5,8 @@ use Rattle.kc_cli.specs.Ledgers.{HasKept}
 use Rattle.kc_cli.proofs.Told.{kept_after}
 use Rattle.kc_cli.proofs.telling.Kept.tell.Goals as goal
 
-pub loop-part-init : goal.loop-part-init
-loop-part-init g c = record {
+pub loop-witness-init : goal.loop-witness-init
+loop-witness-init g c = record {
   read = (
     [],
     [],
@@ -22,7 +22,7 @@ loop-part-init g c = record {
 
 pub note-requires-clause-lines : goal.note-requires-clause-lines
 note-requires-clause-lines g c =
-    let before = c.loop-part.invariant.read in
+    let before = c.loop-witness.invariant.read in
     let more = c.in_ok-part.ensures.calls before.0 before.1 (g.T.Source.left c.args.trace.now) before.2 in
     let few = more.1.few in
     let long = length-append before.1 c.in_ok-part.part.calls.items in
@@ -33,7 +33,7 @@ note-requires-clause-lines g c =
 
 pub note-requires-clause-counts : goal.note-requires-clause-counts
 note-requires-clause-counts g c =
-    let before = c.loop-part.invariant.read in
+    let before = c.loop-witness.invariant.read in
     let more = c.in_ok-part.ensures.calls before.0 before.1 (g.T.Source.left c.args.trace.now) before.2 in
     let few = more.1.few in
     let long = length-append before.1 c.in_ok-part.part.calls.items in
@@ -43,9 +43,9 @@ note-requires-clause-counts g c =
     let counts = c.requires.counts in
     omega (arith, few, long, denied, same, room, counts)
 
-pub loop-part-preserved : goal.loop-part-preserved
-loop-part-preserved g c =
-    let before = c.loop-part.invariant.read in
+pub loop-witness-preserved : goal.loop-witness-preserved
+loop-witness-preserved g c =
+    let before = c.loop-witness.invariant.read in
     let more = c.in_ok-part.ensures.calls before.0 before.1 (g.T.Source.left c.args.trace.now) before.2 in
     let calls = c.in_ok-part.part.calls.items in
     let long = length-append before.1 calls in
@@ -61,7 +61,7 @@ loop-part-preserved g c =
         omega (arith, long, at),
         omega (arith, long, few, same, noted),
         (rw c.deref-calls.ensures.value at c.note_all.ensures) c.args.is_named before.1 before.5,
-        λ form start first h. kept_after form start first before.1 calls c.loop-part.core _ c.loop-part.self _ (before.6 form start first h) ((rw c.deref.ensures.value at c.in-Ok.ensures.kept) form start)
+        λ form start first h. kept_after form start first before.1 calls c.loop-witness.core _ c.loop-witness.self _ (before.6 form start first h) ((rw c.deref.ensures.value at c.in-Ok.ensures.kept) form start)
             (rw c.deref.ensures.value at c.in-Ok.ensures.state) (rw c.deref.ensures.value at c.in-Ok.ensures.denied) (omega (arith, same, noted)) (rw c.deref.ensures.value at c.in-Ok.ensures.counted) (omega arith),
       );
       few = c.in_ok-part.ensures.few;
@@ -70,7 +70,7 @@ loop-part-preserved g c =
 
 pub returns-in-Ok-finish-clause-ok : goal.returns-in-Ok-finish-clause-ok
 returns-in-Ok-finish-clause-ok g c =
-    let before = c.loop-part.invariant.read in
+    let before = c.loop-witness.invariant.read in
     let more = c.in_ok-part.ensures.calls before.0 before.1 (g.T.Source.left c.args.trace.now) before.2 in
     let calls = c.in_ok-part.part.calls.items in
     let long = length-append before.1 calls in
@@ -82,6 +82,6 @@ returns-in-Ok-finish-clause-ok g c =
       more.1.few,
       omega (arith, long, at),
       c.digest_of.ensures c.args.is_named (before.1 ++ calls) ((rw c.deref-calls.ensures.value at c.note_all.ensures) c.args.is_named before.1 before.5),
-      λ form start first h. kept_after form start first before.1 calls c.loop-part.core _ c.loop-part.self _ (before.6 form start first h) ((rw c.deref.ensures.value at c.in-Ok.ensures.kept) form start)
+      λ form start first h. kept_after form start first before.1 calls c.loop-witness.core _ c.loop-witness.self _ (before.6 form start first h) ((rw c.deref.ensures.value at c.in-Ok.ensures.kept) form start)
           (rw c.deref.ensures.value at c.in-Ok.ensures.state) (rw c.deref.ensures.value at c.in-Ok.ensures.denied) (omega (arith, same, noted)) (rw c.deref.ensures.value at c.in-Ok.ensures.counted) (omega arith),
     )

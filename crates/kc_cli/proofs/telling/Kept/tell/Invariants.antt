@@ -8,8 +8,8 @@ use Rattle.kc_texts.specs.Streamed.{HasRead}
 use Rattle.kc_cli.proofs.telling.Kept.tell.Given as goal
 
 -- what is kept is also of the calls that came so far, and so is what the witness has seen
-abbrev pub invariant-loop-part : goal.invariant-loop-part
-invariant-loop-part g l = record {
+abbrev pub invariant-loop-witness : goal.invariant-loop-witness
+invariant-loop-witness g l = record {
   read : (bytes : List ℕ) × (calls : List Call) × HasRead l.stream bytes calls (g.T.Source.left l.fn.trace) (g.T.Source.left l.trace)
       × (l.self.line ≡ l.fn.self.line + length calls) × (l.self.denials.total ≤ l.fn.self.denials.total + length calls) × HasWitnessed l.is_named l.witness calls
       × ((form : CustodyForm) (start : State) (before : List Call) → HasKept form start before l.fn.core l.fn.self → HasKept form start (before ++ calls) l.core l.self);
@@ -17,5 +17,5 @@ invariant-loop-part g l = record {
   mark : g.T.Source.failed l.trace ≡ false;
 }
 
-abbrev pub decreases-loop-part : goal.decreases-loop-part
-decreases-loop-part g l = byte_limit - l.stream.total
+abbrev pub decreases-loop-witness : goal.decreases-loop-witness
+decreases-loop-witness g l = byte_limit - l.stream.total

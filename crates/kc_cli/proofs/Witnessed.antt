@@ -1,0 +1,34 @@
+-- What a witness has seen of a trace, and what names the text that calls begin with.
+use Rattle.std.proofs.Common.{ℕ, ◌≡◌, ◌<◌, ◌+◌, ◌++◌, Bool, true, false, List, [], ◌∷◌, length, take, get_or, Option, Some, None, ap, sym, ◌∙◌, append_assoc}
+use Rattle.std.proofs.lemmas.List.{append-nil, take_more}
+use Rattle.std.specs.Prelude.{is_some, IfSome}
+use Rattle.std.specs.Io.KnownBytes.{Consumes, IsAtEnd}
+use Rattle.sha2.specs.Sha256.{sha256}
+use Rattle.kc_types.specs.declared.call.Call.{Call}
+use Rattle.kc_model.specs.State.{State}
+use Rattle.kc_redact.specs.Witness.{witnessed}
+use Rattle.kc_faults.specs.declared.origin.Origin.TheVariants as origins
+use Rattle.kc_cli.specs.Custody.{calls_digest, NamesStart}
+
+-- one call more
+pub noted_more : (before calls : List Call) (call : Call) (n : ℕ) → n < length calls → call ≡ get_or calls n call → (before ++ take n calls) ++ call ∷ [] ≡ before ++ take (n + 1) calls
+noted_more before calls call n lt is =
+    append_assoc before (take n calls) (call ∷ [])
+    ∙ ap (λ (one : Call). before ++ (take n calls ++ one ∷ [])) is
+    ∙ ap (λ (rest : List Call). before ++ rest) (sym (take_more calls n call lt))
+
+-- the digest of a witness
+pub digest_seen : (asked : Bool) (digest : List ℕ) (calls : List Call) → true ≡ asked → digest ≡ sha256 (witnessed calls) → Some digest ≡ calls_digest asked calls
+digest_seen true digest calls there is = ap Some is
+digest_seen false digest calls there is = absurd (let never : true ≡ false = there in cc)
+
+-- a configuration that was read to its end is named by the digest of what was read
+pub read_named : (asked : Bool) (first now : Option (List ℕ)) (bytes : List ℕ) (m : State) (digest : Option (List ℕ)) → Consumes first now bytes → IsAtEnd now
+    → (is_some digest ≡ asked) × IfSome digest (λ d. d ≡ sha256 bytes) → NamesStart asked origins.Boot first m digest
+read_named asked None now bytes m None read end is = (is.0, tt)
+read_named asked None now bytes m (Some d) read end is = (is.0, tt)
+read_named asked (Some text) None bytes m digest read end is = absurd read
+read_named asked (Some text) (Some rest) bytes m None read end is = (is.0, tt)
+read_named asked (Some text) (Some rest) bytes m (Some d) read end is =
+    let all : text ≡ bytes = read ∙ ap (λ (more : List ℕ). bytes ++ more) end ∙ append-nil bytes in
+    (is.0, is.1 ∙ ap sha256 (sym all))
