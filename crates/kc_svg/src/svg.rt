@@ -168,13 +168,13 @@ pub struct Svg {
 }
 
 impl Svg {
-    /// Begins a white picture of this height with a title.
+    /// Begins a white picture of this height with a title. It becomes smaller if a window or a sheet is narrower than it.
     pub fn open(alloc: Global, height: Coordinate, title: &Text) -> Svg {
         let mut text = Text::new(alloc);
         let width = Points(WIDTH);
         put!(
             text,
-            "<svg xmlns=\"http://www.w3.org/2000/svg\" version=\"1.1\" width=\"{width}\" height=\"{height}\" viewBox=\"0 0 {width} {height}\" font-family=\"DejaVu Sans, Verdana, Arial, sans-serif\">\n<title>"
+            "<svg xmlns=\"http://www.w3.org/2000/svg\" version=\"1.1\" width=\"{width}\" height=\"{height}\" viewBox=\"0 0 {width} {height}\" style=\"max-width:100%;height:auto\" font-family=\"DejaVu Sans, Verdana, Arial, sans-serif\">\n<title>"
         );
         text.put_text(title);
         text.put("</title>\n");
