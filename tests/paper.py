@@ -1,4 +1,5 @@
 """What is on paper: the words of each page of a PDF and where they are, and how light a page is, by poppler-utils."""
+import html
 import re
 import shutil
 import subprocess
@@ -25,7 +26,7 @@ def words_of(path):
     text = said("pdftotext", "-bbox", path, "-").decode()
     for page in text.split("<page ")[1:]:
         width, = re.findall(PAGE, "<page " + page)
-        yield float(width), [(word, float(left), float(right)) for left, right, word in re.findall(WORD, page)]
+        yield float(width), [(html.unescape(word), float(left), float(right)) for left, right, word in re.findall(WORD, page)]
 
 
 def lightness(path):

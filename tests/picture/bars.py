@@ -3,9 +3,21 @@ import collections
 import re
 
 from picture.case import Case
-from picture.colours import INK, LEFT, colour_of, contrast
-from picture.reading import number, want
+from picture.colours import HATCHED, INK, LEFT, colour_of, contrast
+from picture.reading import is_near, number, want
 from picture.told import title_of
+
+
+def is_striped(shape, bar):
+    """Whether a shape is stripes all over a bar."""
+    return shape.looks["fill"].startswith("url(") and shape.box == bar.box
+
+
+def is_dotted(shape, bar):
+    """Whether a shape is dots from the top of a bar to its bottom."""
+    middle, (left, top, right, bottom) = (bar.box[0] + bar.box[2]) / 2, shape.box
+    is_down = is_near(left, middle) and is_near(right, middle) and is_near(top, bar.box[1]) and is_near(bottom, bar.box[3])
+    return is_down and shape.element.get("stroke-dasharray") == "2" and shape.looks["stroke"] == INK
 
 
 class Bars(Case):
@@ -56,8 +68,12 @@ class Bars(Case):
             first, *others = self.picture.titles[title]
             fill = first.looks["fill"]
             want(colours.setdefault(bar.owner, fill) == fill, f"'{title}' has a colour other than its owner's")
-            is_hatched = any(it.looks["fill"].startswith("url(") and it.box == first.box for it in others)
-            want(is_hatched == (bar.share > 0), f"'{title}' is {'not' if bar.share else 'wrongly'} hatched")
+            # (the edge of stripes without room for them would look like a mark)
+            is_narrow = round(first.box[2] - first.box[0], 2) < HATCHED
+            looks = [is_dotted(it, first) if is_narrow else is_striped(it, first) for it in others]
+            want(any(looks) == (bar.share > 0), f"'{title}' is {'not' if bar.share else 'wrongly'} hatched")
+            edges = [it for it in others if it.looks.get("stroke") and it.kind == "rect"]
+            want(not (is_narrow and edges), f"'{title}' has an edge, and is narrow")
             wide = (first.box[0], first.box[2])
             has_foot = any(it.looks["fill"] == INK and (it.box[0], it.box[2]) == wide for it in others)
             want(has_foot == bar.present, f"'{title}' has {'no' if bar.present else 'a'} foot")

@@ -156,6 +156,7 @@ class Case:
             words |= {} if self.has_bars else {"several VMs'": [SEVERAL]}
         if has_lanes:
             words["shared with the host"] = [hue, "#ffffff", "url(#shared)"]
+            words |= {"shared, if narrow": [hue, "#ffffff", "none"]} if self.has_bars else {}
             words |= {"shares a frame": [hue, INK], "a VM's life": [LIFE], "registered": [EDGE]}
             words |= {"measured and active, or cleared": [INK], "measured and dead": [DEAD]}
         if vm is not None:

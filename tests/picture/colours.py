@@ -1,12 +1,13 @@
 """The colours of a picture, and its size."""
 MOST_FRAMES, MOST_CALLS, MOST_BARS = 64, 2000, 20_000  # that are drawn as bars
 MOST_ROWS_OF_VM, MOST_MARKS = 1000, 10_000  # of a picture of one VM
+HATCHED = 3  # how wide a bar is that has stripes
 LEFT, PLOT = 92, 1088  # where the first line begins, and how wide all lines are
 MOST_ROWS, MOST_COLUMNS = 128, 272  # of cells
 # The colours of VMs in slots 0 to 7, darker in the next eight; those of the others are learned from their lanes.
 HUES = ["#0072b2", "#e69f00", "#009e73", "#cc79a7", "#56b4e9", "#d55e00", "#f0e442", "#882255"]
 OTHERS, SEVERAL = {"core": "#3a3a3a", "host": "#dcdcdc", "free": "#ffffff"}, "#7d6b91"
-INK, EDGE, LIFE, DEAD, REFUSED = "#222222", "#999999", "#f0f0f0", "#ff0033", "#ffd700"
+INK, EDGE, LIFE, DEAD, REFUSED = "#222222", "#999999", "#f0f0f0", "#ff0033", "#d4002a"
 PALER = [90, 70, 50, 30, 10, 0]  # of each fifth that VMs have of a cell
 learned = {}
 

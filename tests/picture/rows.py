@@ -9,7 +9,7 @@ from picture.told import title_of_remark
 
 KINDS = {"hread": "reads", "hwrite": "writes"}
 LOOKS = {
-    "reads": ("rect", "#ffffff", INK), "writes": ("rect", INK, "#ffffff"), "refused": ("path", REFUSED, INK),
+    "reads": ("rect", "#ffffff", INK), "writes": ("rect", INK, "#ffffff"), "refused": ("path", REFUSED, "#ffffff"),
     "rejected": ("rect", DEAD, "#ffffff"),
 }
 

@@ -11,6 +11,8 @@ enum Sample {
     Plain(Colour),
     /// A part that is shared.
     Shared(Colour),
+    /// A part that is shared and too narrow for stripes.
+    Narrow(Colour),
     Vms,
     /// With a foot of this height.
     Footed(Colour, u64),
@@ -32,6 +34,10 @@ fn draw_sample(svg: &mut Svg, x: Coordinate, y: Coordinate, sample: Sample) {
         Sample::Shared(colour) => {
             svg.rect(&area, Paint::Plain(colour));
             svg.hatch(&area);
+        },
+        Sample::Narrow(colour) => {
+            svg.rect(&area, Paint::Plain(colour));
+            svg.hatch(&Area::new(x + 675, y, 50, 1_100));
         },
         Sample::Vms => {
             for vm in 0..4u32 {
@@ -124,6 +130,9 @@ impl Legend {
         self.draw_owners(svg, &mut line);
         if self.lanes > 0 {
             line.add(svg, Sample::Shared(self.hue()), "shared with the host");
+            if self.shown != Shown::Cells {
+                line.add(svg, Sample::Narrow(self.hue()), "shared, if narrow");
+            }
         }
         if self.shown != Shown::Cells {
             let colour = if self.vm.is_some() { self.hue() } else { HOST };

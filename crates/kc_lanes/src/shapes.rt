@@ -19,7 +19,7 @@ fn draw_triangle(svg: &mut Svg, x: Coordinate, base: Coordinate, height: u64) {
     steps.put_length("L", x.0);
     steps.put_length(" ", top.0);
     steps.put("Z");
-    svg.path(&steps, Paint::Thin(REFUSED));
+    svg.path(&steps, Paint::Edged(REFUSED, FREE));
 }
 
 /// Draws the shape of a mark in a row.

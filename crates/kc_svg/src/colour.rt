@@ -31,8 +31,8 @@ pub const FREE: Colour = Colour(0xffffff);
 pub const SEVERAL: Colour = Colour(0x7d6b91);
 /// The mark of a VM whose images were not approved.
 pub const DEAD: Colour = Colour(0xff0033);
-/// The mark of a refused call.
-pub const REFUSED: Colour = Colour(0xffd700);
+/// The mark of a refused call, as in the page for a browser.
+pub const REFUSED: Colour = Colour(0xd4002a);
 /// Words and marks.
 pub const INK: Colour = Colour(0x222222);
 /// Lesser words.

@@ -17,6 +17,9 @@ pub(crate) const WIDTH: u64 = 120_000;
 /// Where titles, headings and the foot begin.
 pub const MARGIN: Coordinate = Coordinate(800);
 
+/// Stripes are seen in what is at least as wide.
+const HATCHED: u64 = 300;
+
 /// Slanted stripes, on what lies below them and on white.
 const STRIPES: &str =
     "<defs>\n<pattern id=\"shared\" width=\"5\" height=\"5\" patternUnits=\"userSpaceOnUse\" patternTransform=\"rotate(45)\"><rect width=\"5\" height=\"5\" fill=\"none\"/><rect width=\"2\" height=\"5\" fill=\"#111111\"/></pattern>\n<pattern id=\"white\" width=\"5\" height=\"5\" patternUnits=\"userSpaceOnUse\" patternTransform=\"rotate(45)\"><rect width=\"5\" height=\"5\" fill=\"#ffffff\"/><rect width=\"2\" height=\"5\" fill=\"#111111\"/></pattern>\n</defs>\n";
@@ -168,13 +171,13 @@ pub struct Svg {
 }
 
 impl Svg {
-    /// Begins a white picture of this height with a title.
+    /// Begins a white picture of this height with a title. It becomes smaller if a window or a sheet is narrower than it.
     pub fn open(alloc: Global, height: Coordinate, title: &Text) -> Svg {
         let mut text = Text::new(alloc);
         let width = Points(WIDTH);
         put!(
             text,
-            "<svg xmlns=\"http://www.w3.org/2000/svg\" version=\"1.1\" width=\"{width}\" height=\"{height}\" viewBox=\"0 0 {width} {height}\" font-family=\"DejaVu Sans, Verdana, Arial, sans-serif\">\n<title>"
+            "<svg xmlns=\"http://www.w3.org/2000/svg\" version=\"1.1\" width=\"{width}\" height=\"{height}\" viewBox=\"0 0 {width} {height}\" style=\"max-width:100%;height:auto\" font-family=\"DejaVu Sans, Verdana, Arial, sans-serif\">\n<title>"
         );
         text.put_text(title);
         text.put("</title>\n");
@@ -260,12 +263,26 @@ impl Svg {
         put!(self.text, "<rect {area} {paint}/>\n");
     }
 
-    /// Makes a rectangle paler, and hatches it.
+    /// Makes a rectangle paler, and hatches it. One without room for stripes is dotted, since their edge would look like a
+    /// mark.
     pub fn hatch(&mut self, area: &Area) {
         put!(
             self.text,
-            "<rect {area} fill=\"#ffffff\" fill-opacity=\"0.55\"/>\n<rect {area} fill=\"url(#shared)\" stroke=\"#222222\" stroke-width=\"0.8\"/>\n"
+            "<rect {area} fill=\"#ffffff\" fill-opacity=\"0.55\"/>\n"
         );
+        if area.width < HATCHED {
+            let (x, y) = (area.x + area.width / 2, area.y);
+            let (height, width) = (Points(area.height), Points(area.width.saturating_add(80)));
+            put!(
+                self.text,
+                "<path d=\"M{x} {y}v{height}\" fill=\"none\" stroke=\"{INK}\" stroke-width=\"{width}\" stroke-dasharray=\"2\"/>\n"
+            );
+        } else {
+            put!(
+                self.text,
+                "<rect {area} fill=\"url(#shared)\" stroke=\"{INK}\" stroke-width=\"0.8\"/>\n"
+            );
+        }
     }
 
     /// Draws a foot of this height in a rectangle, over its whole width.
