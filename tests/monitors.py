@@ -12,7 +12,8 @@ import typing
 from common import PROGRAM, TOP
 
 EXAMPLE = TOP / "examples" / "kvm"
-SECONDS = 600
+# How many seconds a run may take, and how many more until it has to have ended, on a busy machine.
+SECONDS, LATE = 600, 60
 COMPARED = re.compile(
     r"monitor: (\d+) calls, (\d+) faults, (\d+) exits; (\d+) frames: (\d+) private pages, (\d+) shared, "
     r"(\d+) otherwise than the record")
@@ -113,7 +114,7 @@ class Trial:
         """Waits until a run has ended, and returns its lines. If its time was over, that is an error of the monitor's
         only if it does not end then; unless it was meant to be cut off, the part is not tried."""
         try:
-            output = process.communicate(timeout=self.limit + 30)[0]
+            output = process.communicate(timeout=self.limit + LATE)[0]
         except subprocess.TimeoutExpired:
             process.kill()
             output = process.communicate()[0]
@@ -134,7 +135,7 @@ class Trial:
         lines = self.ended(self.start(said, config, *guests, "--", self.folder / "hostile.py", name, seconds=seconds),
                            is_cut_off=seconds)
         took = time.monotonic() - begun
-        self.count(not seconds or took < seconds + 20, "it ends in time", f"after {took:.0f} seconds")
+        self.count(not seconds or took < seconds + LATE, "it ends in time", f"after {took:.0f} seconds")
         self.compared(lines)
         self.audited()
         return [line.removeprefix("host: ") for line in lines if line.startswith("host: ")], lines

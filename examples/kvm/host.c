@@ -29,11 +29,11 @@ struct host {
     const struct plan *plan;
     uint8_t *memory;
     struct lines replies, events;
-    uint32_t next;                         /* frames of the host at boot from here on are unused */
+    const char *reply; /* the last one */
+    uint32_t next;     /* frames of the host at boot from here on are unused */
     uint32_t frame_of[MOST_GUESTS][REMEMBERED]; /* what was supplied at the first guest frames */
     bool runs[MOST_GUESTS];                     /* a guest whose first virtual processor has not ended */
     bool has_offered;
-    const char *reply; /* the last one */
     unsigned storm, leaks;
     uint64_t chance;
     int pipes[MOST_GUESTS][2];
