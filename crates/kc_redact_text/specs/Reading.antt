@@ -22,9 +22,9 @@ pub record AreAsGood (core : Option State) (calls others : List Call) : Type 0 w
 abbrev pub AreRead : Option State → Result (Progress × List Call) TraceFault → Progress → List Call → Type 0
 AreRead core read progress calls = (whole : List Call) × (read ≡ Ok (progress, whole)) × AreAsGood core calls whole
 
--- the reader of the trace, and the number of bytes that it was fed, of which none are hashed
+-- the reader of the trace, and the number of bytes that it was fed
 abbrev pub stream_of : Redacting → Streamed
-stream_of r = record { reader = r.reader; total = r.total; hasher = None }
+stream_of r = record { reader = r.reader; total = r.total }
 
 -- whatever was read before, some calls came after it, and are kept redacted; they were made on the core, if there is
 -- one
