@@ -36,7 +36,7 @@ taken_ok core made before after piece calls read none total grown done left now 
     let more = read.0 in (
       more,
       grown ∙ ap (λ kept. before.calls.items ++ kept) read.2.redacted,
-      goes_on_ok (stream_of before) (stream_of before) (stream_of after) piece [] more more (length piece) left left now (stays (stream_of before) left) consumed read.1 none refl total refl (λ bytes held. tt),
+      goes_on_ok (stream_of before) (stream_of before) (stream_of after) piece [] more more (length piece) left left now (stays (stream_of before) left) consumed read.1 none refl total refl,
       done ∙ read.2.made,
     )
 
@@ -47,7 +47,7 @@ none-kept core before after same = rw (same, by-none core) (sym (append-nil befo
 pub taken_err : (core made : Option State) (before after : Redacting) (piece : List ℕ) (fault : TraceFault) → Fails fault (fed before.reader piece) → (fault ≡ Memory → ⊥) → after.reader.fault ≡ Some fault
     → after.total ≡ before.total + length piece → after.calls ≡ before.calls → made ≡ core → HasTaken core made before after piece
 taken_err core made before after piece fault told other some total same idle left now consumed =
-    ([], none-kept core before after same, goes_on_err (stream_of before) (stream_of before) (stream_of after) piece [] fault (length piece) left left now (stays (stream_of before) left) consumed told other some refl total (λ bytes held. tt), idle ∙ sym (after-none core))
+    ([], none-kept core before after same, goes_on_err (stream_of before) (stream_of before) (stream_of after) piece [] fault (length piece) left left now (stays (stream_of before) left) consumed told other some refl total, idle ∙ sym (after-none core))
 
 -- ---- going on
 
