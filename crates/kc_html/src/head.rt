@@ -5,7 +5,7 @@ pub const HEAD: &str = r##"<!doctype html>
 <html lang="en">
 <head>
 <meta charset="utf-8">
-<meta http-equiv="Content-Security-Policy" content="default-src 'none'; script-src 'sha256-o1u+9eJobFxraVj9IO4YXrF1z4ryVQm6YpQD/l6rzko='; style-src 'sha256-tu11GQs5W92bGcK1S2WniB5DRW+8fymuqX745x+owzI='; base-uri 'none'; form-action 'none'">
+<meta http-equiv="Content-Security-Policy" content="default-src 'none'; script-src 'sha256-YlH0N3O6MA0i2HRsbYtpvrpEp63Ez5QrACT3Yllv6BU='; style-src 'sha256-tu11GQs5W92bGcK1S2WniB5DRW+8fymuqX745x+owzI='; base-uri 'none'; form-action 'none'">
 <meta name="viewport" content="width=device-width, initial-scale=1">
 <title>Custody of a trace</title>
 <style>

@@ -4,3 +4,4 @@ pub mod Counted
 pub mod Counts
 pub mod Attempts
 pub mod Ordered
+pub mod Naming

@@ -4,9 +4,15 @@ ghost use Rattle.kc_types.specs.declared.call.Call.{Call};
 ghost use Rattle.kc_model.specs.State.{State};
 ghost use Rattle.kc_model.specs.Next.{replies_from};
 ghost use Rattle.kc_remarks.specs.Remarks.{notes};
-ghost use Rattle.kc_remarks.specs.Denials.{is_denied, is_denial};
+ghost use Rattle.kc_remarks.specs.Denials.{is_denied, is_denial, is_to_naming, is_naming};
 
 /// As many calls are noted as denied as replies refuse or reject one.
 pub fn denied()
     ensures { (m : State) (calls : List Call) → length (filter is_denied (notes m calls)) ≡ length (filter is_denial (replies_from m calls)) }
+{}
+
+/// As many replies are to calls that name a frame or a slot as calls do: `take` alone, which names neither, gets a frame,
+/// or is refused since none is free.
+pub fn naming()
+    ensures { (m : State) (calls : List Call) → length (filter is_to_naming (replies_from m calls)) ≡ length (filter is_naming calls) }
 {}

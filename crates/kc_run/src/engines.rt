@@ -238,5 +238,5 @@ pub(crate) fn redact_host<F: Files, T: Source, K: Sink, R: Threads + Wait + Sync
         system.lanes,
     );
     close(files, beginning);
-    done(answer)
+    counted(answer)
 }
