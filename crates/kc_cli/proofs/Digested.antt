@@ -46,7 +46,7 @@ entries_same : (named : Bool) (line : ℕ) (volumes : List (List Call)) → entr
 entries_same named line [] = refl
 entries_same named line (calls ∷ volumes) =
     let entry : ℕ → Option (List ℕ) → VolumeEntry = λ count digest. record { line = line; calls = count; digest = digest } in
-    ap₂ (λ (count : ℕ) (digest : Option (List ℕ)). entry count digest ∷ entries_of named (line + count) (map redacted volumes)) (length-map redacted_call calls) (digest_same named calls)
+    ap₂ (λ (count : ℕ) (digest : Option (List ℕ)). entry count digest ∷ entries_of named (line + count) (map redacted volumes)) (length-map calls redacted_call) (digest_same named calls)
     ∙ ap (λ (rest : List VolumeEntry). entry (length calls) (calls_digest named calls) ∷ rest) (entries_same named (line + length calls) volumes)
 
 -- and so is zeroing the pages of active VMs

@@ -61,7 +61,7 @@ loop-witness-preserved g c =
         more.1,
         omega (arith, long, at),
         omega (arith, long, few, same, noted),
-        (rw c.deref-calls.ensures.value at c.note_all.ensures) c.args.is_named before.1 before.5,
+        (rw c.deref-in-loop-witness.ensures.value at c.note_all.ensures) c.args.is_named before.1 before.5,
         λ form start first h. kept_after form start first before.1 calls c.loop-witness.core _ c.loop-witness.self _ (before.6 form start first h) ((rw c.deref.ensures.value at c.in-Ok.ensures.kept) form start)
             (rw c.deref.ensures.value at c.in-Ok.ensures.state) (rw c.deref.ensures.value at c.in-Ok.ensures.denied) (omega (arith, same, noted)) (rw c.deref.ensures.value at c.in-Ok.ensures.counted) (omega arith) short,
       );
@@ -83,7 +83,7 @@ returns-in-Ok-finish-clause-ok g c =
       c.in-Ok-finish.ensures.ok _ _ _ _ more.1 (c.in_ok-part.ensures.last c.if-part.true),
       more.1.few,
       omega (arith, long, at),
-      c.digest_of.ensures c.args.is_named (before.1 ++ calls) ((rw c.deref-calls.ensures.value at c.note_all.ensures) c.args.is_named before.1 before.5),
+      c.digest_of.ensures c.args.is_named (before.1 ++ calls) ((rw c.deref-in-loop-witness.ensures.value at c.note_all.ensures) c.args.is_named before.1 before.5),
       λ form start first h. kept_after form start first before.1 calls c.loop-witness.core _ c.loop-witness.self _ (before.6 form start first h) ((rw c.deref.ensures.value at c.in-Ok.ensures.kept) form start)
           (rw c.deref.ensures.value at c.in-Ok.ensures.state) (rw c.deref.ensures.value at c.in-Ok.ensures.denied) (omega (arith, same, noted)) (rw c.deref.ensures.value at c.in-Ok.ensures.counted) (omega arith) short,
     )
