@@ -49,7 +49,7 @@ back-effect m (Revoke v c g) is served = λ f mapped.
     let lt = exists-mapped m v g f is seen.0.call.vm mapped in
     let some = when-none _ _ seen.1 in
     let now : (frame_at (effect m (Revoke v c g)).1 f).share ≡ (frame_at m f).share - 1 =
-        subst (λ k. (frame_at (record m { frames = set m.frames k (revoked (frame_at m k)) }) f).share ≡ (frame_at m f).share - 1) (sym at) (ap (λ (x : Frame). x.share) (get_or-set_same m.frames f (revoked (frame_at m f)) (untouched Core) lt)) in
+    subst (λ k. (frame_at (record m { frames = set m.frames k (revoked (frame_at m k)) }) f).share ≡ (frame_at m f).share - 1) (sym at) (ap (λ (x : Frame). x.share) (get_or-set_same m.frames f (revoked (frame_at m f)) (untouched Core) lt)) in
     let above : nat_eq (frame_at m f).share 0 ≡ false = subst (λ k. nat_eq (frame_at m k).share 0 ≡ false) at some in
     grind (arith, common_steps, now, above)
 back-effect m _ is served = tt
