@@ -276,8 +276,8 @@ MISTAKES = [
             "        is_wrong |= has_page(memory->pages, record.gfn) == is_shared;\n"
             "        is_wrong |= !is_shared && has_page(mmu->host, frame);\n"),
     Mistake("an image may be anywhere", "guest.c",
-            " || guest->images[image].base != base ||\n",
-            " ||\n"),
+            "guest->boot->parts[part].base + from / PAGE;\n",
+            "image < guest->image_count ? guest->images[image].base : (uint32_t)from;\n"),
     Mistake("an image more may be there", "guest.c",
             "    return guest->boot && image == guest->image_count;\n",
             "    return guest->boot;\n"),
