@@ -126,7 +126,7 @@ begun_read core made source here start mid piece fresh consumed taken =
     (read.0, on.0, read.1)
 
 -- the trace that a source held, with the header that was read first
-head_and_calls : (core : Option State) (source here : Option (List ℕ)) (head : List ℕ) (begun : ℕ) (calls kept : List Call) → Consumes source here (take begun head) → begun ≤ 14 → (begun < 14 → IsAtEnd here) → length head ≡ 14
+head_and_calls : (core : Option State) (source here : Option (List ℕ)) (head : List ℕ) (begun : ℕ) (calls kept : List Call) (denials : Denials) → Consumes source here (take begun head) → begun ≤ 14 → (begun < 14 → IsAtEnd here) → length head ≡ 14
     → IfSome source (λ text. IsTrace text calls) → kept ≡ redacted_by core calls → Counts (replies_by core calls) denials → IfSome source (λ text. IsHeadAndCalls core text head kept denials)
 head_and_calls core None here head begun calls kept denials consumed within short size read same counted = tt
 head_and_calls core (Some text) None head begun calls kept denials consumed within short size read same counted = absurd consumed
