@@ -13,7 +13,7 @@ use kc_types::Memory;
 use std::alloc::Global;
 
 /// Audits a dump. The findings are by kind, in the order of the kinds, and within a kind by slot, guest frame or
-/// frame, ascending. `Memory` if memory cannot be had.
+/// frame, ascending. `Memory` if memory runs out.
 pub fn audit(alloc: Global, dump: &Dump) -> Result<Vec<Finding>, Memory>
     // No clause can rule out that memory runs out: a test audits dumps.
     ensures found { IfOk result (λ found. AreFindings dump.now found.items) }

@@ -132,7 +132,7 @@ fn all_text(alloc: Global, all: bool, found: &[Finding]) -> Result<Vec<u8>, Memo
 }
 
 /// Writes the output of an audit of a dump of `frames` frames: its report, as one line, and if `all` is set, before it
-/// each finding in order, as a compact JSON object on a line of its own. `Memory` if memory cannot be had.
+/// each finding in order, as a compact JSON object on a line of its own. `Memory` if memory runs out.
 pub fn written(
     alloc: Global,
     all: bool,

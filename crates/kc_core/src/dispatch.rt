@@ -83,7 +83,7 @@ fn serve(
 
 /// Answers a call on parts that hold what it needs, and leaves everything else as it was. The reply is the first
 /// refusal that applies, and then nothing changes, or that of the call's effect. The buffer is for the bytes of the
-/// reply, and grows if it is too small for them: `Memory` if memory cannot be had, which only happens if the reply
+/// reply, and grows if it is too small for them: `Memory` if memory runs out, which only happens if the reply
 /// would be bytes, and then nothing changes.
 pub fn apply(
     parts: &mut Parts,

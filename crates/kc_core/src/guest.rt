@@ -70,7 +70,7 @@ pub fn spend_fault(parts: &mut Parts, config: &Config, vm: VmId, vcpu: VcpuId)
 }
 
 /// Reads bytes of a guest frame that is mapped; if it is not, the virtual processor waits for it. `OutOfMemory` if
-/// memory for the bytes cannot be had.
+/// memory for the bytes runs out.
 pub fn guest_read(
     parts: &mut Parts,
     config: &Config,

@@ -106,7 +106,7 @@ fn present_frame(
     Ok(found)
 }
 
-/// Reads `len` bytes of a frame from `offset` on. `OutOfMemory` if memory for them cannot be had.
+/// Reads `len` bytes of a frame from `offset` on. `OutOfMemory` if memory for them runs out.
 pub fn host_read(
     parts: &Parts,
     config: &Config,

@@ -73,7 +73,7 @@ pub struct RunStop {
 
 impl KCore {
     /// Makes a core in the boot state of its configuration, with all its frames made and zeroed; `Memory` if memory
-    /// cannot be had.
+    /// runs out.
     pub fn boot(alloc: Global, config: Config) -> Result<KCore, Memory>
         // No clause can rule out that memory runs out: tests boot cores.
         ensures state { IfOk result (λ core. core ≡ boot config) }
@@ -119,7 +119,7 @@ impl KCore {
         answer(&mut self.parts, &self.config, call, buffer)
     }
 
-    /// Answers a call. `Memory` if memory cannot be had, which only happens if the reply would be bytes, and then
+    /// Answers a call. `Memory` if memory runs out, which only happens if the reply would be bytes, and then
     /// nothing changes.
     pub fn call(&mut self, call: &Call) -> Result<Reply, Memory>
         ensures reply { IfOk result (λ reply. reply ≡ (next self.old call.now).0) }
@@ -198,7 +198,7 @@ impl KCore {
     }
 
     /// Lists the frames of an owner: free frames and a VM's in the order of their list, the core's and the host's in
-    /// ascending order. `Memory` if memory cannot be had.
+    /// ascending order. `Memory` if memory runs out.
     pub fn frames_of(&self, owner: Owner) -> Result<Vec<FrameNo>, Memory>
         // No clause can rule out that memory runs out: a test lists frames.
         ensures { IfOk result (λ frames. frames.items ≡ frames_of self.now owner) }
@@ -225,7 +225,7 @@ impl KCore {
     }
 
     /// Lists the mapped guest frames of a VM slot with their frames, by ascending guest frame; none if the slot does
-    /// not exist. `Memory` if memory cannot be had.
+    /// not exist. `Memory` if memory runs out.
     pub fn entries(&self, alloc: Global, vm: u32) -> Result<Vec<(Gfn, FrameNo)>, Memory>
         // No clause can rule out that memory runs out: a test lists entries.
         ensures { IfOk result (λ entries. entries.items ≡ finite.entries (slot_at self.now vm).mapped) }

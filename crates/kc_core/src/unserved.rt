@@ -9,7 +9,7 @@ use kc_types::{Memory, Refusal};
 pub enum Unserved {
     /// It is refused, and its reply says why.
     Refused(Refusal),
-    /// Memory cannot be had, and there is no reply.
+    /// Memory runs out, and there is no reply.
     OutOfMemory(Memory),
 }
 

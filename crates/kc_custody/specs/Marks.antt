@@ -50,7 +50,7 @@ turning _ = None
 abbrev pub phase_mark : ℕ → State → ℕ → PhaseChange
 phase_mark line m v = record { line = line; vm = v; phase = (slot_at m v).phase; images = [] }
 
--- the mark as a change, if the slot's phase is another afterwards
+-- the mark as a change, if the phase of the slot differs afterwards
 abbrev pub phase_told : State → List MeasuredImage → Option PhaseChange → List Event
 phase_told new images None = []
 phase_told new images (Some mark) =

@@ -99,7 +99,7 @@ fn tell_measured(alloc: Global, core: &KCore, told: &mut Vec<Event>) -> Result<(
 
 /// What is so in a core, as events on the header's line that change the boot state of its configuration into it: VMs
 /// are registered, frames come to be as they are, and VMs that are active or dead come to be so, without images.
-/// `Memory` if memory cannot be had.
+/// `Memory` if memory runs out.
 pub fn events_before(alloc: Global, core: &KCore) -> Result<Vec<Event>, Memory>
     // No clause can rule out that memory runs out: a test makes them.
     ensures { IfOk result (λ told. told.items ≡ events_before core.now) }

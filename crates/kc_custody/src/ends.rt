@@ -21,7 +21,7 @@ impl Model for Ends {
 }
 
 impl Ends {
-    /// Starts with no events, for this many frames; `Memory` if memory cannot be had.
+    /// Starts with no events, for this many frames; `Memory` if memory runs out.
     pub(crate) fn none(alloc: Global, frames: u32) -> Result<Ends, Memory>
         ensures { IfOk result (λ ends. AreEnds frames [] ends) }
     {

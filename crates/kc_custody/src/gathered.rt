@@ -19,7 +19,7 @@ pub(crate) struct Gathered {
 }
 
 impl Gathered {
-    /// Starts after the last event, for a core with this many frames; `Memory` if memory cannot be had.
+    /// Starts after the last event, for a core with this many frames; `Memory` if memory runs out.
     pub(crate) fn none(alloc: Global, frames: u32) -> Result<Gathered, Memory>
         ensures { IfOk result (λ gathered. IsGathered frames [] gathered) }
     {
@@ -30,7 +30,7 @@ impl Gathered {
         })
     }
 
-    /// Takes in one more event, the one before those. After `Memory`, if memory cannot be had, what is said is of no use.
+    /// Takes in one more event, the one before those. After `Memory`, if memory runs out, what is said is of no use.
     pub(crate) fn note(&mut self, alloc: Global, event: Event) -> Result<(), Memory>
         ensures { OnOk result (Notes event self.old self.new) }
     {

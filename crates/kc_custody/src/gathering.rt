@@ -8,7 +8,7 @@ use kc_types::{Event, Life, Memory};
 use std::alloc::Global;
 
 /// The lives of VMs that some events have in them, in the order in which they begin; the events name frames below `frames`, and
-/// slots below 64. `Memory` if memory cannot be had.
+/// slots below 64. `Memory` if memory runs out.
 pub fn lives(alloc: Global, frames: u32, mut events: Vec<Event>) -> Result<Vec<Life>, Memory>
     requires { All (IsWithin frames) events.items }
     // No clause can rule out that memory runs out: examples of the program make some.

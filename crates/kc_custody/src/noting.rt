@@ -14,7 +14,7 @@ use kc_remarks::{Attempt, Denials, Note, attempt_told, note_events, remark_told}
 use kc_types::{Call, Event, Memory, Reply};
 use std::alloc::Global;
 
-/// Makes a call, and adds its notes; the call has this line in its trace. After `Memory`, if memory cannot be had, the call
+/// Makes a call, and adds its notes; the call has this line in its trace. After `Memory`, if memory runs out, the call
 /// may be done, and its notes lacking.
 pub fn note_call(
     alloc: Global,
@@ -38,7 +38,7 @@ pub fn note_call(
 }
 
 /// Makes some calls in order, of which the first has this line in the trace, adds their notes, and counts those that are
-/// refused or rejected. After `Memory`, if memory cannot be had, some calls are done.
+/// refused or rejected. After `Memory`, if memory runs out, some calls are done.
 pub fn note_calls(
     alloc: Global,
     core: &mut KCore,
@@ -63,7 +63,7 @@ pub fn note_calls(
 }
 
 /// Makes a call, and adds what a summary is made of: its events, and the attempt that it is, if it is refused at a page of a VM;
-/// the call has this line in its trace. After `Memory`, if memory cannot be had, the call may be done, and the attempt lacking.
+/// the call has this line in its trace. After `Memory`, if memory runs out, the call may be done, and the attempt lacking.
 pub fn summarize_call(
     alloc: Global,
     core: &mut KCore,
@@ -86,7 +86,7 @@ pub fn summarize_call(
 }
 
 /// Makes some calls in order, of which the first has this line in the trace, adds their events and attempts, and counts those
-/// that are refused or rejected. After `Memory`, if memory cannot be had, some calls are done.
+/// that are refused or rejected. After `Memory`, if memory runs out, some calls are done.
 pub fn summarize_calls(
     alloc: Global,
     core: &mut KCore,

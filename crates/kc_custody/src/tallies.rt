@@ -30,7 +30,7 @@ impl Model for Tallies {
 }
 
 impl Tallies {
-    /// Starts with no events; `Memory` if memory cannot be had.
+    /// Starts with no events; `Memory` if memory runs out.
     pub(crate) fn none(alloc: Global) -> Result<Tallies, Memory>
         ensures { IfOk result (λ tallies. AreTallied [] tallies) }
     {
@@ -77,7 +77,7 @@ impl Tallies {
     }
 
     /// Takes in the change of a frame whose sharing the later events end on this line, for its owners before and after it.
-    /// After `Memory`, if memory cannot be had, the tallies are of no use.
+    /// After `Memory`, if memory runs out, the tallies are of no use.
     pub(crate) fn note_frame(&mut self, told: &FrameChange, to: Option<u32>) -> Result<(), Memory>
         ensures { OnOk result ((more : List AnEvent) → to ≡ end_of_sharing told.now.frame more → HasRoom more
             → AreTallied more self.old → AreTallied (event.Change (change.Frame told.now) ∷ more) self.new) }

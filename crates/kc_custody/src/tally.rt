@@ -49,7 +49,7 @@ impl Model for Tally {
 }
 
 impl Tally {
-    /// Starts with no events; `Memory` if memory cannot be had.
+    /// Starts with no events; `Memory` if memory runs out.
     pub(crate) fn none(alloc: Global) -> Result<Tally, Memory>
         ensures { IfOk result (λ tally. tally ≡ no_tally) }
     {
@@ -82,7 +82,7 @@ impl Tally {
     }
 
     /// Takes in that a VM is registered on this line: returns its life, and begins anew for what came before. After
-    /// `Memory`, if memory cannot be had, the tally is as it was.
+    /// `Memory`, if memory runs out, the tally is as it was.
     pub(crate) fn register(&mut self, alloc: Global, vm: u32, line: u32) -> Result<Life, Memory>
         ensures life { IfOk result (λ life. life ≡ told_life vm line self.old) }
         ensures anew { OnOk result (self.new ≡ no_tally) }
@@ -92,7 +92,7 @@ impl Tally {
     }
 
     /// Takes in that the slot is emptied on this line: what comes after it is of no life that began before it. After
-    /// `Memory`, if memory cannot be had, the tally is as it was.
+    /// `Memory`, if memory runs out, the tally is as it was.
     pub(crate) fn clear(&mut self, alloc: Global, line: u32) -> Result<(), Memory>
         ensures { OnOk result (self.new ≡ record no_tally { cleared = Some line }) }
     {
@@ -168,7 +168,7 @@ impl Tally {
         Ok(())
     }
 
-    /// Takes in the change of a frame whose sharing the events end on this line. After `Memory`, if memory cannot be had,
+    /// Takes in the change of a frame whose sharing the events end on this line. After `Memory`, if memory runs out,
     /// the tally is of no use.
     pub(crate) fn change_frame(
         &mut self,

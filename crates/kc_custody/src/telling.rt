@@ -161,7 +161,7 @@ fn make(
     }
 }
 
-/// Makes a call, and adds its events; the call has this line in its trace. After `Memory`, if memory cannot be had,
+/// Makes a call, and adds its events; the call has this line in its trace. After `Memory`, if memory runs out,
 /// neither core nor events are other than before.
 pub fn tell_call(
     alloc: Global,
@@ -189,7 +189,7 @@ pub fn tell_call(
 }
 
 /// Makes some calls in order, of which the first has this line in the trace, adds their events, and counts those that are
-/// refused or rejected. After `Memory`, if memory cannot be had, some calls are done.
+/// refused or rejected. After `Memory`, if memory runs out, some calls are done.
 pub fn tell_calls(
     alloc: Global,
     core: &mut KCore,

@@ -86,7 +86,7 @@ fn several_marks(
 }
 
 /// Notes, before a call, the custody of the frames that it may change: those that differ after it are its changes of
-/// frames, and no others. The call has this line in its trace. After `Memory`, if memory cannot be had, what
+/// frames, and no others. The call has this line in its trace. After `Memory`, if memory runs out, what
 /// is noted means nothing.
 pub fn note_marks(
     alloc: Global,

@@ -158,7 +158,7 @@ fn digests<P: Bytes + Sync>(
 }
 
 /// Computes the SHA-256 digest (FIPS 180-4) of each page, in order, with several threads, this many side by side.
-/// `Memory` if memory cannot be had; if no thread can be started, this one does everything.
+/// `Memory` if memory runs out; if no thread can be started, this one does everything.
 pub fn frame_digests(
     rt: &(impl Threads + Sync),
     alloc: Global,

@@ -43,7 +43,7 @@ impl Begun {
         }
     }
 
-    /// Adds what a line says. `Memory` if memory cannot be had.
+    /// Adds what a line says. `Memory` if memory runs out.
     pub fn push(&mut self, alloc: Global, line: DumpLine) -> Result<(), Memory>
         requires { HasSlot self.old.slots line }
         ensures { OnOk result (self.new ≡ with_line self.old line) }

@@ -14,7 +14,7 @@ pub enum DumpFault {
     NoHeader,
     /// The line of this number may not come there. The header is line 1.
     BadLine(u32),
-    /// The line of this frame should come next, but there is another frame's, or none.
+    /// The line of this frame should come next, but it is missing or belongs to another frame.
     Frame(u32),
     /// Memory could not be had.
     Memory,

@@ -126,7 +126,7 @@ fn text_of(alloc: Global, dump: &Dump) -> Result<Vec<u8>, Memory>
     Ok(text)
 }
 
-/// Writes the one text of a dump, which is read as that dump. `Memory` if memory cannot be had.
+/// Writes the one text of a dump, which is read as that dump. `Memory` if memory runs out.
 pub fn write_dump(alloc: Global, dump: &Dump) -> Result<Vec<u8>, Memory>
     // No clause can rule out that memory runs out: a test writes dumps.
     ensures text { IfOk result (λ text. text.items ≡ dump_text dump.now) }

@@ -25,7 +25,7 @@ fn page_digest(page: &PageBytes, zero: &[u8; 32]) -> [u8; 32]
     }
 }
 
-/// Computes the digest of each page, in order. `Memory` if memory cannot be had.
+/// Computes the digest of each page, in order. `Memory` if memory runs out.
 pub fn bytes_digests_alone(alloc: Global, pages: &[PageBytes]) -> Result<Vec<[u8; 32]>, Memory>
     ensures { IfOk result (λ digests. digests.items ≡ map sha256 pages.now) }
 {
@@ -37,7 +37,7 @@ pub fn bytes_digests_alone(alloc: Global, pages: &[PageBytes]) -> Result<Vec<[u8
     Ok(digests)
 }
 
-/// Computes the digest of each frame's page in a form, in order. `Memory` if memory cannot be had.
+/// Computes the digest of each frame's page in a form, in order. `Memory` if memory runs out.
 pub(crate) fn frame_digests_alone(
     alloc: Global,
     core: &KCore,

@@ -88,7 +88,7 @@ fn dump_with(alloc: Global, core: &KCore, digests: &Digests) -> Result<Dump, Mem
 }
 
 /// Dumps a core, in time that grows with its frames, its mapped guest frames and its leaves. The pages are hashed by
-/// several threads, this many side by side. `Memory` if memory cannot be had.
+/// several threads, this many side by side. `Memory` if memory runs out.
 pub fn dump(
     rt: &(impl Threads + Sync),
     alloc: Global,

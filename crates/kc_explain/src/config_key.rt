@@ -89,7 +89,7 @@ fn explain_keys<P: Eprint>(to: &P, value: &Value) -> bool {
 }
 
 /// Says why a text is not a configuration, whatever its numbers: where it is not JSON, or which key is wrong first.
-/// Nothing is said if nothing is wrong, or if memory cannot be had.
+/// Nothing is said if nothing is wrong, or if memory runs out.
 pub fn explain_config<P: Eprint>(alloc: Global, to: &P, text: &[u8]) {
     let value = match Value::from_slice(alloc, text) {
         Ok(value) => value,

@@ -42,7 +42,7 @@ impl Lines {
         }
     }
 
-    /// Notes who makes these calls. Nothing is kept if memory cannot be had.
+    /// Notes who makes these calls. Nothing is kept if memory runs out.
     fn note_actors(&mut self, calls: &[Call]) {
         for call in calls {
             self.calls = self.calls.saturating_add(1);

@@ -44,7 +44,7 @@ fn spaces_before(line: &[u8]) -> usize {
 }
 
 /// How many bytes of what follows the name of a call, which has this many numbers, may be shown: its numbers, up to the
-/// first word that is not one, and that word if it is no data.
+/// first word that is not one, and that word if it is not data.
 fn shown_of_numbers(rest: &[u8], numbers: usize) -> usize {
     let (mut shown, mut end, mut count) = (0usize, 0usize, 0usize);
     for word in rest.split(|byte| *byte == b' ') {

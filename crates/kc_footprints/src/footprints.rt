@@ -233,7 +233,7 @@ impl Footprints {
     }
 
     /// Lists the resources that a call may touch, each once, in no particular order. A call's number is its place in
-    /// the trace, from 0. `Memory` if memory cannot be had.
+    /// the trace, from 0. `Memory` if memory runs out.
     pub fn of(&self, alloc: Global, number: usize) -> Result<Vec<Resource>, Memory>
         requires { number < length self.now.calls }
         ensures members { IfOk result (λ members. (r : _) → is_wanted members.items r ≡ footprint_has self.now.sets (footprint_at self.now number) r) }

@@ -24,7 +24,7 @@ fn names_of_all(alloc: Global, config: &Config, calls: &[Call]) -> Result<Vec<Na
     Ok(names)
 }
 
-/// Finds what these calls may touch, and their waves, which count from 1; `Memory` if memory cannot be had. Of the
+/// Finds what these calls may touch, and their waves, which count from 1; `Memory` if memory runs out. Of the
 /// state from which they start only the owners are needed, as pairs of a principal and a frame that it owns: a slot is
 /// given by its number, and the free list by the number of slots. There are fewer than 2^32 calls, since a wave's
 /// number is a `u32`; a trace has at most 65,536.

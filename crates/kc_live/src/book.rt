@@ -36,7 +36,7 @@ impl Book {
     ghost use Rattle.kc_live.specs.Book.{IsDigestOf, IsLegal, IsKept, longer, next_volume, receipt_of, new_log, volume_in};
 
     /// Begins with the core in the boot state of its configuration, no calls, and room for as many as there can be; `Memory`
-    /// if memory cannot be had.
+    /// if memory runs out.
     pub fn new(alloc: Global, config: Config) -> Result<Book, Memory>
         // No clause can rule out that memory runs out: tests make books.
         ensures { IfOk result (λ book. book ≡ new_log config) }

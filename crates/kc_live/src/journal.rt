@@ -70,7 +70,7 @@ impl Model for Journal {
 }
 
 impl Journal {
-    /// Begins the first volume of a core: makes room for as many calls as there can be. `Memory` if memory cannot be had.
+    /// Begins the first volume of a core: makes room for as many calls as there can be. `Memory` if memory runs out.
     pub fn of(alloc: Global, core: KCore) -> Result<Journal, Memory>
         requires { IsLawful core }
         // No clause can rule out that memory runs out: tests keep journals.

@@ -21,7 +21,7 @@ pub struct LiveCore {
 }
 
 impl LiveCore {
-    /// Begins with the core in the boot state of its configuration, and no calls; `Memory` if memory cannot be had.
+    /// Begins with the core in the boot state of its configuration, and no calls; `Memory` if memory runs out.
     // No clause can name what is under the lock: tests call, close and settle.
     pub fn new(alloc: Global, config: Config) -> Result<LiveCore, Memory> {
         Ok(LiveCore {
@@ -42,7 +42,7 @@ impl LiveCore {
     }
 
     /// Hands out the volume, full or not, and begins the next one with the core as it is; it may wait for the lock, and
-    /// makes the room for the next one's calls before. `Memory` if that cannot be had, and then nothing has changed.
+    /// makes the room for the next one's calls before. `Memory` if memory for them runs out, and then nothing has changed.
     // An empty volume is legal too: tests turn volumes over.
     pub fn turn<R: Wait>(&self, rt: &R) -> Result<Volume, Memory>
         ensures { IfOk result IsLegal }

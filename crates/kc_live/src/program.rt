@@ -80,7 +80,7 @@ impl Program {
         self.calls.as_slice()
     }
 
-    /// Adds a call after the others. `Memory` if memory cannot be had, and then nothing has changed.
+    /// Adds a call after the others. `Memory` if memory runs out, and then nothing has changed.
     pub fn add(&mut self, call: Call) -> Result<(), Memory>
         ensures more { OnOk result (self.new ≡ grown self.old call) }
         ensures err { OnErr result (self.new ≡ self.old) }

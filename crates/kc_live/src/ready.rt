@@ -32,7 +32,7 @@ impl Model for Ready {
 }
 
 impl Ready {
-    /// Makes a call ready; `Memory` if memory cannot be had.
+    /// Makes a call ready; `Memory` if memory runs out.
     pub fn new(alloc: Global, call: Call) -> Result<Ready, Memory>
         // No clause can rule out that memory runs out: tests make calls ready.
         ensures { IfOk result (λ ready. ready ≡ call) }

@@ -98,7 +98,7 @@ impl Model for Marks {
 }
 
 impl Marks {
-    /// Makes room for a volume of this many calls; `Memory` if memory cannot be had.
+    /// Makes room for a volume of this many calls; `Memory` if memory runs out.
     pub fn with_room(alloc: Global, calls: usize) -> Result<Marks, Memory>
         // No clause can rule out that memory runs out: tests settle.
         ensures { IfOk result (λ marks. marks ≡ calls) }
@@ -120,7 +120,7 @@ impl Marks {
     }
 }
 
-/// Judges as `Marks::settle` does, in room made for it; `Memory` if memory cannot be had.
+/// Judges as `Marks::settle` does, in room made for it; `Memory` if memory runs out.
 pub fn settle(alloc: Global, volume: &Volume, rows: &[Vec<Receipt>]) -> Result<bool, Memory>
     // No clause can rule out that memory runs out: tests settle.
     ensures { IfOk result (λ yes. IsTrue yes ↔ IsSettled volume.now (map (λ v. v.items) rows.now)) }

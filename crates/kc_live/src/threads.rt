@@ -74,7 +74,7 @@ impl Model for Places {
 }
 
 impl Places {
-    /// Makes places for this many programs; `Memory` if memory cannot be had.
+    /// Makes places for this many programs; `Memory` if memory runs out.
     pub fn with_room(alloc: Global, programs: usize) -> Result<Places, Memory>
         // No clause can rule out that memory runs out: tests run programs.
         ensures { IfOk result (λ places. programs ≤ places) }

@@ -26,7 +26,7 @@ abbrev pub mapped_from : ℕ → ℕ → ℕ → ℕ → ℕ → List Call
 mapped_from v c g f zero = []
 mapped_from v c g f (suc n) = Map v c f ∷ filled v c (g + 1) (f + 1) n
 
--- the single calls for which a call on a range stands
+-- the single calls that a call on a range makes
 abbrev pub singles : State → Range → List Call
 singles m (host_faults f n) = each_call HostFault f n
 singles m (remaps v i f n) = each_call (Remap v i) f n

@@ -58,7 +58,7 @@ impl PageBytes {
         memory.end();
     }
 
-    /// Makes a page of zero bytes; `Memory` if memory cannot be had.
+    /// Makes a page of zero bytes; `Memory` if memory runs out.
     pub fn zeroed(alloc: Global) -> Result<PageBytes, Memory>
         // No clause can rule out that memory runs out: tests make pages.
         ensures { IfOk result (λ page. page ≡ zero_page) }

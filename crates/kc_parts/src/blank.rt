@@ -26,7 +26,7 @@ impl Model for Blank {
 }
 
 impl Blank {
-    /// Makes a blank; `Memory` if memory cannot be had.
+    /// Makes a blank; `Memory` if memory runs out.
     pub(crate) fn make(alloc: Global) -> Result<Blank, Memory>
         // No clause can rule out that memory runs out: tests take parts out.
         ensures { IfOk result (λ blank. blank ≡ blank_page) }

@@ -77,7 +77,7 @@ impl Parts {
     ghost use Rattle.kc_parts.specs.Moves.{IsWrite, IsLifted, IsLaid, IsEmptyPlace, AreMoved, WithSlots, only_at, page_among};
 
     /// Makes all parts of the boot state: every frame of the configuration, zeroed; every slot, empty; and the free
-    /// list, in ascending order. `Memory` if memory cannot be had.
+    /// list, in ascending order. `Memory` if memory runs out.
     pub fn boot(alloc: Global, config: &Config) -> Result<Parts, Memory>
         // No clause can rule out that memory runs out: a test boots parts.
         ensures state { IfOk result (λ parts. state_of config.now parts ≡ boot config.now) }
@@ -93,7 +93,7 @@ impl Parts {
     }
 
     /// Makes parts of pages and slots, each in the place of its number, and the ends of the free list. `Memory` if
-    /// memory cannot be had, and then the pages are wiped.
+    /// memory runs out, and then the pages are wiped.
     pub fn whole(
         alloc: Global,
         mut pages: Vec<Page>,
@@ -253,7 +253,7 @@ impl Parts {
     }
 
     /// Takes these resources out, all of which are here. What comes out has room for just these: a place for each
-    /// frame and for each slot. A resource may be named more than once. `Memory` if memory cannot be had, and then
+    /// frame and for each slot. A resource may be named more than once. `Memory` if memory runs out, and then
     /// nothing changes.
     pub fn take_out(&mut self, alloc: Global, wanted: &[Resource]) -> Result<Parts, Memory>
         requires { AreHere self.old wanted.now }

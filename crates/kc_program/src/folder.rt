@@ -201,7 +201,7 @@ impl<'a> Files for Folder<'a> {
             *last = file;
             return;
         }
-        // If memory cannot be had, nothing is kept to explain a fault.
+        // If memory runs out, nothing is kept to explain a fault.
         let _ = self.read.push(file);
     }
 }

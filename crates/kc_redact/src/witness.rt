@@ -41,7 +41,7 @@ impl Model for Witness {
 }
 
 impl Witness {
-    /// Makes the witness of a trace without calls; `Memory` if memory cannot be had.
+    /// Makes the witness of a trace without calls; `Memory` if memory runs out.
     pub fn new(alloc: Global) -> Result<Witness, Memory>
         // No clause can rule out that memory runs out: tests ask for digests.
         ensures { IfOk result (λ witness. HasSeen witness []) }

@@ -58,7 +58,7 @@ fn is_hidden(core: &KCore, call: &Call) -> bool
 }
 
 /// Redacts a call: what a virtual processor writes, and if there is a core, also what the host writes to a frame of a
-/// VM that is active before the call, which is then made on the core. `Memory` if memory cannot be had.
+/// VM that is active before the call, which is then made on the core. `Memory` if memory runs out.
 pub(crate) fn redact_next(core: &mut Option<KCore>, call: Call) -> Result<RedactedCall, Memory>
     ensures call { IfOk result (λ kept. kept ≡ redacted_next core.old call) }
     ensures core { OnOk result (core.new ≡ core_next core.old call) }

@@ -121,7 +121,7 @@ fn within<'a>(life: &Life, attempts: &'a [Attempt]) -> &'a [Attempt]
     }
 }
 
-/// Lists the attempts at pages that a VM owned in this life. `Memory` if memory cannot be had.
+/// Lists the attempts at pages that a VM owned in this life. `Memory` if memory runs out.
 pub fn attempts_in_life(
     alloc: Global,
     life: &Life,

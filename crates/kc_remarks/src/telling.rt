@@ -126,7 +126,7 @@ pub fn remark_told(line: u32, named: Option<NamedFrame>, call: &Call, reply: &Re
     }))
 }
 
-/// Appends some events to notes. After `Memory`, if memory cannot be had, the notes may be others.
+/// Appends some events to notes. After `Memory`, if memory runs out, the notes may be others.
 pub fn note_events(alloc: Global, events: Vec<Event>, notes: &mut Vec<Note>) -> Result<(), Memory>
     ensures { OnOk result (notes.new.items ≡ notes.old.items ++ map note.Event events.items) }
 {

@@ -76,7 +76,7 @@ impl Model for Replayer {
 
 impl Replayer {
     /// Starts a replay in the boot state, by 1 to 64 workers: `BadWorkers` for any other number, which is judged
-    /// first, and `Memory` if memory cannot be had.
+    /// first, and `Memory` if memory runs out.
     pub fn new(alloc: Global, config: Config, workers: usize) -> Result<Replayer, ReplayFault>
         ensures start { IfOk result (λ replayer. replayer ≡ record { state = Some (boot config); fed = 0; workers = workers }) }
         ensures lawful { OnOk result (IsLawful (boot config)) }
@@ -122,7 +122,7 @@ impl Replayer {
     /// bytes are those of one thread that makes all calls in the order of the trace. The gate is given each call's
     /// place in the whole trace.
     ///
-    /// `Start` if a worker could not be started, otherwise `Memory` if memory cannot be had; then all pages are wiped,
+    /// `Start` if a worker could not be started, otherwise `Memory` if memory runs out; then all pages are wiped,
     /// and every further answer is `Broken`.
     pub fn feed<R: Threads + Wait + Sync, G: Gate + Sync>(
         &mut self,
@@ -196,7 +196,7 @@ impl Replayer {
 /// Makes the calls of a trace from the boot state on, by 1 to 64 workers: the replies, in the order of the trace, and
 /// the core with its page records, lists, tables and bytes are those of one thread that makes the calls in that order.
 /// `BadWorkers` for any other number of workers; `Start` if a worker could not be started, otherwise `Memory` if
-/// memory cannot be had, and then all pages are wiped.
+/// memory runs out, and then all pages are wiped.
 pub fn replay<R: Threads + Wait + Sync, G: Gate + Sync>(
     rt: &R,
     alloc: Global,

@@ -9,7 +9,7 @@ use kc_types::{Call, Memory};
 use std::alloc::Global;
 
 /// Finds what the calls of a trace that starts from this core may touch, and their waves, which count from 1; `Memory`
-/// if memory cannot be had. There are fewer than 2^32 calls, since a wave's number is a `u32`; a trace has at most
+/// if memory runs out. There are fewer than 2^32 calls, since a wave's number is a `u32`; a trace has at most
 /// 65,536.
 pub fn footprints(alloc: Global, core: &KCore, calls: &[Call]) -> Result<Footprints, Memory>
     requires { length calls.now < 2 ^ 32 }

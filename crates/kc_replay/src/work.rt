@@ -107,7 +107,7 @@ fn join_workers<R: Threads, S: Setting>(
 }
 
 /// Has the calls of each list made by a worker of its own, those of the last list by the calling thread, and waits for
-/// all. `Start` if a worker could not be started, otherwise `Memory` if memory cannot be had.
+/// all. `Start` if a worker could not be started, otherwise `Memory` if memory runs out.
 pub(crate) fn run_workers<R: Threads + Wait + Sync, G: Gate + Sync>(
     crew: &Crew<R, G>,
     config: &Config,

@@ -162,7 +162,7 @@ impl Session {
     }
 
     /// Makes a call if it is the asker's, or anybody's if nobody is named, and gives its reply. `NotYours` if it is another's,
-    /// `HistoryFull` if the volume has 65,536 calls, `Memory` if memory cannot be had: all memory is taken before the
+    /// `HistoryFull` if the volume has 65,536 calls, `Memory` if memory runs out: all memory is taken before the
     /// call, so that nothing has changed then.
     pub fn make(&mut self, asker: Option<Actor>, call: Call) -> Result<Reply, AskFault>
         requires { IsRanged call }
@@ -195,7 +195,7 @@ impl Session {
     }
 
     /// Answers the call that a line is, given without its newline, as `make` does, with the line of its reply and a newline.
-    /// `BadLine` if it is not a call, `Memory` if memory cannot be had, whatever the line is.
+    /// `BadLine` if it is not a call, `Memory` if memory runs out, whatever the line is.
     pub fn ask(&mut self, asker: Option<Actor>, line: &[u8]) -> Result<Vec<u8>, AskFault>
         ensures reply { IfOk result (λ told. IsAnswer asker self.old self.new line.now told.items) }
         ensures short { IfOk result (λ told. vec_len told ≤ longest_reply) }
@@ -234,7 +234,7 @@ impl Session {
     }
 
     /// Hands out the calls of the volume with their replies, full or not, and begins the next one with the core as it is:
-    /// the lines from then on are of the next one. `Memory` if the room for its calls cannot be had.
+    /// the lines from then on are of the next one. `Memory` if memory for its calls runs out.
     pub fn turn(&mut self) -> Result<Vec<Entry>, Memory>
         ensures entries { IfOk result (λ entries. entries.items ≡ self.old.log.entries) }
         // One thread gets these replies.
@@ -266,7 +266,7 @@ impl Session {
     }
 
     /// Gives a line of that trace in a form, by its place from 0, with its newline. `None` if it has no such line; `Memory` if
-    /// memory cannot be had.
+    /// memory runs out.
     pub fn line(&self, form: Form, number: usize) -> Result<Option<Vec<u8>>, Memory>
         ensures { IfOk result (λ told. option_map (λ line. line.items) told ≡ slice_get (lines_in form self.now.log) number) }
     {

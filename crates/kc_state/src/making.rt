@@ -87,7 +87,7 @@ fn make_pages(lines: &[FrameLine], bytes: Vec<PageBytes>, mut pages: Vec<Page>) 
     pages
 }
 
-/// Makes a core from what was judged; `Memory` if memory cannot be had.
+/// Makes a core from what was judged; `Memory` if memory runs out.
 fn make_core(alloc: Global, config: Config, told: Told) -> Result<KCore, Memory>
     requires config { config ≡ config_of told }
     requires sized { IsSized told }

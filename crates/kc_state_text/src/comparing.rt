@@ -80,7 +80,7 @@ fn newlines(bytes: &[u8]) -> usize
 
 /// The number of the first line of a text, from 1, that differs from the text of a core's state; `None` if it is that
 /// text. The state's text is written piece by piece and compared, and the memory that held a piece is wiped. `Memory`
-/// if memory cannot be had.
+/// if memory runs out.
 pub fn difference_from_state(
     rt: &(impl Threads + Sync),
     alloc: Global,

@@ -119,7 +119,7 @@ impl StatePieces {
     }
 
     /// Makes the whole text, nothing of which was given. All memory that it needs is taken here: `Memory` if memory
-    /// cannot be had. The pages are hashed by several threads, this many side by side.
+    /// runs out. The pages are hashed by several threads, this many side by side.
     pub fn new(
         rt: &(impl Threads + Sync),
         alloc: Global,

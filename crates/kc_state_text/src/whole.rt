@@ -37,7 +37,7 @@ fn push_pieces(
     }
 }
 
-/// Makes the text of a core's state in a form; memory for it is taken once. `Memory` if memory cannot be had. What held
+/// Makes the text of a core's state in a form; memory for it is taken once. `Memory` if memory runs out. What held
 /// pieces of it is wiped, and so is the text when it is dropped.
 pub fn whole_text(alloc: Global, core: &KCore, form: StateForm) -> Result<SecretBytes, Memory>
     // No clause can rule out that memory runs out: tests ask for states.
@@ -72,7 +72,7 @@ fn hash_pieces(hasher: &mut Sha256, core: &KCore, pieces: StatePieces, piece: &m
 }
 
 /// Computes the SHA-256 digest of the text of a core's state in a form: what `sha256sum` prints for it. The text is
-/// made a piece at a time, and never in memory as a whole. `Memory` if memory cannot be had. What held pieces of it is
+/// made a piece at a time, and never in memory as a whole. `Memory` if memory runs out. What held pieces of it is
 /// wiped.
 pub fn state_digest(alloc: Global, core: &KCore, form: StateForm) -> Result<[u8; 32], Memory>
     // No clause can rule out that memory runs out: tests ask for digests.

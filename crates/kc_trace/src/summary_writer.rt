@@ -18,7 +18,7 @@ use std::alloc::Global;
 /// shared.
 const LONGEST_PART: usize = 768;
 
-/// Appends the slot of a life and the lines of its turns. Here and below, `Memory` if memory cannot be had.
+/// Appends the slot of a life and the lines of its turns. Here and below, `Memory` if memory runs out.
 fn push_turns(text: &mut Vec<u8>, life: &Life) -> Result<(), Memory>
     ensures { OnOk result (text.new.items ≡ text.old.items ++ turns_text life.now) }
 {

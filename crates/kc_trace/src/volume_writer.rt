@@ -55,7 +55,7 @@ fn push_volume(text: &mut Vec<u8>, number: usize, volume: &VolumeEntry)
     push_bytes(text, b"}\n");
 }
 
-/// Appends the lines of all volumes. `Memory` if memory cannot be had.
+/// Appends the lines of all volumes. `Memory` if memory runs out.
 pub fn push_volumes(text: &mut Vec<u8>, volumes: &[VolumeEntry]) -> Result<(), Memory>
     ensures lines { OnOk result (text.new.items ≡ text.old.items ++ volumes_text volumes.now) }
     ensures capacity { vec_capacity text.old ≤ vec_capacity text.new }

@@ -170,7 +170,7 @@ pub fn slot_of(call: &Call) -> Option<u32>
 }
 
 impl Call {
-    /// Copies the call; `Memory` if memory cannot be had.
+    /// Copies the call; `Memory` if memory runs out.
     pub fn copy(&self) -> Result<Call, Memory>
         // No clause can rule out that memory runs out: a test makes a copy.
         ensures { IfOk result (λ made. made ≡ self.now) }
@@ -281,7 +281,7 @@ impl Call {
         })
     }
 
-    /// Makes two equal calls that share their bytes; `Memory` if memory cannot be had.
+    /// Makes two equal calls that share their bytes; `Memory` if memory runs out.
     pub fn share(self, alloc: Global) -> Result<(Call, Call), Memory>
         // No clause can rule out that memory runs out: tests make calls live.
         ensures { IfOk result (λ both. (both.0 ≡ self) × (both.1 ≡ self)) }

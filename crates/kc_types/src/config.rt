@@ -221,7 +221,7 @@ impl Config {
         self.approved.digests.as_slice()
     }
 
-    /// Copies the configuration; `Memory` if memory cannot be had.
+    /// Copies the configuration; `Memory` if memory runs out.
     pub fn copy(&self) -> Result<Config, Memory>
         // No clause can rule out that memory runs out: a test makes a copy.
         ensures { IfOk result (λ made. made ≡ self.now) }

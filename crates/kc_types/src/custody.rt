@@ -73,7 +73,7 @@ impl Model for MeasuredImages {
 }
 
 impl MeasuredImages {
-    /// Makes an empty list with room for 4 images; `Memory` if memory cannot be had.
+    /// Makes an empty list with room for 4 images; `Memory` if memory runs out.
     pub fn none(alloc: Global) -> Result<MeasuredImages, Memory>
         // No clause can rule out that memory runs out: a test makes them.
         ensures { IfOk result (λ images. images ≡ []) }

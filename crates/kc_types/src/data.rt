@@ -76,7 +76,7 @@ impl Data {
         }
     }
 
-    /// Makes an equal value, which shares the bytes if they are shared already; `Memory` if memory cannot be had.
+    /// Makes an equal value, which shares the bytes if they are shared already; `Memory` if memory runs out.
     pub fn copy(&self) -> Result<Data, Memory>
         // No clause can rule out that memory runs out: a test makes a copy.
         ensures { IfOk result (λ made. made ≡ self.now) }
@@ -90,7 +90,7 @@ impl Data {
     }
 
     /// Makes two equal values, which share the bytes if these have memory of their own. Hands the data back if the
-    /// memory that sharing needs cannot be had.
+    /// memory that sharing needs cannot be allocated.
     pub fn share(self, alloc: Global) -> Result<(Data, Data), Data>
         // No clause can rule out that memory runs out: tests share data.
         ensures { MatchResult result (λ both. (both.0 ≡ self) × (both.1 ≡ self)) (λ back. back ≡ self) }

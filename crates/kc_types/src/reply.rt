@@ -23,7 +23,7 @@ pub enum Reply {
 }
 
 impl Reply {
-    /// Copies the reply; `Memory` if memory cannot be had.
+    /// Copies the reply; `Memory` if memory runs out.
     pub fn copy(&self) -> Result<Reply, Memory>
         // No clause can rule out that memory runs out: a test makes a copy.
         ensures { IfOk result (λ made. made ≡ self.now) }

@@ -33,7 +33,7 @@ impl ReplyBuffer {
         }
     }
 
-    /// Grows the buffer to `len` bytes if it has room for fewer; `Memory` if memory cannot be had.
+    /// Grows the buffer to `len` bytes if it has room for fewer; `Memory` if memory runs out.
     pub fn at_least(self, len: usize) -> Result<ReplyBuffer, Memory>
         // No clause can rule out that memory runs out: tests make reads.
         ensures enough { IfOk result (λ buffer. len ≤ buffer) }
@@ -86,7 +86,7 @@ impl Call {
 }
 
 impl Reply {
-    /// Makes two equal replies, which share their bytes. If the memory that sharing needs cannot be had, the bytes are
+    /// Makes two equal replies, which share their bytes. If the memory that sharing needs cannot be allocated, the bytes are
     /// copied into `buffer`, which was made before, so that memory cannot run out.
     pub fn share(self, alloc: Global, buffer: ReplyBuffer) -> (Reply, Reply)
         requires { bytes_in self ≤ buffer }

@@ -19,7 +19,7 @@ pub struct Levels {
 }
 
 impl Levels {
-    /// Makes levels with room for this many leaves, none of them taken; `Memory` if memory cannot be had.
+    /// Makes levels with room for this many leaves, none of them taken; `Memory` if memory runs out.
     pub fn try_new(alloc: Global, leaves: u8) -> Result<Levels, Memory>
         requires { leaves ≤ leaf_limit }
         ensures kept { IfOk result IsLevels }

@@ -32,7 +32,7 @@ impl Model for TablePool {
 }
 
 impl TablePool {
-    /// Makes a pool of this many leaves, none of them taken; `Memory` if memory cannot be had. Nothing else takes
+    /// Makes a pool of this many leaves, none of them taken; `Memory` if memory runs out. Nothing else takes
     /// memory.
     pub fn try_new(alloc: Global, leaves: u8) -> Result<TablePool, Memory>
         requires { leaves ≤ leaf_limit }

@@ -41,7 +41,7 @@ impl Model for Stage2 {
 }
 
 impl Stage2 {
-    /// Makes an empty table with room for this many leaves of 512 entries; `Memory` if memory cannot be had.
+    /// Makes an empty table with room for this many leaves of 512 entries; `Memory` if memory runs out.
     pub fn try_new(alloc: Global, leaves: u8) -> Result<Stage2, Memory>
         requires { leaves ≤ leaf_limit }
         ensures { IfOk result (λ table. table ≡ new_table leaves) }
@@ -52,7 +52,7 @@ impl Stage2 {
     }
 
     /// Makes a table with room for this many leaves, in which these root slots, below 512, have taken leaves in this
-    /// order and these guest frames, ascending, are mapped; `Memory` if memory cannot be had.
+    /// order and these guest frames, ascending, are mapped; `Memory` if memory runs out.
     pub fn with_entries(
         alloc: Global,
         leaves: u8,
@@ -121,7 +121,7 @@ impl Stage2 {
         self.levels.leaves.as_slice()
     }
 
-    /// Lists all mapped guest frames with their frames, by ascending guest frame; `Memory` if memory cannot be had.
+    /// Lists all mapped guest frames with their frames, by ascending guest frame; `Memory` if memory runs out.
     /// Only the leaves that are taken are read.
     pub fn entries(&self, alloc: Global) -> Result<Vec<(Gfn, FrameNo)>, Memory>
         // No clause can rule out that memory runs out: a test lists entries.

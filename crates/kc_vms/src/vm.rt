@@ -47,7 +47,7 @@ impl Vm {
     ghost use Rattle.kc_vms.specs.Lending.{LendsList, LendsTable};
 
     /// Makes an empty slot whose table has room for this many leaves of 512 entries, up to 64; `Memory` if memory
-    /// cannot be had.
+    /// runs out.
     pub fn try_new(alloc: Global, leaves: u8) -> Result<Vm, Memory>
         requires { leaves ≤ leaf_limit }
         ensures { IfOk result (λ vm. vm ≡ empty_vm leaves) }

@@ -78,7 +78,7 @@ from-view s m n alike = sym (ap (λ xs. record n { frames = xs }) frames ∙ oth
     running : is_running n s.vm ≡ is_running m s.vm
     running = ap (λ (slots : List Slot). is_active (get_or slots s.vm empty_slot).phase) alike.slots
 
-    -- whether a frame is secret is told by its custody
+    -- whether a frame is secret depends on its custody
     secret-alike : (f : ℕ) → is_secret s (is_running n s.vm) (frame_at n f) ≡ is_secret s (is_running m s.vm) (frame_at m f)
     secret-alike f =
         ap (λ (c : Custody). same_owner c.owner (Vm s.vm) && (has_gfn s.gfns c.gfn && is_running n s.vm)) (alike.frames f).custody

@@ -19,7 +19,7 @@ by-refusal : (r : Option Refusal) (m : State) (calls : List Call) → (unless_on
 by-refusal None m calls = refl
 by-refusal (Some r) m calls = refl
 
--- a line leaves what the calls leave for which it stands
+-- a line leaves the state that its single calls leave
 pub line-spelled : (m : State) (line : Line) → (next_line m line).1 ≡ state_after m (spelled_line m line)
 line-spelled m (one call) = refl
 line-spelled m (range r) = by-refusal (first_refusal m (singles m r)) m (singles m r)

@@ -41,7 +41,7 @@ guest-writes : (m : State) (v c g off : ℕ) (bytes : List ℕ) (at : Option ℕ
 guest-writes m v c g off bytes None f is v_in e = refl
 guest-writes m v c g off bytes (Some k) f is v_in e = rw e (overwrites m k f off bytes (exists-mapped m v g k is v_in e))
 
--- a frame that gets another owner is another frame than one that keeps its own
+-- a frame whose owner changes differs from each frame that keeps its owner
 leaves : (m : State) (k f : ℕ) (frame : Frame) → k < length m.frames → (frame.owner ≡ (frame_at m k).owner → ⊥) → (frame_at (with_frame m k frame) f).owner ≡ (frame_at m f).owner → (frame_at (with_frame m k frame) f).bytes ≡ (frame_at m f).bytes
 leaves m k f frame lt differ stays = elim (cases_eq f k) [
   | inl same ↦ absurd (differ (ap (λ (x : Frame). x.owner) (sym (changed-same m k frame lt)) ∙ subst (λ x. (frame_at (with_frame m k frame) x).owner ≡ (frame_at m x).owner) same stays))

@@ -15,7 +15,7 @@ turned_by (Verify v) = Some v
 turned_by (Clear v) = Some v
 turned_by _ = None
 
--- a slot is written: it keeps its phase, or is another
+-- a write to a slot that keeps its phase, and a slot other than the one written
 pub phase-kept : (m : State) (w : ℕ) (slot : Slot) (v : ℕ) → slot.phase ≡ (slot_at m w).phase → (slot_at (with_slot m w slot) v).phase ≡ (slot_at m v).phase
 phase-kept m w slot v same = part-set (λ (s : Slot). s.phase) m.slots w slot empty_slot same v
 

@@ -83,14 +83,14 @@ turns-images v of (w ∷ ws) ys any measures = elim (cases_eq w v) [
       ∙ turns-images v of ws ys (rw (ne_eqb w v other) at any) measures
 ]
 
--- what is told of the frames, and of the VMs that have been measured
+-- the events of the frames, and of the VMs that have been measured
 abbrev pub frames_before : State → List Event
 frames_before m = map event.Change (map change.Frame (frame_changes_by header_line (boot m.config) m))
 
 abbrev pub measured_before : State → List Event
 measured_before m = turns_before (λ w. (slot_at m w).phase) (slots_that is_measured m)
 
--- what is told after a VM's registering of these other VMs, of the frames, and of the VMs that have been measured
+-- the registering of these other VMs, and the events of the frames
 abbrev pub registered_before : State → List ℕ → List Event
 registered_before m ws = turns_before (λ w. Booting) ws ++ frames_before m
 

@@ -63,7 +63,7 @@ module _ (m : State) (v : ℕ) (low : v < slot_count m.config) (ws : List ℕ) (
   told-none : (phase : Phase) → (phase_of v ≡ phase → ⊥) → All (λ told. is_turn v phase told ≡ false) (told_before m ws)
   told-none phase differs = All-append (λ told. is_turn v phase told ≡ false) (registered_before m ws) (measured_before m) (registered-none phase) (measured-none phase differs)
 
-  -- so all that is told of the state belongs to the VM's life
+  -- so all events of the state belong to the life of the VM
   pub others-in-life : All (IsInLife v) (turns_before (λ w. Booting) ws)
   others-in-life i d lt = record { unregistered = others-none Booting i d lt; kept = others-none Empty i d lt }
 
@@ -75,7 +75,7 @@ module _ (m : State) (v : ℕ) (low : v < slot_count m.config) (ws : List ℕ) (
       All-append (IsInLife v) (registered_before m ws) (measured_before m) (λ i d lt. record { unregistered = registered-none Booting i d lt; kept = registered-none Empty i d lt })
       (measured-in-life some)
 
-  -- if the slot has been measured, it is told so
+  -- a slot that has been measured is among those reported as measured
   among : (phase : Phase) → is_settled phase ≡ true → phase_of v ≡ phase → list_any (λ w. nat_eq w v) (slots_that is_measured m) ≡ true
   among phase settled so =
       among-range (λ w. nat_eq w v) (is_measured m) 0 (slot_count m.config) v (λ w differs. ne_eqb w v differs) (omega arith) (omega (arith, low))

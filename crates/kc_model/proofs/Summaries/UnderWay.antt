@@ -51,7 +51,7 @@ module _ (m : State) (calls : List Call) (is : IsLawful m) where
   abbrev UnderWay : Life → Type 0
   UnderWay life = IsUnderWay m calls life (last_place calls life.cleared)
 
-  -- the life of a VM, after whose registering that of these others is told
+  -- the life of a VM, if these others are registered after it
   under-way : (v : ℕ) → v < slot_count m.config → ((slot_at m v).phase ≡ Empty → ⊥) → (ws : List ℕ) → All (λ w. w ≡ v → ⊥) ws → UnderWay (life_of v header_line (told_before m ws ++ later))
   under-way v low some ws others =
       let rest = life_in v later in
@@ -69,7 +69,7 @@ module _ (m : State) (calls : List Call) (is : IsLawful m) where
       subst (λ told. IsUnderWay m calls (life_by v header_line told (first ++ later)) (last_place calls (line_of_turn v Empty told))) (sym (life-through v first later (before-in-life m v low ws others some)))
       (subst (λ end. IsUnderWay m calls (life_by v header_line (first ++ rest) (first ++ later)) (last_place calls end)) (sym settled.turns.cleared) all)
 
-  -- what is told after the registering of all VMs
+  -- the events after the registering of all VMs
   abbrev after : List Event
   after = frames_before m ++ (measured_before m ++ later)
 
