@@ -46,7 +46,7 @@ class Chain:
         for number, line in enumerate(self.lines, 2):
             answers.append(self.core.answer(line))
             lives.note(number, line, answers[-1])
-        self.lives, self.warning = lives.told(), warning_of(answers)
+        self.lives, self.warning = lives.told(), warning_of(self.lines, answers)
         places = sorted(rng.randrange(len(self.lines) + 1) for _ in range(rng.randrange(MOST)))
         self.volumes = [self.lines[at:to] for at, to in zip([0, *places], [*places, len(self.lines)])]
         # (calls that both versions have may come under either header)

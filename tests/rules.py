@@ -26,9 +26,11 @@ DEFAULT = {
 }
 
 
-# What replay and custody say of a trace of another machine, whatever else they are asked for.
-WARNING = "kcore: warning: more than half of the calls name frames or slots that the machine does not have\n"
+# What replay, custody and `redact --host` say of a trace that is probably of another machine, whatever else they are asked
+# for: how many calls were refused or rejected, or how many that name a frame or a slot name one that there is not.
 OUTSIDE = "refused bad-frame", "refused bad-vm"
+WARNING = "kcore: warning: {} of {} calls were refused: is this the trace's machine?\n"
+LACKING = "kcore: warning: {} of {} calls that name a frame or a slot name one that the machine lacks: is this the trace's machine?\n"
 
 
 def lines_text(lines, replies):
@@ -37,9 +39,23 @@ def lines_text(lines, replies):
     return "".join(json.dumps({"line": number, "call": call, "reply": reply}, separators=(",", ":")) + "\n" for number, (call, reply) in pairs)
 
 
-def warning_of(replies):
-    """What replay and custody say on standard error of calls with these replies."""
-    return WARNING if 2 * sum(it in OUTSIDE for it in replies) > len(replies) else ""
+def warning_of(lines, replies):
+    """What is said on standard error of these calls of a trace and their replies."""
+    naming = [line for line in lines if line != "take"]
+    denied = sum(it.startswith(("refused ", "rejected ")) for it in replies)
+    outside = sum(it in OUTSIDE for it in replies)
+    if 2 * denied > len(lines):
+        return WARNING.format(denied, len(lines))
+    return LACKING.format(outside, len(naming)) if 2 * outside > len(naming) else ""
+
+
+def own(line, vm):
+    """A line of a report of one VM: a refused call names no other slot, and of another VM's frame only its number."""
+    if vm is None or "slot" not in line:
+        return line
+    others = {"slot": None} if line["slot"] != vm else {}
+    others |= {"owner": None, "gfn": None} if (line["owner"] or "").startswith("vm") and line["owner"] != f"vm{vm}" else {}
+    return line | others
 
 
 def denied_in(remarks):
@@ -501,14 +517,15 @@ class Core:
         calls came in these volumes."""
         header = {kind: 2, "kcore": VERSION} | (named or {})
         header |= {"frames": len(self.frames), "core": self.config["core"], "host": self.config["host"]}
-        header |= {"slots": len(self.slots)} | ({"accesses": "unseen"} if is_unseen else {})
+        header |= {"slots": len(self.slots)} | ({"refused": calls[1]} if kind == "summary" else {})
+        header |= {"accesses": "unseen"} if is_unseen else {}
         header |= {"volumes": len(volumes)} if volumes else {}
         lines = [header, *volumes, *lines, {"calls": calls[0], counted: len(lines), "refused": calls[1]}]
         return "".join(json.dumps(line, separators=(",", ":")) + "\n" for line in lines)
 
     def custody_text(self, calls, told, vm=None, volumes=(), **said):
         """The text of custody, perhaps of one slot's VM alone."""
-        lines = [placed(line, volumes) for vms, line in told if vm is None or vm in vms]
+        lines = [placed(own(line, vm), volumes) for vms, line in told if vm is None or vm in vms]
         return self.text("custody", calls, "lines", lines, volumes=volumes, **said)
 
     def summary_text(self, calls, lives, vm=None, **said):

@@ -34,7 +34,7 @@ class Volume:
             answers.append(core.answer(line))
             lives.note(number, line, answers[-1])
         self.replies = "".join(f"{reply}\n" for reply in answers)
-        self.answered, self.warning = lines_text(lines, answers), warning_of(answers)
+        self.answered, self.warning = lines_text(lines, answers), warning_of(lines, answers)
         calls = len(lines), denied_in(remarks)
         self.custody = [([], core.custody_text(calls, told))]
         self.custody.append((list(REMARKS), core.custody_text(calls, noted(told, remarks, REMARKS))))
@@ -206,7 +206,7 @@ def host_differs(rng, program, volume):
     """What differs in a volume without what the host writes to frames of active VMs, which is redacted too, or None."""
     texts = ("from", volume.before), ("blank", blanked(volume.before))
     starts = [["--from", program.file(name, text)] for name, text in texts]
-    if program.ran(volume.lines, "redact", "--host", *starts[rng.randrange(2)]) != (0, program.trace_of(volume.hidden), ""):
+    if program.ran(volume.lines, "redact", "--host", *starts[rng.randrange(2)]) != (0, program.trace_of(volume.hidden), volume.warning):
         return "redacted with --host"
     form, wanted = rng.choice(volume.custody)
     if program.ran(volume.hidden, "custody", *form, *starts[rng.randrange(2)]) != (0, wanted, volume.warning):
@@ -248,7 +248,7 @@ def difference(case, program, told, remarks):
     volumes = volumes_of(rng, Core(config), lines, told, remarks)
     words = ["replay", "--config", program.path, "--state", "--workers", str(rng.choice(WORKERS))]
     answers = [reply for volume in volumes for reply in volume.replies.splitlines()]
-    if program.ran(lines, *words) != (0, volumes[-1].after, warning_of(answers)):
+    if program.ran(lines, *words) != (0, volumes[-1].after, warning_of(lines, answers)):
         return "the text of the state"
     order, sizes = list(enumerate(volumes, 1)), ", ".join(str(len(it.lines)) for it in volumes)
     rng.shuffle(order)

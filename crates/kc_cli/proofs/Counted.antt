@@ -5,8 +5,8 @@ use Rattle.kc_types.specs.declared.call.Call.{Call}
 use Rattle.kc_model.specs.State.{State}
 use Rattle.kc_model.specs.Next.{next, replies_from}
 use Rattle.kc_remarks.specs.declared.denials.Answered.{Answered}
-use Rattle.kc_remarks.specs.Denials.{Counts, IsAnsweredBy}
-use Rattle.kc_remarks.proofs.Counts.{outside_is}
+use Rattle.kc_remarks.specs.Denials.{AreCounts, IsAnsweredBy}
+use Rattle.kc_remarks.proofs.Counts.{outside_is, naming_is}
 use Rattle.kc_trace.specs.Trace.{IsTrace}
 use Rattle.kc_faults.specs.declared.origin.Origin.{Origin}
 use Rattle.kc_faults.specs.Origins.{BeginsIn}
@@ -16,15 +16,18 @@ pub one_each : (m : State) (calls : List Call) → length (replies_from m calls)
 one_each m [] = refl
 one_each m (call ∷ calls) = ap suc (one_each (next m call).1 calls)
 
-pub answered_by : (m : State) (calls : List Call) (answered : Answered) → answered.calls ≡ length calls → Counts (replies_from m calls) answered.denials → IsAnsweredBy (replies_from m calls) answered
-answered_by m calls answered count denials = record {
-  calls = count ∙ sym (one_each m calls);
-  denials = denials;
-  outside = outside_is (replies_from m calls) answered.denials denials;
-}
+pub answered_by : (m : State) (calls : List Call) (answered : Answered) → answered.calls ≡ length calls → AreCounts (replies_from m calls) answered.denials → IsAnsweredBy (replies_from m calls) answered
+answered_by m calls answered count denials =
+    let long = count ∙ sym (one_each m calls) in
+    record {
+      calls = long;
+      denials = denials;
+      outside = outside_is (replies_from m calls) answered.denials denials;
+      naming = naming_is (replies_from m calls) answered long denials;
+    }
 
 -- they are those of the source's trace
-pub answered_from : (source : Option (List ℕ)) (m : State) (calls : List Call) (answered : Answered) → IfSome source (λ text. IsTrace text calls) → answered.calls ≡ length calls → Counts (replies_from m calls) answered.denials → IfSome source (λ text. AreAnsweredFrom m text answered)
+pub answered_from : (source : Option (List ℕ)) (m : State) (calls : List Call) (answered : Answered) → IfSome source (λ text. IsTrace text calls) → answered.calls ≡ length calls → AreCounts (replies_from m calls) answered.denials → IfSome source (λ text. AreAnsweredFrom m text answered)
 answered_from None m calls answered traced count denials = tt
 answered_from (Some text) m calls answered traced count denials = (calls, traced, answered_by m calls answered count denials)
 

@@ -1,8 +1,8 @@
 -- Notes as events and remarks, and the marks of remarks.
-use Rattle.std.proofs.Common.{ℕ, ◌≡◌, ◌++◌, Bool, true, false, cond, List, [], ◌∷◌, filter, Option, refl, ap, sym, ◌∙◌, append-nil}
+use Rattle.std.proofs.Common.{ℕ, ◌≡◌, ◌++◌, Bool, true, false, cond, List, [], ◌∷◌, map, filter, Some, refl, ap, sym, ◌∙◌, append-nil}
 use Rattle.std.proofs.lemmas.List.Elements.{filter_map-append, filter-append}
 use Rattle.kc_custody.specs.Selected.{is_selected}
-use Rattle.kc_custody.specs.Chosen.{is_chosen, chosen}
+use Rattle.kc_custody.specs.Chosen.{is_chosen, own_note, chosen}
 use Rattle.kc_remarks.specs.declared.remark.Denied.{Denied}
 use Rattle.kc_remarks.specs.declared.remark.Access.{Access}
 use Rattle.kc_remarks.specs.declared.remark.Note.{Note}
@@ -14,21 +14,24 @@ use Rattle.kc_vm_picture.specs.Marks.{mark_of, marks}
 use Rattle.kc_cli.specs.Ledgers.{is_remark}
 
 -- a note that is chosen from one list or from another
-chosen_too : (b : Bool) (x : Note) (xs ys : List Note) → marks xs ≡ marks ys → marks (cond b (x ∷ xs) xs) ≡ marks (cond b (x ∷ ys) ys)
-chosen_too true x xs ys same = filter_map-append mark_of (x ∷ []) xs ∙ ap (λ rest. marks (x ∷ []) ++ rest) same ∙ sym (filter_map-append mark_of (x ∷ []) ys)
-chosen_too false x xs ys same = same
+chosen_too : (v : ℕ) (b : Bool) (x : Note) (xs ys : List Note) → marks (map (own_note v) xs) ≡ marks (map (own_note v) ys) → marks (map (own_note v) (cond b (x ∷ xs) xs)) ≡ marks (map (own_note v) (cond b (x ∷ ys) ys))
+chosen_too v true x xs ys same =
+    filter_map-append mark_of (own_note v x ∷ []) (map (own_note v) xs) ∙ ap (λ rest. marks (own_note v x ∷ []) ++ rest) same ∙ sym (filter_map-append mark_of (own_note v x ∷ []) (map (own_note v) ys))
+chosen_too v false x xs ys same = same
 
 -- an event has no mark
-unmarked : (b : Bool) (xs ys zs : List Note) → marks zs ≡ marks ys → marks xs ≡ marks ys → marks xs ≡ marks (cond b zs ys)
-unmarked true xs ys zs none same = same ∙ sym none
-unmarked false xs ys zs none same = same
+unmarked : (v : ℕ) (b : Bool) (xs ys zs : List Note) → marks (map (own_note v) zs) ≡ marks (map (own_note v) ys) → marks (map (own_note v) xs) ≡ marks (map (own_note v) ys) → marks (map (own_note v) xs) ≡ marks (map (own_note v) (cond b zs ys))
+unmarked v true xs ys zs none same = same ∙ sym none
+unmarked v false xs ys zs none same = same
 
 -- what is chosen of the remarks among notes has the marks of what is chosen of the notes
-pub marks_of_remarks : (vm : Option ℕ) (remarks : Remarks) (told : List Note) → marks (chosen vm remarks (filter is_remark told)) ≡ marks (chosen vm remarks told)
-marks_of_remarks vm remarks [] = refl
-marks_of_remarks vm remarks (note.Denied one ∷ more) = chosen_too (is_chosen vm remarks (note.Denied one)) (note.Denied one) _ _ (marks_of_remarks vm remarks more)
-marks_of_remarks vm remarks (note.Access one ∷ more) = chosen_too (is_chosen vm remarks (note.Access one)) (note.Access one) _ _ (marks_of_remarks vm remarks more)
-marks_of_remarks vm remarks (note.Event one ∷ more) = unmarked (is_selected vm one) (chosen vm remarks (filter is_remark more)) (chosen vm remarks more) (note.Event one ∷ chosen vm remarks more) refl (marks_of_remarks vm remarks more)
+pub marks_of_remarks : (v : ℕ) (remarks : Remarks) (told : List Note) → marks (chosen (Some v) remarks (filter is_remark told)) ≡ marks (chosen (Some v) remarks told)
+marks_of_remarks v remarks [] = refl
+marks_of_remarks v remarks (note.Denied one ∷ more) = chosen_too v (is_chosen (Some v) remarks (note.Denied one)) (note.Denied one) _ _ (marks_of_remarks v remarks more)
+marks_of_remarks v remarks (note.Access one ∷ more) = chosen_too v (is_chosen (Some v) remarks (note.Access one)) (note.Access one) _ _ (marks_of_remarks v remarks more)
+marks_of_remarks v remarks (note.Event one ∷ more) =
+    let picked : List Note → List Note = λ told. filter (is_chosen (Some v) remarks) told in
+    unmarked v (is_selected (Some v) one) (picked (filter is_remark more)) (picked more) (note.Event one ∷ picked more) refl (marks_of_remarks v remarks more)
 
 event_added : (told : List Note) (x : Note) → events_in (told ++ x ∷ []) ≡ events_in told ++ events_in (x ∷ [])
 event_added told x = filter_map-append event_in told (x ∷ [])

@@ -17,7 +17,7 @@ use Rattle.kc_html.specs.Html.{html_text_of}
 use Rattle.kc_remarks.specs.declared.remark.Note.{Note}
 use Rattle.kc_remarks.specs.declared.remark.Note.TheVariants as note
 use Rattle.kc_remarks.specs.Remarks.{events_in}
-use Rattle.kc_custody.specs.Chosen.{no_remarks, chosen}
+use Rattle.kc_custody.specs.Chosen.{no_remarks, own_note, chosen}
 use Rattle.kc_cli.specs.declared.account.Subject.{Subject}
 use Rattle.kc_cli.specs.Ledgers.{framed_text, lined_text}
 
@@ -38,7 +38,7 @@ of-one v (note.Denied one ∷ more) = of-one v more
 of-one v (note.Access one ∷ more) = of-one v more
 of-one v (note.Event (event.Change change) ∷ more) = by_test (is_for v change) _ _ (of-one v more)
   where
-    by_test : (b : Bool) (rest : List Note) (changes : List Change) → rest ≡ map noted changes → cond b (noted change ∷ rest) rest ≡ map noted (cond b (change ∷ changes) changes)
+    by_test : (b : Bool) (rest : List Note) (changes : List Change) → map (own_note v) rest ≡ map noted changes → map (own_note v) (cond b (noted change ∷ rest) rest) ≡ map noted (cond b (change ∷ changes) changes)
     by_test true rest changes same = ap (λ (rest : List Note). noted change ∷ rest) same
     by_test false rest changes same = same
 of-one v (note.Event (event.Read w) ∷ more) = of-one v more

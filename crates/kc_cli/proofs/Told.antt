@@ -1,5 +1,5 @@
 -- What is reported of calls that come after others, and what the sink takes of it.
-use Rattle.std.proofs.Common.{ℕ, ◌≡◌, ◌<◌, ◌+◌, ◌++◌, ◌≤◌, List, [], Bor, get_or, drop, length, length-append, filter, take, refl, ap, sym, ◌∙◌, Option, Some, None, Result, Ok, Err, Bool, true, false, subst, arith, inl, inr, append_assoc}
+use Rattle.std.proofs.Common.{ℕ, ◌≡◌, ◌<◌, ◌+◌, ◌++◌, ◌≤◌, ◌^◌, List, [], Bor, get_or, drop, length, length-append, filter, take, refl, ap, sym, ◌∙◌, Option, Some, None, Result, Ok, Err, Bool, true, false, subst, arith, inl, inr, append_assoc}
 use Rattle.std.proofs.lemmas.Bool.{cases_lt}
 use Rattle.std.proofs.lemmas.Grind.{flat_map-append}
 use Rattle.std.proofs.lemmas.List.{take_all, append-nil, take-append-drop, drop_more}
@@ -29,6 +29,7 @@ use Rattle.kc_model.proofs.Custody.Bars.{bars_are}
 use Rattle.kc_model.proofs.Custody.Laws.{custody_is}
 use Rattle.kc_model.proofs.Summaries.Summed.{summaries_are}
 use Rattle.kc_model.proofs.States.Runs.{state_after-append, replies_from-append}
+use Rattle.kc_custody.proofs.Own.{names_only}
 use Rattle.kc_cli.specs.declared.account.CustodyForm.{CustodyForm}
 use Rattle.kc_cli.specs.declared.telling.Kept.{Kept}
 use Rattle.kc_cli.specs.Custody.{IsCustodyTold, IsCustodyOfAll}
@@ -80,20 +81,22 @@ is_told m calls count refused is counted denied_so = record {
   all = is_of_all m calls is;
   summaries = summaries_are m calls is;
   bars = bars_are m calls is;
+  own = names_only m calls is;
 }
 
 -- what is kept of calls after those so far
 kept_more : (form : CustodyForm) (m : State) (xs ys : List Call) (old new : State) (before after : Kept) → HasKept form m xs old before
     → ((told : List Note) → Keeps form m told before.ledger → Keeps form m (told ++ notes_from before.line old ys) after.ledger) → new ≡ state_after old ys
     → after.denials.total ≡ before.denials.total + length (filter is_denied (notes_from before.line old ys)) → after.denials.total ≤ before.denials.total + length ys
-    → ((replies : List Reply) → Counts replies before.denials → Counts (replies ++ replies_from old ys) after.denials) → after.line ≡ before.line + length ys → HasKept form m (xs ++ ys) new after
-kept_more form m xs ys old new before after h grown to added few counted at =
+    → ((replies : List Reply) → Counts replies before.denials → Counts (replies ++ replies_from old ys) after.denials) → after.line ≡ before.line + length ys → after.line < 2 ^ 32 → HasKept form m (xs ++ ys) new after
+kept_more form m xs ys old new before after h grown to added few counted at short =
     let long = length-append xs ys in
     let so_far = h.line in
     let few_before = h.few in
     record {
       ledger = subst (λ (told : List Note). Keeps form m told after.ledger) (told_more m old xs ys before.line h.left h.line) (grown (notes m xs) h.ledger);
       line = omega (arith, long, so_far, at);
+      short = short;
       left = left_more m old new xs ys h.left to;
       denied = denied_more m old xs ys before.line before.denials.total after.denials.total h.left h.line h.denied added;
       few = omega (arith, long, few_before, few);
@@ -104,9 +107,9 @@ kept_more form m xs ys old new before after h grown to added few counted at =
 pub kept_after : (form : CustodyForm) (m : State) (first xs ys : List Call) (old new : State) (before after : Kept) → HasKept form m (first ++ xs) old before
     → ((told : List Note) → Keeps form m told before.ledger → Keeps form m (told ++ notes_from before.line old ys) after.ledger) → new ≡ state_after old ys
     → after.denials.total ≡ before.denials.total + length (filter is_denied (notes_from before.line old ys)) → after.denials.total ≤ before.denials.total + length ys
-    → ((replies : List Reply) → Counts replies before.denials → Counts (replies ++ replies_from old ys) after.denials) → after.line ≡ before.line + length ys → HasKept form m (first ++ (xs ++ ys)) new after
-kept_after form m first xs ys old new before after h grown to added few counted at =
-    subst (λ (all : List Call). HasKept form m all new after) (append_assoc first xs ys) (kept_more form m (first ++ xs) ys old new before after h grown to added few counted at)
+    → ((replies : List Reply) → Counts replies before.denials → Counts (replies ++ replies_from old ys) after.denials) → after.line ≡ before.line + length ys → after.line < 2 ^ 32 → HasKept form m (first ++ (xs ++ ys)) new after
+kept_after form m first xs ys old new before after h grown to added few counted at short =
+    subst (λ (all : List Call). HasKept form m all new after) (append_assoc first xs ys) (kept_more form m (first ++ xs) ys old new before after h grown to added few counted at short)
 
 cut_first : (xs ys : List ℕ) (n : ℕ) → (m : ℕ) × (take n xs ≡ take m (xs ++ ys))
 cut_first xs ys n =

@@ -9,7 +9,7 @@ use Rattle.kc_model.specs.Lawful.{IsLawful}
 use Rattle.kc_model.specs.Next.{replies_from}
 use Rattle.kc_model.specs.Custody.{first_line}
 use Rattle.kc_remarks.specs.Remarks.{notes}
-use Rattle.kc_remarks.specs.Denials.{Counts, IsAnsweredBy}
+use Rattle.kc_remarks.specs.Denials.{AreCounts, IsAnsweredBy}
 use Rattle.kc_remarks.specs.declared.denials.Denials.{Denials}
 use Rattle.kc_remarks.specs.declared.denials.Answered.{Answered}
 use Rattle.kc_trace.specs.CustodyText.{AreInLine}
@@ -35,7 +35,7 @@ use Rattle.kc_custody.proofs.Traced.{before-within, events-within}
 use Rattle.kc_remarks.proofs.Events.{events-of-notes}
 use Rattle.kc_cli.specs.Ledgers.{HasKept, Keeps, events_kept, IsGiven, IsGivenOf, GivesAccount, BeginsAccount}
 use Rattle.kc_cli.specs.Volumes.{known, HasTold}
-use Rattle.kc_cli.proofs.Counted.{answered_by}
+use Rattle.kc_cli.proofs.Counted.{one_each, answered_by}
 use Rattle.kc_cli.proofs.Headings.{headed}
 use Rattle.kc_cli.proofs.Digested.{named_blind}
 use Rattle.kc_cli.proofs.Ledgers.{account_given, kept_within}
@@ -212,7 +212,8 @@ pub all_answered : (order : CustodyOrder) (account : CustodyAccount) (m : State)
 all_answered order account m None sources answered h count denials begins = tt
 all_answered order account m (Some start) sources answered h count denials begins =
     by_texts (known sources) (λ texts all. rw (known_are sources texts all) at h.traced)
-    (answered_by m (joined h.volumes) answered count (subst (λ (counted : Denials). Counts (replies_from m (joined h.volumes)) counted) (sym denials) h.kept.counted))
+    (answered_by m (joined h.volumes) answered count (subst (λ (counted : Denials). AreCounts (replies_from m (joined h.volumes)) counted) (sym denials)
+    (h.kept.counted (let each = one_each m (joined h.volumes) in let at = h.kept.line in let short = h.kept.short in omega (arith, each, at, short)))))
   where
     by_texts : (texts : Option (List (List ℕ))) → ((some : List (List ℕ)) → texts ≡ Some some → AreVolumes (map Some some) h.volumes) → IsAnsweredBy (replies_from m (joined h.volumes)) answered → AreAllAnswered order.origin (Some start) texts answered
     by_texts None traced counted = tt

@@ -1,5 +1,5 @@
 -- What the engine of custody writes of what its sources held.
-use Rattle.std.specs.Prelude.{◌≡◌, ◌≢◌, ◌<◌, ◌≤◌, ◌+◌, ◌++◌, ℕ, Bool, not, true, false, List, [], ◌∷◌, length, map, filter, Option, Some, None, is_some, Result, Err, IfSome, OnOk}
+use Rattle.std.specs.Prelude.{◌≡◌, ◌≢◌, ◌<◌, ◌≤◌, ◌+◌, ◌++◌, ℕ, Bool, not, true, false, List, [], ◌∷◌, length, map, filter, All, Option, Some, None, is_some, Result, Err, IfSome, OnOk}
 use Rattle.std.specs.List.{range_with_len}
 use Rattle.sha2.specs.Sha256.{sha256}
 use Rattle.kc_types.specs.Limits.{call_limit}
@@ -32,7 +32,7 @@ use Rattle.kc_html.specs.Html.{html_text_of}
 use Rattle.kc_svg.specs.Foot.{HasFoot}
 use Rattle.kc_state_text.specs.StateText.{state_text}
 use Rattle.kc_redact.specs.Witness.{witnessed}
-use Rattle.kc_custody.specs.Chosen.{chosen}
+use Rattle.kc_custody.specs.Chosen.{chosen, NamesOnly}
 use Rattle.kc_trace.specs.Trace.{IsTrace}
 use Rattle.kc_trace.specs.declared.custody_writer.StartDigest.TheVariants as starts
 use Rattle.kc_trace.specs.declared.custody_writer.Digests.{Digests}
@@ -84,6 +84,8 @@ pub record IsCustodyTold (m : State) (calls : List Call) (count refused : ℕ) (
   pub all : IsCustodyOfAll m calls
   pub summaries : AreSummaries m calls
   pub bars : AreBars m calls
+  -- in a report of one VM no note names another VM
+  pub own : (v : ℕ) (remarks : Remarks) → All (NamesOnly v) (chosen (Some v) remarks told)
 
 -- the events that are reported: the changes alone, if the machine's own accesses are not in the trace
 abbrev pub reported : Bool → List Event → List Event

@@ -1,5 +1,5 @@
 -- What the engine of custody keeps of the notes on a trace: all of them, or their events, with the attempts at pages of VMs, if these are enough.
-use Rattle.std.specs.Prelude.{◌≡◌, ◌≤◌, ◌+◌, ◌++◌, ℕ, Bool, true, false, List, [], filter, length, take, Option, is_some, IfSome, Result, Ok, Err}
+use Rattle.std.specs.Prelude.{◌≡◌, ◌<◌, ◌≤◌, ◌+◌, ◌^◌, ◌++◌, ℕ, Bool, true, false, List, [], filter, length, take, Option, is_some, IfSome, Result, Ok, Err}
 use Rattle.std.specs.List.{flat_map}
 use Rattle.std.specs.Io.KnownBytes.{Appends}
 use Rattle.sha2.specs.declared.Sha256.{Sha256}
@@ -117,6 +117,7 @@ is_remark _ = true
 pub record HasKept (form : CustodyForm) (m : State) (calls : List Call) (core : State) (kept : Kept) : Type 0 where
   pub ledger : Keeps form m (notes m calls) kept.ledger
   pub line : kept.line ≡ first_line + length calls
+  pub short : kept.line < 2 ^ 32
   pub left : core ≡ state_after m calls
   pub denied : kept.denials.total ≡ length (filter is_denied (notes m calls))
   pub few : kept.denials.total ≤ length calls

@@ -14,3 +14,4 @@ pub mod Distinct
 pub mod Taken
 pub mod Traced
 mod Denied
+pub mod Own

@@ -1,5 +1,9 @@
--- Which notes are reported.
-use Rattle.std.specs.Prelude.{ℕ, Bool, true, false, ◌&&◌, ◌||◌, ◌==◌, List, filter, Option, Some, None}
+-- Which notes are reported, and what of them in a report of one VM.
+use Rattle.std.specs.Prelude.{ℕ, ◌≡◌, Bool, true, false, not, ◌&&◌, ◌||◌, ◌==◌, List, filter, map, Option, Some, None, IfSome, if◌then◌else◌}
+use Rattle.kc_types.specs.declared.owner.Owner.{Owner}
+use Rattle.kc_types.specs.declared.owner.Owner.TheVariants.{Vm}
+use Rattle.kc_types.specs.declared.custody.Change.TheVariants as change
+use Rattle.kc_types.specs.declared.custody.Event.TheVariants as event
 use Rattle.kc_model.specs.Lives.{is_owned_by}
 use Rattle.kc_remarks.specs.declared.remark.NamedFrame.{NamedFrame}
 use Rattle.kc_remarks.specs.declared.remark.Denied.{Denied}
@@ -35,8 +39,54 @@ is_chosen vm remarks (note.Denied told) = remarks.refused && is_denied_at vm tol
 is_chosen vm remarks (note.Access told) = remarks.accesses && is_access_of vm told
 is_chosen vm remarks (note.Event told) = is_selected vm told
 
+-- a slot that is named, if it is this one
+abbrev pub own_slot : ℕ → Option ℕ → Option ℕ
+own_slot v None = None
+own_slot v (Some named) = if named == v then Some named else None
+
+-- whether it is another VM than this slot's
+abbrev pub is_anothers : ℕ → Owner → Bool
+is_anothers v (Vm w) = not (w == v)
+is_anothers v _ = false
+
+-- a frame that is named, if it is not another VM's
+abbrev pub own_frame : ℕ → Option NamedFrame → Option NamedFrame
+own_frame v None = None
+own_frame v (Some named) = if is_anothers v named.owner then None else Some named
+
+-- its number, if it is
+abbrev pub foreign_frame : ℕ → Option NamedFrame → Option ℕ
+foreign_frame v None = None
+foreign_frame v (Some named) = if is_anothers v named.owner then Some named.frame else None
+
+-- a denied call without what belongs to other VMs than this slot's
+abbrev pub own_denied : ℕ → Denied → Denied
+own_denied v told = record told { slot = own_slot v told.slot; named = own_frame v told.named; foreign = foreign_frame v told.named }
+
+abbrev pub own_note : ℕ → Note → Note
+own_note v (note.Denied told) = note.Denied (own_denied v told)
+own_note v told = told
+
+abbrev pub own_notes : Option ℕ → List Note → List Note
+own_notes None told = told
+own_notes (Some v) told = map (own_note v) told
+
 abbrev pub chosen : Option ℕ → Remarks → List Note → List Note
-chosen vm remarks told = filter (is_chosen vm remarks) told
+chosen vm remarks told = own_notes vm (filter (is_chosen vm remarks) told)
+
+-- an owner is no other VM than this slot's
+abbrev pub IsNoOther : ℕ → Owner → Type 0
+IsNoOther v (Vm w) = w ≡ v
+IsNoOther v _ = Unit {0}
+
+-- a note names no other VM than this slot's: neither as a slot nor as the owner of a frame
+abbrev pub NamesOnly : ℕ → Note → Type 0
+NamesOnly v (note.Denied told) = IfSome told.slot (λ w. w ≡ v) × IfSome told.named (λ named. IsNoOther v named.owner)
+NamesOnly v (note.Access told) = told.vm ≡ v
+NamesOnly v (note.Event (event.Change (change.Frame told))) = IsNoOther v told.before.owner × IsNoOther v told.after.owner
+NamesOnly v (note.Event (event.Change (change.Phase told))) = told.vm ≡ v
+NamesOnly v (note.Event (event.Read w)) = w ≡ v
+NamesOnly v (note.Event (event.Write w)) = w ≡ v
 
 -- nothing but the changes
 abbrev pub no_remarks : Remarks

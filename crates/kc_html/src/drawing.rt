@@ -29,7 +29,8 @@ const outcome = told => told.refused !== undefined ? `refused: ${told.refused}` 
 const reached = told => `${told.call === "hread" ? "the host read" : "the host wrote"} ${numbered(told.len, "byte", "bytes")} from byte ${told.off} on`;
 
 function textOfRefusal(told) {
-  const at = told.frame === null ? "" : `, frame ${told.frame} of ${named(told.owner)}${told.gfn === null ? "" : `, guest frame ${told.gfn}`}`;
+  const whose = told.owner === null ? "" : ` of ${named(told.owner)}${told.gfn === null ? "" : `, guest frame ${told.gfn}`}`;
+  const at = told.frame === null ? "" : `, frame ${told.frame}${whose}`;
   return `line ${placed(told.line)}: ${told.call} ${outcome(told)}${at}`;
 }
 

@@ -83,7 +83,7 @@ fn run_with<'a, R: Threads + Wait + Sync>(
         }
     }
     if let Some(answered) = &exit.answered
-        && (is_told || (asked.explain && answered.is_mostly_outside()))
+        && (is_told || (asked.explain && answered.is_doubted()))
     {
         explain_answered(rt, &asked, answered);
     }

@@ -1,5 +1,5 @@
 -- Redacting calls as they come in two stretches is redacting them in one.
-use Rattle.std.proofs.Common.{append_assoc, ◌≡◌, ℕ, Bool, true, false, not, List, [], ◌∷◌, ◌++◌, Option, Some, None, refl, sym, ap, ◌∙◌}
+use Rattle.std.proofs.Common.{append_assoc, append-nil, subst, length, suc, ◌≤◌, arith, ◌≡◌, ℕ, Bool, true, false, not, List, [], ◌∷◌, ◌++◌, Option, Some, None, refl, sym, ap, ◌∙◌}
 use Rattle.std.proofs.lemmas.List.{map-append}
 use Rattle.std.specs.Prelude.{if◌then◌else◌}
 use Rattle.kc_types.specs.declared.call.Call.{Call}
@@ -7,13 +7,16 @@ use Rattle.kc_types.specs.declared.call.Call.TheVariants.{HostWrite}
 use Rattle.kc_types.specs.declared.owner.Owner.{Owner}
 use Rattle.kc_types.specs.declared.owner.Owner.TheVariants.{Core, Host, Free, Vm}
 use Rattle.kc_model.specs.State.{State, frame_at}
-use Rattle.kc_model.specs.Next.{next, state_after}
+use Rattle.kc_types.specs.declared.reply.Reply.{Reply}
+use Rattle.kc_model.specs.Next.{next, replies_from, state_after}
 use Rattle.kc_model.specs.Redaction.{counts}
 use Rattle.kc_model.specs.Blanking.{is_guests}
-use Rattle.kc_model.proofs.States.Runs.{state_after-append}
+use Rattle.kc_model.proofs.States.Runs.{state_after-append, replies_from-append}
+use Rattle.kc_remarks.specs.declared.denials.Denials.{Denials}
+use Rattle.kc_remarks.specs.Denials.{Counts}
 use Rattle.kc_redact.specs.Redacted.{blanked, redacted_call, redacted_in, redacted_from, all_frames}
 use Rattle.kc_redact_text.specs.Kept.{blanked_call}
-use Rattle.kc_redact_text.specs.Made.{is_hidden, redacted_next, core_next, redacted_by, core_after}
+use Rattle.kc_redact_text.specs.Made.{is_hidden, redacted_next, core_next, redacted_by, core_after, reply_next, replies_by, CountsMore}
 
 -- ---- one call
 
@@ -76,3 +79,47 @@ pub kept-then : (core now : Option State) (first so_far new xs : List Call) (cal
 kept-then core now first so_far new xs call kept is at one added =
     added ∙ ap (λ l. l ++ kept ∷ []) is ∙ append_assoc first (redacted_by core xs) (kept ∷ [])
     ∙ ap (λ l. first ++ l) (ap (λ k. redacted_by core xs ++ k ∷ []) one ∙ sym (by-then core now xs call at))
+
+-- ---- their replies
+
+pub replies-none : (core : Option State) → replies_by core [] ≡ []
+replies-none None = refl
+replies-none (Some m) = refl
+
+pub replies-append : (core : Option State) (xs ys : List Call) → replies_by core (xs ++ ys) ≡ replies_by core xs ++ replies_by (core_after core xs) ys
+replies-append None xs ys = refl
+replies-append (Some m) xs ys = replies_from-append m xs ys
+
+replies-one : (core : Option State) (call : Call) → replies_by core (call ∷ []) ≡ reply_next core call
+replies-one None call = refl
+replies-one (Some m) call = refl
+
+-- no more replies are counted
+pub counts-none : (core : Option State) (denials : Denials) → CountsMore (replies_by core []) denials denials
+counts-none core denials replies h = subst (λ (all : List Reply). Counts all denials) (sym (ap (λ (more : List Reply). replies ++ more) (replies-none core) ∙ append-nil replies)) h
+
+-- those of calls, and of others after them
+pub counts-append : (core made : Option State) (xs ys : List Call) (before mid after : Denials) → made ≡ core_after core xs → CountsMore (replies_by core xs) before mid → CountsMore (replies_by made ys) mid after → CountsMore (replies_by core (xs ++ ys)) before after
+counts-append core made xs ys before mid after at one two replies h =
+    let all : (replies ++ replies_by core xs) ++ replies_by made ys ≡ replies ++ replies_by core (xs ++ ys) =
+    append_assoc replies (replies_by core xs) (replies_by made ys)
+    ∙ ap (λ (c : Option State). replies ++ (replies_by core xs ++ replies_by c ys)) at
+    ∙ ap (λ (more : List Reply). replies ++ more) (sym (replies-append core xs ys)) in
+    subst (λ (rs : List Reply). Counts rs after) all (two (replies ++ replies_by core xs) (one replies h))
+
+pub counts-then : (core now : Option State) (xs : List Call) (call : Call) (before mid after : Denials) → now ≡ core_after core xs → CountsMore (replies_by core xs) before mid → CountsMore (reply_next now call) mid after → CountsMore (replies_by core (xs ++ call ∷ [])) before after
+counts-then core now xs call before mid after at one two =
+    counts-append core now xs (call ∷ []) before mid after at one (subst (λ (more : List Reply). CountsMore more mid after) (sym (replies-one now call)) two)
+
+-- there is a reply to each call, if there is a core
+pub replies-few : (core : Option State) (calls : List Call) → length (replies_by core calls) ≤ length calls
+replies-few None calls = omega arith
+replies-few (Some m) calls = let each = one-each m calls in omega (arith, each)
+  where
+    one-each : (m : State) (calls : List Call) → length (replies_from m calls) ≡ length calls
+    one-each m [] = refl
+    one-each m (call ∷ calls) = ap suc (one-each (next m call).1 calls)
+
+pub redacted-length : (m : State) (calls : List Call) → length (redacted_from m calls) ≡ length calls
+redacted-length m [] = refl
+redacted-length m (call ∷ calls) = ap suc (redacted-length (next m call).1 calls)

@@ -23,21 +23,25 @@ use Rattle.kc_texts.specs.declared.whole.ReadFault.TheVariants as reads
 use Rattle.kc_faults.specs.declared.fault.TextFault.TheVariants as texts
 use Rattle.kc_texts.proofs.Fed.{stays, goes_on_ok, goes_on_err, goes_on_nothing, too_many}
 use Rattle.kc_model.specs.State.{State}
-use Rattle.kc_redact_text.specs.Made.{redacted_by, core_after}
-use Rattle.kc_redact_text.proofs.Made.{by-none, after-none, by-append, after-append}
+use Rattle.kc_types.specs.declared.reply.Reply.{Reply}
+use Rattle.kc_remarks.specs.declared.denials.Denials.{Denials}
+use Rattle.kc_remarks.specs.Denials.{AreCounts, Counts}
+use Rattle.kc_redact_text.specs.Made.{redacted_by, core_after, replies_by, CountsMore}
+use Rattle.kc_redact_text.proofs.Made.{by-none, after-none, by-append, after-append, counts-none, counts-append, replies-few}
 use Rattle.kc_redact_text.specs.Reading.{AreRead, stream_of, HasGoneOn, HasTaken, IsHeadAndCalls}
 use Rattle.kc_redact_text.specs.declared.reading.Redacting.{Redacting}
 
 -- ---- one piece
 
 pub taken_ok : (core made : Option State) (before after : Redacting) (piece : List ℕ) (calls : List Call) → AreRead core (fed before.reader piece) after.reader.progress calls → after.reader.fault ≡ None
-    → after.total ≡ before.total + length piece → after.calls.items ≡ before.calls.items ++ redacted_by core calls → made ≡ core_after core calls → HasTaken core made before after piece
-taken_ok core made before after piece calls read none total grown done left now consumed =
+    → after.total ≡ before.total + length piece → after.calls.items ≡ before.calls.items ++ redacted_by core calls → made ≡ core_after core calls → CountsMore (replies_by core calls) before.denials after.denials → HasTaken core made before after piece
+taken_ok core made before after piece calls read none total grown done counted left now consumed =
     let more = read.0 in (
       more,
       grown ∙ ap (λ kept. before.calls.items ++ kept) read.2.redacted,
       goes_on_ok (stream_of before) (stream_of before) (stream_of after) piece [] more more (length piece) left left now (stays (stream_of before) left) consumed read.1 none refl total refl,
       done ∙ read.2.made,
+      subst (λ (more : List Reply). CountsMore more before.denials after.denials) read.2.replies counted,
     )
 
 -- no more calls are kept
@@ -45,14 +49,14 @@ none-kept : (core : Option State) (before after : Redacting) → after.calls ≡
 none-kept core before after same = rw (same, by-none core) (sym (append-nil before.calls.items))
 
 pub taken_err : (core made : Option State) (before after : Redacting) (piece : List ℕ) (fault : TraceFault) → Fails fault (fed before.reader piece) → (fault ≡ Memory → ⊥) → after.reader.fault ≡ Some fault
-    → after.total ≡ before.total + length piece → after.calls ≡ before.calls → made ≡ core → HasTaken core made before after piece
-taken_err core made before after piece fault told other some total same idle left now consumed =
-    ([], none-kept core before after same, goes_on_err (stream_of before) (stream_of before) (stream_of after) piece [] fault (length piece) left left now (stays (stream_of before) left) consumed told other some refl total, idle ∙ sym (after-none core))
+    → after.total ≡ before.total + length piece → after.calls ≡ before.calls → after.denials ≡ before.denials → made ≡ core → HasTaken core made before after piece
+taken_err core made before after piece fault told other some total same uncounted idle left now consumed =
+    ([], none-kept core before after same, goes_on_err (stream_of before) (stream_of before) (stream_of after) piece [] fault (length piece) left left now (stays (stream_of before) left) consumed told other some refl total, idle ∙ sym (after-none core), rw uncounted (counts-none core before.denials))
 
 -- ---- going on
 
 pub went_nowhere : (core : Option State) (r : Redacting) (left : Option (List ℕ)) → HasGoneOn core core r r left left
-went_nowhere core r left = ([], none-kept core r r refl, stays (stream_of r) left, sym (after-none core))
+went_nowhere core r left = ([], none-kept core r r refl, stays (stream_of r) left, sym (after-none core), counts-none core r.denials)
 
 pub went_on : (core made last : Option State) (before mid after : Redacting) (left here now : Option (List ℕ)) → HasGoneOn core made before mid left here → HasGoneOn made last mid after here now → HasGoneOn core last before after left now
 went_on core made last before mid after left here now one two =
@@ -66,12 +70,13 @@ went_on core made last before mid after left here now one two =
           let second_part = two.2 (bytes ++ first_part.0) (calls ++ one.0) first first_part.1 in
           (first_part.0 ++ second_part.0, rw (← append_assoc bytes first_part.0 second_part.0, ← append_assoc calls one.0 two.0) second_part.1),
       two.3 ∙ ap (λ c. core_after c two.0) one.3 ∙ sym (after-append core one.0 two.0),
+      counts-append core made one.0 two.0 before.denials mid.denials after.denials one.3 one.4 two.4,
     )
 
 -- the last read moved no bytes
 pub went_to_end : (core made : Option State) (before after : Redacting) (piece : List ℕ) (left mid now : Option (List ℕ)) → HasGoneOn core made before after left mid → Consumes mid now piece → length piece ≡ 0 → HasGoneOn core made before after left now
 went_to_end core made before after piece left mid now on consumed none =
-    (on.0, on.1, goes_on_nothing (stream_of before) (stream_of after) piece on.0 left mid now on.2 consumed none, on.3)
+    (on.0, on.1, goes_on_nothing (stream_of before) (stream_of after) piece on.0 left mid now on.2 consumed none, on.3, on.4)
 
 pub went_too_far : (core made : Option State) (before mid : Redacting) (piece : List ℕ) (n : ℕ) (failed : Bool) (left here now : Option (List ℕ)) → HasGoneOn core made before mid left here → Consumes here now piece → length piece ≡ n → byte_limit < mid.total + n
     → (bytes : List ℕ) (calls : List Call) (first : Option (List ℕ)) → HasRead (stream_of before) bytes calls first left → ReadFailed failed first now
@@ -121,26 +126,27 @@ begun_read core made source here start mid piece fresh consumed taken =
     (read.0, on.0, read.1)
 
 -- the trace that a source held, with the header that was read first
-head_and_calls : (core : Option State) (source here : Option (List ℕ)) (head : List ℕ) (begun : ℕ) (calls kept : List Call) → Consumes source here (take begun head) → begun ≤ 14 → (begun < 14 → IsAtEnd here) → length head ≡ 14
-    → IfSome source (λ text. IsTrace text calls) → kept ≡ redacted_by core calls → IfSome source (λ text. IsHeadAndCalls core text head kept)
-head_and_calls core None here head begun calls kept consumed within short size read same = tt
-head_and_calls core (Some text) None head begun calls kept consumed within short size read same = absurd consumed
-head_and_calls core (Some text) (Some rest) head begun calls kept consumed within short size read same = record {
+head_and_calls : (core : Option State) (source here : Option (List ℕ)) (head : List ℕ) (begun : ℕ) (calls kept : List Call) (denials : Denials) → Consumes source here (take begun head) → begun ≤ 14 → (begun < 14 → IsAtEnd here) → length head ≡ 14
+    → IfSome source (λ text. IsTrace text calls) → kept ≡ redacted_by core calls → Counts (replies_by core calls) denials → IfSome source (λ text. IsHeadAndCalls core text head kept denials)
+head_and_calls core None here head begun calls kept denials consumed within short size read same counted = tt
+head_and_calls core (Some text) None head begun calls kept denials consumed within short size read same counted = absurd consumed
+head_and_calls core (Some text) (Some rest) head begun calls kept denials consumed within short size read same counted = record {
   calls = calls;
   read = read;
   header = head_is text head rest begun calls consumed within short size read;
   redacted = same;
+  counted = counted (let few = read.few in let each = replies-few core calls in omega (arith, few, each));
 }
 
-pub whole_read : (core made last : Option State) (source here now : Option (List ℕ)) (head : List ℕ) (begun : ℕ) (start mid end : Redacting) → ((first : Option (List ℕ)) → HasRead (stream_of start) [] [] first first) → start.calls.items ≡ []
+pub whole_read : (core made last : Option State) (source here now : Option (List ℕ)) (head : List ℕ) (begun : ℕ) (start mid end : Redacting) → ((first : Option (List ℕ)) → HasRead (stream_of start) [] [] first first) → start.calls.items ≡ [] → AreCounts [] start.denials
     → Consumes source here (take begun head) → begun ≤ 14 → (begun < 14 → IsAtEnd here) → length head ≡ 14 → HasTaken core made start mid (take begun head) → HasGoneOn made last mid end here now → IsAtEnd now
     → ((bytes : List ℕ) (calls : List Call) (first last : Option (List ℕ)) → HasRead (stream_of end) bytes calls first last → IsAtEnd last → IfSome first (λ text. IsTrace text calls))
-    → IfSome source (λ text. IsHeadAndCalls core text head end.calls.items)
-whole_read core made last source here now head begun start mid end fresh none consumed within short size taken on ended judge =
+    → IfSome source (λ text. IsHeadAndCalls core text head end.calls.items end.denials)
+whole_read core made last source here now head begun start mid end fresh none uncounted consumed within short size taken on ended judge =
     let all = went_on core made last start mid end source here now (taken source here consumed) on in
     let more = all.2 [] [] source (fresh source) in
     let kept : end.calls.items ≡ redacted_by core all.0 = all.1 ∙ ap (λ front. front ++ redacted_by core all.0) none in
-    head_and_calls core source here head begun all.0 end.calls.items consumed within short size (judge _ all.0 source now more.1 ended) kept
+    head_and_calls core source here head begun all.0 end.calls.items end.denials consumed within short size (judge _ all.0 source now more.1 ended) kept (all.4 [] (λ room. uncounted))
 
 -- a read fails only if the source does
 pub read_is : (fault : ReadFault) → read_fault fault ≡ texts.Read → fault ≡ reads.Read

@@ -41,7 +41,7 @@ calls-whole (Ok x) progress calls e =
     let same : (x.0, redacted x.1) ≡ (progress, calls) = cc in
     let so_far : x.0 ≡ progress = ap (λ (p : Progress × List Call). p.0) same in
     let given : redacted x.1 ≡ calls = ap (λ (p : Progress × List Call). p.1) same in
-    (x.1, ap (λ (p : Progress). Ok (p, x.1)) so_far, record { redacted = ap redacted (sym given) ∙ redacted-twice x.1; made = refl })
+    (x.1, ap (λ (p : Progress). Ok (p, x.1)) so_far, record { redacted = ap redacted (sym given) ∙ redacted-twice x.1; made = refl; replies = refl })
 calls-whole (Err fault) progress calls e = absurd cc
 
 pub read-redacted : (progress : Progress) (read : Result (Progress × List Call) TraceFault) (result : Result (Vec Call) TraceFault) → Gives (λ calls. (progress, calls.items)) result (redacted_read read)
@@ -51,5 +51,5 @@ read-redacted progress read (Err fault) h = fails-whole read fault h
 
 pub read-whole : (core : Option State) (progress : Progress) (read : Result (Progress × List Call) TraceFault) (result : Result (Vec Call) TraceFault) → Gives (λ calls. (progress, calls.items)) result read
     → MatchResult result (λ calls. AreRead core read progress calls.items) (λ fault. Fails fault read)
-read-whole core progress read (Ok calls) h = (calls.items, h, record { redacted = refl; made = refl })
+read-whole core progress read (Ok calls) h = (calls.items, h, record { redacted = refl; made = refl; replies = refl })
 read-whole core progress read (Err fault) h = h

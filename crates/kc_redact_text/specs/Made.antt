@@ -1,10 +1,13 @@
 -- Calls that are redacted as they come, and made on a core, if there is one.
-use Rattle.std.specs.Prelude.{Bool, false, List, Option, Some, None}
+use Rattle.std.specs.Prelude.{Bool, false, List, [], ◌∷◌, ◌++◌, Option, Some, None}
 use Rattle.kc_types.specs.declared.call.Call.{Call}
 use Rattle.kc_types.specs.declared.call.Call.TheVariants.{HostWrite}
 use Rattle.kc_model.specs.State.{State, frame_at}
-use Rattle.kc_model.specs.Next.{next, state_after}
+use Rattle.kc_types.specs.declared.reply.Reply.{Reply}
+use Rattle.kc_model.specs.Next.{next, replies_from, state_after}
 use Rattle.kc_model.specs.Blanking.{is_guests}
+use Rattle.kc_remarks.specs.declared.denials.Denials.{Denials}
+use Rattle.kc_remarks.specs.Denials.{Counts}
 use Rattle.kc_redact.specs.Redacted.{redacted_call, redacted, redacted_in, redacted_from, all_frames}
 
 -- whether the host writes by the call to a frame of an active VM
@@ -31,3 +34,16 @@ redacted_by (Some m) calls = redacted_from m calls
 abbrev pub core_after : Option State → List Call → Option State
 core_after None calls = None
 core_after (Some m) calls = Some (state_after m calls)
+
+-- the replies of the core, if there is one
+abbrev pub reply_next : Option State → Call → List Reply
+reply_next None call = []
+reply_next (Some m) call = (next m call).0 ∷ []
+
+abbrev pub replies_by : Option State → List Call → List Reply
+replies_by None calls = []
+replies_by (Some m) calls = replies_from m calls
+
+-- counts of any replies become those of these after them
+abbrev pub CountsMore : List Reply → Denials → Denials → Type 0
+CountsMore more old new = (replies : List Reply) → Counts replies old → Counts (replies ++ more) new

@@ -10,13 +10,16 @@ use Rattle.kc_trace.specs.declared.fault.TraceFault.TheVariants as traces
 use Rattle.kc_texts.specs.Streamed.{Streamed, GoesOn}
 use Rattle.kc_faults.specs.declared.fault.TextFault.{TextFault}
 use Rattle.kc_faults.specs.declared.fault.TextFault.TheVariants as texts
-use Rattle.kc_redact_text.specs.Made.{redacted_by, core_after}
+use Rattle.kc_remarks.specs.declared.denials.Denials.{Denials}
+use Rattle.kc_remarks.specs.Denials.{AreCounts}
+use Rattle.kc_redact_text.specs.Made.{redacted_by, core_after, replies_by, CountsMore}
 use Rattle.kc_redact_text.specs.declared.reading.Redacting.{Redacting}
 
--- calls that are redacted as others are, and after which the core, if there is one, is as it is after those
+-- calls that are redacted as others are, and that the core, if there is one, answers as those, and after which it is as it is after those
 pub record AreAsGood (core : Option State) (calls others : List Call) : Type 0 where
   pub redacted : redacted_by core calls ≡ redacted_by core others
   pub made : core_after core calls ≡ core_after core others
+  pub replies : replies_by core calls ≡ replies_by core others
 
 -- the calls are as good as those that the reader is to return, and this is how far it has read
 abbrev pub AreRead : Option State → Result (Progress × List Call) TraceFault → Progress → List Call → Type 0
@@ -27,22 +30,24 @@ abbrev pub stream_of : Redacting → Streamed
 stream_of r = record { reader = r.reader; total = r.total }
 
 -- whatever was read before, some calls came after it, and are kept redacted; they were made on the core, if there is
--- one
+-- one, and its replies were counted
 abbrev pub HasGoneOn : Option State → Option State → Redacting → Redacting → Option (List ℕ) → Option (List ℕ) → Type 0
 HasGoneOn core made before after left now =
     (more : List Call) × (after.calls.items ≡ before.calls.items ++ redacted_by core more) × GoesOn (stream_of before) (stream_of after) left now more × (made ≡ core_after core more)
+    × CountsMore (replies_by core more) before.denials after.denials
 
 -- the same for these bytes of any source
 abbrev pub HasTaken : Option State → Option State → Redacting → Redacting → List ℕ → Type 0
 HasTaken core made before after piece = (left now : Option (List ℕ)) → Consumes left now piece → HasGoneOn core made before after left now
 
 -- the text is a trace that begins with this header, and these are its calls, redacted as they were made on this core,
--- if there is one
-pub record IsHeadAndCalls (core : Option State) (text head : List ℕ) (kept : List Call) : Type 0 where
+-- if there is one, whose replies have these counts
+pub record IsHeadAndCalls (core : Option State) (text head : List ℕ) (kept : List Call) (denials : Denials) : Type 0 where
   pub calls : List Call
   pub read : IsTrace text calls
   pub header : take 14 text ≡ head
   pub redacted : kept ≡ redacted_by core calls
+  pub counted : AreCounts (replies_by core calls) denials
 
 -- the trace is refused, and running out of memory is never reported as that; or memory ran out, or the source failed
 abbrev pub IsReadingFault : TextFault → Type 0

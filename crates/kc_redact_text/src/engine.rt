@@ -70,6 +70,6 @@ pub fn redact_text<T: Source, K: Sink>(
     ensures others { IfErr result IsRedactFault }
 {
     let mut core = None;
-    let (head, calls) = read_redacted(alloc, &mut core, trace)?;
+    let (head, calls, _) = read_redacted(alloc, &mut core, trace)?;
     give_redacted(alloc, &head, calls, out)
 }

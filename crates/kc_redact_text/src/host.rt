@@ -8,6 +8,7 @@ ghost use Rattle.kc_trace.specs.Trace.{IsRefused};
 ghost use Rattle.kc_texts.specs.Ends.{ReadFailed, seen};
 ghost use Rattle.kc_faults.specs.Origins.{BeginsIn};
 ghost use Rattle.kc_texts.specs.Written.{Writes, Begins};
+ghost use Rattle.kc_cli.specs.Answers.{AreAnswered};
 ghost use Rattle.kc_faults.specs.Outcomes.{TellsSources, TellsTexts, TellsSink};
 ghost use Rattle.kc_redact_text.specs.Reading.{IsHeadAndCalls, IsReadingFault};
 ghost use Rattle.kc_redact_text.specs.Redacts.{IsHostRedacted, IsHostRedactFault, IsHostReadingFault};
@@ -18,21 +19,22 @@ use crate::reading::{HEADER, read_redacted};
 use kc_cli::{Lanes, read_start};
 use kc_core::KCore;
 use kc_faults::{Origin, TextFault};
+use kc_remarks::{Answered, Denials};
 use kc_texts::{Sink, Source};
 use std::alloc::Global;
 use std::thread::Threads;
 
-/// Reads a trace and makes its calls on a core as they are read; returns its header and its calls, redacted. The core
-/// is wiped before it is dropped, whatever the outcome.
+/// Reads a trace and makes its calls on a core as they are read; returns its header, its calls, redacted, and the
+/// counts of their replies. The core is wiped before it is dropped, whatever the outcome.
 fn read_made<T: Source>(
     rt: &(impl Threads + Sync),
     alloc: Global,
     core: KCore,
     trace: &mut T,
-) -> Result<([u8; HEADER], Vec<RedactedCall>), TextFault>
+) -> Result<([u8; HEADER], Vec<RedactedCall>, Denials), TextFault>
     requires { T.failed trace.old ≡ false }
     ensures ok { IfOk result
-        (λ read. IfSome (T.left trace.old) (λ text. IsHeadAndCalls (Some core) text read.0 read.1.items)) }
+        (λ read. IfSome (T.left trace.old) (λ text. IsHeadAndCalls (Some core) text read.0 read.1.items read.2)) }
     ensures ended { OnOk result (IsAtEnd (T.left trace.new)) }
     ensures trace { (fault : TraceFault) → result ≡ Err (TextFault.Trace fault)
         → IfSome (T.left trace.old) (λ text. IsRefused text fault) × IsAtEnd (T.left trace.new) }
@@ -48,8 +50,8 @@ fn read_made<T: Source>(
     read
 }
 
-/// Reads the text of the start to its end, and then a trace as its calls are made; returns the trace's header and its
-/// calls, redacted.
+/// Reads the text of the start to its end, and then a trace as its calls are made; returns the trace's header, its
+/// calls, redacted, and the counts of their replies.
 fn read_both<C: Source, T: Source>(
     rt: &(impl Threads + Sync),
     alloc: Global,
@@ -57,12 +59,12 @@ fn read_both<C: Source, T: Source>(
     trace: &mut T,
     origin: Origin,
     lanes: Lanes,
-) -> Result<([u8; HEADER], Vec<RedactedCall>), TextFault>
+) -> Result<([u8; HEADER], Vec<RedactedCall>, Denials), TextFault>
     requires start { C.failed start.old ≡ false }
     requires trace { T.failed trace.old ≡ false }
     ensures ok { IfOk result
         (λ read. (m : State) × IsLawful m × IfSome (C.left start.old) (λ text. BeginsIn origin text m)
-        × IfSome (T.left trace.old) (λ text. IsHeadAndCalls (Some m) text read.0 read.1.items)) }
+        × IfSome (T.left trace.old) (λ text. IsHeadAndCalls (Some m) text read.0 read.1.items read.2)) }
     ensures sources { TellsSources
         (seen C.failed C.left start.old start.new ∷ seen T.failed T.left trace.old trace.new ∷ []) result }
     ensures texts { TellsTexts origin (seen C.failed C.left start.old start.new)
@@ -75,7 +77,8 @@ fn read_both<C: Source, T: Source>(
 
 /// Reads the text of the start and a trace, each to its end; makes the trace's calls on one thread as they are read;
 /// and writes the trace with zeros in place of the bytes that virtual processors write, and that the host writes to a
-/// frame of a VM that is active at that point: the same header and the same lines, each as long as it was.
+/// frame of a VM that is active at that point: the same header and the same lines, each as long as it was. The result
+/// counts the calls, and those that were refused or rejected.
 ///
 /// Nothing is written before the whole trace has been read and answered. A source that fails, or that has more than
 /// 1,073,741,824 bytes, is `Read`, even if its bytes so far are refused already. Running out of memory is reported
@@ -88,12 +91,14 @@ pub fn redact_host_text<C: Source, T: Source, K: Sink>(
     out: &mut K,
     origin: Origin,
     lanes: Lanes,
-) -> Result<(), TextFault>
+) -> Result<Answered, TextFault>
     requires start { C.failed start.old ≡ false }
     requires trace { T.failed trace.old ≡ false }
     requires out { K.failed out.old ≡ false }
 
-    // What is written is the redacted trace of the trace, from the state on that the start's text describes.
+    // What is written is the redacted trace of the trace, from the state on that the start's text describes, and the
+    // result counts the trace's replies.
+    ensures answered { IfOk result (AreAnswered origin (C.left start.old) (T.left trace.old)) }
     ensures ok { OnOk result
         (Writes (IsHostRedacted origin) (C.left start.old) (T.left trace.old) (K.taken out.old) (K.taken out.new)) }
     ensures sources { TellsSources
@@ -106,6 +111,11 @@ pub fn redact_host_text<C: Source, T: Source, K: Sink>(
     // There are no other faults.
     ensures others { IfErr result IsHostRedactFault }
 {
-    let (head, calls) = read_both(rt, alloc, start, trace, origin, lanes)?;
-    give_redacted(alloc, &head, calls, out)
+    let (head, calls, denials) = read_both(rt, alloc, start, trace, origin, lanes)?;
+    let answered = Answered {
+        calls: calls.len(),
+        denials,
+    };
+    give_redacted(alloc, &head, calls, out)?;
+    Ok(answered)
 }

@@ -3,10 +3,11 @@ ghost use Rattle.std.specs.Prelude.{◌≡◌, IfOk, OnOk};
 ghost use Rattle.kc_model.specs.State.{frame_at, slot_at};
 ghost use Rattle.kc_model.specs.Refusals.{is_active};
 ghost use Rattle.kc_model.specs.Blanking.{is_guests};
-ghost use Rattle.kc_redact_text.specs.Made.{is_hidden, redacted_next, core_next};
+ghost use Rattle.kc_redact_text.specs.Made.{is_hidden, redacted_next, core_next, reply_next, CountsMore};
 
 use crate::calls::RedactedCall;
 use kc_core::KCore;
+use kc_remarks::Denials;
 use kc_types::{Call, Memory, Owner, Phase};
 
 /// Whether the VM in a slot is active; false if the slot does not exist.
@@ -58,16 +59,23 @@ fn is_hidden(core: &KCore, call: &Call) -> bool
 }
 
 /// Redacts a call: what a virtual processor writes, and if there is a core, also what the host writes to a frame of a
-/// VM that is active before the call, which is then made on the core. `Memory` if memory runs out.
-pub(crate) fn redact_next(core: &mut Option<KCore>, call: Call) -> Result<RedactedCall, Memory>
+/// VM that is active before the call, which is then made on the core, whose reply is counted. `Memory` if memory runs
+/// out.
+pub(crate) fn redact_next(
+    core: &mut Option<KCore>,
+    call: Call,
+    denials: &mut Denials,
+) -> Result<RedactedCall, Memory>
     ensures call { IfOk result (λ kept. kept ≡ redacted_next core.old call) }
     ensures core { OnOk result (core.new ≡ core_next core.old call) }
+    ensures counted { OnOk result (CountsMore (reply_next core.old call) denials.old denials.new) }
 {
     let Some(core) = core else {
         return Ok(RedactedCall::new(call));
     };
     let is_hidden = is_hidden(core, &call);
-    core.call(&call)?;
+    let reply = core.call(&call)?;
+    denials.note(&reply);
     if is_hidden {
         Ok(RedactedCall::blanked(call))
     } else {

@@ -8,13 +8,15 @@ ghost use Rattle.kc_trace.specs.Trace.{IsRefused};
 ghost use Rattle.kc_trace.specs.declared.fault.TraceFault.{TraceFault};
 ghost use Rattle.kc_texts.specs.Ends.{ReadFailed};
 ghost use Rattle.kc_texts.specs.Streamed.{HasRead};
-ghost use Rattle.kc_redact_text.specs.Made.{redacted_by, core_after};
+ghost use Rattle.kc_redact_text.specs.Made.{redacted_by, core_after, replies_by, CountsMore};
+ghost use Rattle.kc_remarks.specs.Denials.{AreCounts};
 ghost use Rattle.kc_redact_text.specs.Reading.{AreRead, stream_of, HasTaken, HasGoneOn, IsHeadAndCalls, IsReadingFault};
 
 use crate::calls::RedactedCall;
 use crate::next::redact_next;
 use kc_core::KCore;
 use kc_faults::TextFault;
+use kc_remarks::Denials;
 use kc_texts::{Failed, PIECE, ReadFault, Source};
 use kc_trace::{TraceFault, TraceReader};
 use kc_types::{BYTE_LIMIT, Call, Memory, SecretBytes};
@@ -42,19 +44,21 @@ fn read_head<T: Source>(source: &mut T, head: &mut [u8; HEADER]) -> Result<usize
     Ok(used)
 }
 
-/// Appends some calls as a redacted trace has them, and makes them on the core, if there is one. The memory of the
-/// bytes that are left out is zeroed.
+/// Appends some calls as a redacted trace has them, and makes them on the core, if there is one, whose replies are
+/// counted. The memory of the bytes that are left out is zeroed.
 fn push_each(
     calls: &mut Vec<RedactedCall>,
     core: &mut Option<KCore>,
     more: Vec<Call>,
+    denials: &mut Denials,
 ) -> Result<(), Memory>
     ensures calls { OnOk result (calls.new.items ≡ calls.old.items ++ redacted_by core.old more.items) }
     ensures core { OnOk result (core.new ≡ core_after core.old more.items) }
+    ensures counted { OnOk result (CountsMore (replies_by core.old more.items) denials.old denials.new) }
 {
     calls.reserve(more.len())?;
     for call in more {
-        let redacted = redact_next(core, call)?;
+        let redacted = redact_next(core, call, denials)?;
         calls.push(redacted)?;
     }
     Ok(())
@@ -80,12 +84,13 @@ fn read_calls(
     }
 }
 
-/// What was read of a trace: how far, and the calls so far, redacted.
+/// What was read of a trace: how far, the calls so far, redacted, and the counts of the replies to them.
 #[derive(Drop)]
 struct Redacting {
     reader: TraceReader,
     total: usize,
     calls: Vec<RedactedCall>,
+    denials: Denials,
 }
 
 impl Redacting {
@@ -94,11 +99,13 @@ impl Redacting {
         ensures read { (first : Option (List ℕ)) → HasRead (stream_of result) [] [] first first }
         ensures calls { result.calls.items ≡ [] }
         ensures total { result.total ≡ 0 }
+        ensures counted { AreCounts [] result.denials }
     {
         Redacting {
             reader: TraceReader::new(),
             total: 0,
             calls: Vec::new(alloc),
+            denials: Denials::none(),
         }
     }
 
@@ -120,7 +127,7 @@ impl Redacting {
         }
         self.total += piece.len();
         match read_calls(&mut self.reader, alloc, core, piece) {
-            Ok(more) => match push_each(&mut self.calls, core, more) {
+            Ok(more) => match push_each(&mut self.calls, core, more, &mut self.denials) {
                 Ok(()) => Ok(()),
                 Err(_) => Err(ReadFault::Memory),
             },
@@ -164,16 +171,16 @@ impl Redacting {
     }
 }
 
-/// Reads the rest of a source as a trace; returns its header and its calls, redacted. If there is a core, the calls
-/// are made on it as they are read.
+/// Reads the rest of a source as a trace; returns its header, and its calls, redacted. If there is a core, the calls
+/// are made on it as they are read, and the counts of its replies are returned too.
 pub fn read_redacted<T: Source>(
     alloc: Global,
     core: &mut Option<KCore>,
     source: &mut T,
-) -> Result<([u8; HEADER], Vec<RedactedCall>), TextFault>
+) -> Result<([u8; HEADER], Vec<RedactedCall>, Denials), TextFault>
     requires { T.failed source.old ≡ false }
     ensures ok { IfOk result
-        (λ read. IfSome (T.left source.old) (λ text. IsHeadAndCalls core.old text read.0 read.1.items)) }
+        (λ read. IfSome (T.left source.old) (λ text. IsHeadAndCalls core.old text read.0 read.1.items read.2)) }
     ensures ended { OnOk result (IsAtEnd (T.left source.new)) }
     ensures trace { (fault : TraceFault) → result ≡ Err (TextFault.Trace fault)
         → IfSome (T.left source.old) (λ text. IsRefused text fault) × IsAtEnd (T.left source.new) }
@@ -193,9 +200,10 @@ pub fn read_redacted<T: Source>(
         reader,
         total: _,
         calls,
+        denials,
     } = redacting;
     match reader.finish() {
-        Ok(()) => Ok((head, calls)),
+        Ok(()) => Ok((head, calls, denials)),
         Err(fault) => Err(TextFault::Trace(fault)),
     }
 }

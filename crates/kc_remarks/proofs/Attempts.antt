@@ -51,7 +51,7 @@ one told = by_case (attempt_in told) refl
     by_case (Some attempt) is = rw is refl
 
 of-remark : (line : ℕ) (named : Option NamedFrame) (call : Call) (answer : Reply) → attempts_in (option_to_list (remark_told line named call answer)) ≡ option_to_list (attempt_told line named answer)
-of-remark line named call (reply.Refused reason) = one (note.Denied (record { line = line; call = kind_of call; reason = denial.Refused reason; slot = slot_of call; named = named }))
+of-remark line named call (reply.Refused reason) = one (note.Denied (record { line = line; call = kind_of call; reason = denial.Refused reason; slot = slot_of call; named = named; foreign = None }))
 of-remark line named call (reply.Rejected image) = refl
 of-remark line named call (reply.Data bytes) = of-read line named call
 of-remark line named call reply.Done = of-write line named call

@@ -1,5 +1,5 @@
 -- What is counted of replies, after one more.
-use Rattle.std.proofs.Common.{ℕ, suc, ◌≡◌, ◌≤◌, ◌<◌, ◌+◌, Bool, true, false, cond, List, [], ◌∷◌, ◌++◌, filter, length, get_or, refl, sym, ap, ◌∙◌, arith, inl, inr}
+use Rattle.std.proofs.Common.{ℕ, suc, ◌≡◌, ◌≤◌, ◌<◌, ◌+◌, Bool, true, false, not, cond, List, [], ◌∷◌, ◌++◌, filter, length, get_or, refl, sym, ap, ◌∙◌, arith, inl, inr}
 use Rattle.std.specs.Prelude.{◌==◌, ◌^◌, slice_set}
 use Rattle.std.proofs.lemmas.Bool.{cases_eq, eq-eqb, ne_eqb}
 use Rattle.std.proofs.lemmas.Grind.{get_or-set_at}
@@ -11,7 +11,8 @@ use Rattle.kc_types.specs.declared.refusal.Refusal.TheVariants.{BadVm, BadVcpu, 
 use Rattle.kc_types.specs.declared.reply.Reply.{Reply}
 use Rattle.kc_types.specs.declared.reply.Reply.TheVariants as reply
 use Rattle.kc_remarks.specs.declared.denials.Denials.{Denials}
-use Rattle.kc_remarks.specs.Denials.{is_denial, denies_for, is_outside, count_for, outside_in, Counts}
+use Rattle.kc_remarks.specs.declared.denials.Answered.{Answered}
+use Rattle.kc_remarks.specs.Denials.{is_denial, denies_for, is_outside, is_frame, is_no_free, is_to_take, is_to_naming, count_for, outside_in, takes_in, naming_in, AreCounts, Counts}
 
 -- there is a count for each reason
 pub number_low : (refusal : Refusal) → number_of refusal < 27
@@ -42,7 +43,7 @@ number_low NotShared = omega arith
 number_low Shared = omega arith
 number_low NoFree = omega arith
 
-abbrev one_if : Bool → ℕ
+abbrev pub one_if : Bool → ℕ
 one_if b = cond b 1 0
 
 -- the first of some elements passes a test, or does not
@@ -80,16 +81,46 @@ are_among reason (answer ∷ more) =
     let one = is_among reason answer in
     omega (arith, rest, here, all, one)
 
--- after a reply that denies no call
-pub after_other : (replies : List Reply) (answer : Reply) (denials : Denials) → is_denial answer ≡ false → Counts replies denials → Counts (replies ++ answer ∷ []) denials
-after_other replies answer denials other h =
+few : {X : Type 0} (p : X → Bool) (xs : List X) → length (filter p xs) ≤ length xs
+few p [] = omega arith
+few p (x ∷ more) =
+    let rest = few p more in
+    let here = first p x more in
+    let one = one_at_most (p x) in
+    omega (arith, rest, here, one)
+
+-- after a reply that denies no call and gives no frame
+pub after_other : (replies : List Reply) (answer : Reply) (denials : Denials) → is_denial answer ≡ false → is_frame answer ≡ false → Counts replies denials → Counts (replies ++ answer ∷ []) denials
+after_other replies answer denials other none counts room =
+    let long = length-append replies (answer ∷ []) in
+    let h = counts (omega (arith, room, long)) in
     let no : one_if (is_denial answer) ≡ 0 = ap one_if other in
+    let neither : one_if (is_frame answer) ≡ 0 = ap one_if none in
     record {
       total = let all = last is_denial replies answer in omega (arith, no, all, h.total);
       each = λ reason. let all = last (denies_for reason) replies answer in let one = is_among reason answer in let before = h.each reason in omega (arith, no, all, one, before);
+      frames = let all = last is_frame replies answer in omega (arith, neither, all, h.frames);
     }
 
-count_after : (replies : List Reply) (answer : Reply) (reason k : ℕ) (old new : Denials) → ((i : ℕ) → denies_for i answer ≡ (reason == i)) → reason < length old.reasons → new.reasons ≡ slice_set old.reasons reason (count_for reason old + 1) → Counts replies old
+-- after one that gives a frame
+pub after_frame : (replies : List Reply) (f : ℕ) (old new : Denials) → new.total ≡ old.total → new.reasons ≡ old.reasons → (old.frames + 1 < 2 ^ 32 → new.frames ≡ old.frames + 1) → Counts replies old → Counts (replies ++ reply.Frame f ∷ []) new
+after_frame replies f old new same alike counted counts room =
+    let answer = reply.Frame f in
+    let long = length-append replies (answer ∷ []) in
+    let h = counts (omega (arith, room, long)) in
+    let some = few is_frame replies in
+    let is = counted (omega (arith, room, long, some, h.frames)) in
+    record {
+      total = let all = last is_denial replies answer in omega (arith, all, h.total, same);
+      each = λ reason.
+          let all = last (denies_for reason) replies answer in
+          let before = h.each reason in
+          let read : count_for reason new ≡ count_for reason old = ap (λ (xs : List ℕ). get_or xs reason 0) alike in
+          omega (arith, all, before, read);
+      frames = let all = last is_frame replies answer in omega (arith, all, h.frames, is);
+    }
+
+count_after : (replies : List Reply) (answer : Reply) (reason k : ℕ) (old new : Denials) → ((i : ℕ) → denies_for i answer ≡ (reason == i)) → reason < length old.reasons → new.reasons ≡ slice_set old.reasons reason (count_for reason old + 1) → AreCounts replies old
     → count_for k new ≡ length (filter (denies_for k) (replies ++ answer ∷ []))
 count_after replies answer reason k old new denies inside is h =
     let grown = last (denies_for k) replies answer in
@@ -108,16 +139,22 @@ count_after replies answer reason k old new denies inside is h =
     ]
 
 -- after one that denies a call for this reason
-pub after_denial : (replies : List Reply) (answer : Reply) (reason : ℕ) (old new : Denials) → ((i : ℕ) → denies_for i answer ≡ (reason == i)) → is_denial answer ≡ true → reason < length old.reasons → old.total + 1 < 2 ^ 32
-    → new.total ≡ old.total + 1 → (count_for reason old + 1 < 2 ^ 32 → new.reasons ≡ slice_set old.reasons reason (count_for reason old + 1)) → Counts replies old → Counts (replies ++ answer ∷ []) new
-after_denial replies answer reason old new denies one inside room added counted h =
+pub after_denial : (replies : List Reply) (answer : Reply) (reason : ℕ) (old new : Denials) → ((i : ℕ) → denies_for i answer ≡ (reason == i)) → is_denial answer ≡ true → is_frame answer ≡ false → reason < length old.reasons
+    → (old.total + 1 < 2 ^ 32 → new.total ≡ old.total + 1) → (count_for reason old + 1 < 2 ^ 32 → new.reasons ≡ slice_set old.reasons reason (count_for reason old + 1)) → new.frames ≡ old.frames → Counts replies old → Counts (replies ++ answer ∷ []) new
+after_denial replies answer reason old new denies one none inside added counted same counts room =
+    let long = length-append replies (answer ∷ []) in
+    let h = counts (omega (arith, room, long)) in
     let here = h.each reason in
     let among = are_among reason replies in
-    let is = counted (omega (arith, here, among, h.total, room)) in
+    let some = few is_denial replies in
+    let more = added (omega (arith, room, long, some, h.total)) in
+    let is = counted (omega (arith, here, among, some, room, long)) in
     let yes : one_if (is_denial answer) ≡ 1 = ap one_if one in
+    let neither : one_if (is_frame answer) ≡ 0 = ap one_if none in
     record {
-      total = let all = last is_denial replies answer in omega (arith, yes, all, h.total, added);
+      total = let all = last is_denial replies answer in omega (arith, yes, all, h.total, more);
       each = λ k. count_after replies answer reason k old new denies inside is h;
+      frames = let all = last is_frame replies answer in omega (arith, neither, all, h.frames, same);
     }
 
 of_refusal : (refusal : Refusal) → one_if (number_of refusal == number_of BadFrame) + one_if (number_of refusal == number_of BadVm) ≡ one_if (is_outside (reply.Refused refusal))
@@ -141,9 +178,63 @@ of_replies (answer ∷ more) =
     omega (arith, rest, frames, slots, outside, one)
 
 -- the replies that refuse a call for what the machine does not have
-pub outside_is : (replies : List Reply) (denials : Denials) → Counts replies denials → outside_in denials ≡ length (filter is_outside replies)
+pub outside_is : (replies : List Reply) (denials : Denials) → AreCounts replies denials → outside_in denials ≡ length (filter is_outside replies)
 outside_is replies denials h =
     let frames = h.each (number_of BadFrame) in
     let slots = h.each (number_of BadVm) in
     let all = of_replies replies in
     omega (arith, frames, slots, all)
+
+-- ---- calls that name nothing
+
+for_none : (refusal : Refusal) → one_if (number_of refusal == number_of NoFree) ≡ one_if (is_no_free refusal)
+for_none NoFree = refl
+for_none _ = refl
+
+take_reply : (answer : Reply) → one_if (is_frame answer) + one_if (denies_for (number_of NoFree) answer) ≡ one_if (is_to_take answer)
+take_reply (reply.Refused refusal) =
+    let one = for_none refusal in
+    let none : one_if (is_frame (reply.Refused refusal)) ≡ 0 = refl in
+    let here : one_if (denies_for (number_of NoFree) (reply.Refused refusal)) ≡ one_if (is_to_take (reply.Refused refusal)) = one in
+    omega (arith, none, here)
+take_reply (reply.Frame f) = refl
+take_reply (reply.Rejected image) = refl
+take_reply _ = refl
+
+take_replies : (replies : List Reply) → length (filter is_frame replies) + length (filter (denies_for (number_of NoFree)) replies) ≡ length (filter is_to_take replies)
+take_replies [] = refl
+take_replies (answer ∷ more) =
+    let rest = take_replies more in
+    let frames = first is_frame answer more in
+    let none = first (denies_for (number_of NoFree)) answer more in
+    let all = first is_to_take answer more in
+    let one = take_reply answer in
+    omega (arith, rest, frames, none, all, one)
+
+-- the replies to `take`
+pub takes_are : (replies : List Reply) (denials : Denials) → AreCounts replies denials → takes_in denials ≡ length (filter is_to_take replies)
+takes_are replies denials h =
+    let frames = h.frames in
+    let none = h.each (number_of NoFree) in
+    let all = take_replies replies in
+    omega (arith, frames, none, all)
+
+either : (b : Bool) → one_if b + one_if (not b) ≡ 1
+either true = refl
+either false = refl
+
+all_replies : (replies : List Reply) → length (filter is_to_take replies) + length (filter is_to_naming replies) ≡ length replies
+all_replies [] = refl
+all_replies (answer ∷ more) =
+    let rest = all_replies more in
+    let takes = first is_to_take answer more in
+    let naming = first is_to_naming answer more in
+    let one = either (is_to_take answer) in
+    omega (arith, rest, takes, naming, one)
+
+-- the replies to calls that name a frame or a slot
+pub naming_is : (replies : List Reply) (answered : Answered) → answered.calls ≡ length replies → AreCounts replies answered.denials → naming_in answered ≡ length (filter is_to_naming replies)
+naming_is replies answered count h =
+    let takes = takes_are replies answered.denials h in
+    let all = all_replies replies in
+    omega (arith, count, takes, all)

@@ -39,7 +39,7 @@ of-write line named (HostWrite f off bytes) = of-access line _ off _ named
 of-write line named _ = refl
 
 -- a remark is not an event
-of-remark : (line : ℕ) (named : Option NamedFrame) (call : Call) (answer : Reply) → events_in (option_to_list (remark_told line named call answer)) ≡ []
+pub of-remark : (line : ℕ) (named : Option NamedFrame) (call : Call) (answer : Reply) → events_in (option_to_list (remark_told line named call answer)) ≡ []
 of-remark line named call (reply.Refused reason) = refl
 of-remark line named call (reply.Rejected image) = refl
 of-remark line named call (reply.Data bytes) = of-read line named call

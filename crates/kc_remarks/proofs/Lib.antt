@@ -5,3 +5,4 @@ pub mod Counts
 pub mod Attempts
 pub mod Ordered
 pub mod Unread
+pub mod Naming

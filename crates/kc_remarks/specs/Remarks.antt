@@ -88,7 +88,7 @@ write_told line named (HostWrite f off bytes) = access_to line kind.HostWrite of
 write_told line named _ = None
 
 abbrev pub denied : ℕ → Option NamedFrame → Call → Denial → Option Note
-denied line named call reason = Some (note.Denied (record { line = line; call = kind_of call; reason = reason; slot = slot_of call; named = named }))
+denied line named call reason = Some (note.Denied (record { line = line; call = kind_of call; reason = reason; slot = slot_of call; named = named; foreign = None }))
 
 -- the remark on a call on this line, by the frame that it names and its reply
 abbrev pub remark_told : ℕ → Option NamedFrame → Call → Reply → Option Note

@@ -6,7 +6,7 @@ ghost use Rattle.kc_model.specs.Next.{replies_from};
 ghost use Rattle.kc_model.specs.Lawful.{IsLawful};
 ghost use Rattle.kc_remarks.specs.Unread.{NotesShowNoBytes, NotesAreRedacted};
 ghost use Rattle.kc_remarks.specs.Remarks.{notes};
-ghost use Rattle.kc_remarks.specs.Denials.{is_denied, is_denial};
+ghost use Rattle.kc_remarks.specs.Denials.{is_denied, is_denial, is_to_naming, is_naming};
 
 /// As many calls are noted as denied as replies refuse or reject one.
 pub fn denied()
@@ -18,4 +18,10 @@ pub fn denied()
 pub fn unread()
     ensures bytes { (m : State) (calls : List Call) → IsLawful m → NotesShowNoBytes m calls }
     ensures redacted { (m : State) (calls : List Call) → IsLawful m → NotesAreRedacted m calls }
+{}
+
+/// As many replies are to calls that name a frame or a slot as calls do: `take` alone, which names neither, gets a frame,
+/// or is refused since none is free.
+pub fn naming()
+    ensures { (m : State) (calls : List Call) → length (filter is_to_naming (replies_from m calls)) ≡ length (filter is_naming calls) }
 {}

@@ -50,10 +50,14 @@ pub struct Denied {
     pub line: u32,
     pub call: CallKind,
     pub reason: Denial,
-    /// The number of the slot that it names, if it names one, whether the machine has that slot or not.
+    /// The number of the slot that it names, if it names one, whether the machine has that slot or not; in a report of
+    /// one VM only that VM's.
     pub slot: Option<u32>,
-    /// The frame that it names, or that is mapped at the guest frame that it names, of a range at the first.
+    /// The frame that it names, or that is mapped at the guest frame that it names, of a range at the first; in a report
+    /// of one VM not that of another VM.
     pub named: Option<NamedFrame>,
+    /// In a report of one VM, the number of that frame if it is another VM's.
+    pub foreign: Option<u32>,
 }
 
 /// A read or write of the host that a VM's frame served, from `offset` on, `len` bytes.

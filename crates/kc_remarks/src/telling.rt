@@ -123,6 +123,7 @@ pub fn remark_told(line: u32, named: Option<NamedFrame>, call: &Call, reply: &Re
         reason,
         slot: slot_of(call),
         named,
+        foreign: None,
     }))
 }
 

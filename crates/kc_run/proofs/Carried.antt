@@ -184,22 +184,22 @@ redacts_trace ends (Err f) opened written sources sink trace fault = record {
   fault = fault;
 }
 
-pub redacts_host : {A : Type 0} (origin : Origin) (start : Seen) (ends : Ends) (r : Result A TextFault) → ends.refused ≡ None
-    → OnOk r (Writes (IsHostRedacted origin) start.had ends.input.had ends.out.had ends.out.has) → TellsSources (start ∷ ends.input ∷ []) r → TellsTexts origin start ends.input ends.unread r
-    → TellsSink ends.out.failed (Begins (IsHostRedacted origin) start.had ends.input.had ends.out.had ends.out.has) ends.untouched r → IfErr r IsHostRedactFault → RedactsHost origin start ends (done_as r)
-redacts_host origin start ends (Ok x) opened written sources told sink fault = record {
+pub redacts_host : (origin : Origin) (start : Seen) (ends : Ends) (r : Result Answered TextFault) → ends.refused ≡ None
+    → IfOk r (AreAnswered origin start.had ends.input.had) → OnOk r (Writes (IsHostRedacted origin) start.had ends.input.had ends.out.had ends.out.has) → TellsSources (start ∷ ends.input ∷ []) r → TellsTexts origin start ends.input ends.unread r
+    → TellsSink ends.out.failed (Begins (IsHostRedacted origin) start.had ends.input.had ends.out.had ends.out.has) ends.untouched r → IfErr r IsHostRedactFault → RedactsHost origin start ends (answered_as r)
+redacts_host origin start ends (Ok answered) opened counted written sources told sink fault = record {
   opened = opened;
   written = written;
-  done = refl;
-  sources = sources_after _ x (Ok endings.Done) sources tt;
-  told = texts_after _ _ _ _ x (Ok endings.Done) told tt;
-  sink = sink_ok _ _ _ x endings.Done sink;
+  answered = (answered, refl, counted);
+  sources = sources_after _ answered (Ok (endings.Answered answered)) sources tt;
+  told = texts_after _ _ _ _ answered (Ok (endings.Answered answered)) told tt;
+  sink = sink_ok _ _ _ answered (endings.Answered answered) sink;
   fault = tt;
 }
-redacts_host origin start ends (Err f) opened written sources told sink fault = record {
+redacts_host origin start ends (Err f) opened counted written sources told sink fault = record {
   opened = opened;
   written = tt;
-  done = tt;
+  answered = tt;
   sources = sources_err _ f sources;
   told = texts_err _ _ _ _ f told;
   sink = sink_err _ _ _ f sink;

@@ -1,8 +1,9 @@
 -- How the program ends: its exit status, and what it reports on the error sink.
-use Rattle.std.specs.Prelude.{◌≡◌, ◌++◌, ℕ, Bool, true, false, List, codes, Option, Some, None, Result, Ok, Err}
+use Rattle.std.specs.Prelude.{◌≡◌, ◌++◌, ℕ, Bool, true, false, List, [], codes, if◌then◌else◌, Option, Some, None, Result, Ok, Err}
+use Rattle.std.specs.Fmt.{decimal}
 use Rattle.std.specs.Io.KnownBytes.{Appends}
 use Rattle.kc_remarks.specs.declared.denials.Answered.{Answered}
-use Rattle.kc_remarks.specs.Denials.{is_mostly_outside}
+use Rattle.kc_remarks.specs.Denials.{outside_in, naming_in, is_mostly_denied, is_doubted}
 use Rattle.kc_texts.specs.Written.{AppendsBeginning}
 use Rattle.kc_faults.specs.declared.fault.TextFault.{TextFault}
 use Rattle.kc_faults.specs.declared.fault.TextFault.TheVariants as texts
@@ -87,25 +88,36 @@ pub record Takes (sink : Took) (text : List ℕ) : Type 0 where
   pub whole : sink.failed ≡ false → Appends sink.had sink.has text
   pub begun : sink.failed ≡ true → AppendsBeginning sink.had sink.has text
 
--- what is reported if more than half of the calls name a frame or a slot that the machine does not have
-abbrev pub outside_line : List ℕ
-outside_line = codes "kcore: warning: more than half of the calls name frames or slots that the machine does not have\n"
+-- what is reported of a trace that is probably of another machine, if more than half of its calls were refused or
+-- rejected, and if they were not
+abbrev pub denied_line : Answered → List ℕ
+denied_line answered = codes "kcore: warning: " ++ decimal answered.denials.total ++ codes " of " ++ decimal answered.calls ++ codes " calls were refused: is this the trace's machine?\n"
 
--- what is reported of another state, after that line if they do
-abbrev pub another_text : Bool → List ℕ
-another_text true = outside_line ++ codes "kcore: another state\n"
-another_text false = codes "kcore: another state\n"
+abbrev pub outside_line : Answered → List ℕ
+outside_line answered = codes "kcore: warning: " ++ decimal (outside_in answered.denials) ++ codes " of " ++ decimal (naming_in answered)
+    ++ codes " calls that name a frame or a slot name one that the machine lacks: is this the trace's machine?\n"
 
--- the error sink takes that line if they do, and nothing otherwise
-abbrev pub IsWarned : Bool → Took → Type 0 → Type 0
-IsWarned true err untouched = Takes err outside_line
-IsWarned false err untouched = untouched
+abbrev pub warning_line : Answered → List ℕ
+warning_line answered = if is_mostly_denied answered then denied_line answered else outside_line answered
+
+-- that line, if the trace is one, or nothing
+abbrev pub warning_text : Answered → List ℕ
+warning_text answered = if is_doubted answered then warning_line answered else []
+
+-- what is reported of another state, after the warning
+abbrev pub another_text : Answered → List ℕ
+another_text answered = warning_text answered ++ codes "kcore: another state\n"
+
+-- the error sink takes the warning if it is to be given, and nothing otherwise
+abbrev pub IsWarned : Bool → Answered → Took → Type 0 → Type 0
+IsWarned true answered err untouched = Takes err (warning_line answered)
+IsWarned false answered err untouched = untouched
 
 -- the error sink takes the line of a fault, of a volume that is refused, of another state or of this warning, and nothing else
 abbrev pub IsReported : Ended → Took → Type 0 → Type 0
 IsReported (Ok endings.Done) err untouched = untouched
-IsReported (Ok (endings.Answered answered)) err untouched = IsWarned (is_mostly_outside answered) err untouched
-IsReported (Ok (endings.Another answered line)) err untouched = Takes err (another_text (is_mostly_outside answered))
+IsReported (Ok (endings.Answered answered)) err untouched = IsWarned (is_doubted answered) answered err untouched
+IsReported (Ok (endings.Another answered line)) err untouched = Takes err (another_text answered)
 IsReported (Ok endings.Unsound) err untouched = untouched
 IsReported (Ok (endings.Refused volume fault)) err untouched = Takes err (volume_fault_line volume fault)
 IsReported (Err fault) err untouched = Takes err (fault_line fault)

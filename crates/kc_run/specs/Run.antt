@@ -119,7 +119,7 @@ pub record RedactsTrace (ends : Ends) (ended : Ended) : Type 0 where
 pub record RedactsHost (origin : Origin) (start : Seen) (ends : Ends) (ended : Ended) : Type 0 where
   pub opened : ends.refused ≡ None
   pub written : OnOk ended (Writes (IsHostRedacted origin) start.had ends.input.had ends.out.had ends.out.has)
-  pub done : IfOk ended (λ ending. ending ≡ endings.Done)
+  pub answered : IfOk ended (λ ending. (answered : Answered) × (ending ≡ endings.Answered answered) × AreAnswered origin start.had ends.input.had answered)
   pub sources : TellsSources (start ∷ ends.input ∷ []) ended
   pub told : TellsTexts origin start ends.input ends.unread ended
   pub sink : TellsSink ends.out.failed (Begins (IsHostRedacted origin) start.had ends.input.had ends.out.had ends.out.has) ends.untouched ended

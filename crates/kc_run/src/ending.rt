@@ -1,11 +1,14 @@
 //! How the program ends: its exit status, and what it reports on the error sink.
-ghost use Rattle.std.specs.Prelude.{◌≡◌, false, true, None, Ok};
+ghost use Rattle.std.specs.Prelude.{◌≡◌, ◌≤◌, false, true, None, Ok};
+ghost use Rattle.arrayvec.specs.ArrayString.{array_string_len};
 ghost use Rattle.std.specs.Io.KnownBytes.{Appends};
 ghost use Rattle.kc_texts.specs.Written.{AppendsBeginning};
-ghost use Rattle.kc_remarks.specs.Denials.{is_mostly_outside};
+ghost use Rattle.kc_remarks.specs.Denials.{is_doubted};
 ghost use Rattle.kc_args.specs.Clashes.{clash_text};
-ghost use Rattle.kc_run.specs.Endings.{Takes, took, status_after, fault_in, answered_in, difference_in, volume_in, another_text, IsWarned, IsReported};
+ghost use Rattle.kc_run.specs.Endings.{Takes, took, status_after, fault_in, answered_in, difference_in, volume_in, warning_line, another_text, IsWarned, IsReported};
 
+use arrayvec::ArrayString;
+use itoa::Buffer;
 use kc_args::Clash;
 use kc_cli::{Answered, Sink, TextFault, tell, write_whole};
 use kc_faults::tell_volume;
@@ -70,33 +73,57 @@ fn say<L: Sink>(text: &str, err: &mut L)
     let _ = write_whole(err, text.as_bytes());
 }
 
-/// Warns of a trace that may be of another machine.
+/// The line for a trace that is probably of another machine.
+fn warning_line(answered: &Answered) -> ArrayString<256>
+    ensures bytes { result.bytes ≡ warning_line answered.now }
+    ensures short { array_string_len result ≤ 200 }
+{
+    let (count, of, end) = if answered.is_mostly_denied() {
+        let denied = answered.denials.total as usize;
+        (
+            denied,
+            answered.calls,
+            " calls were refused: is this the trace's machine?\n",
+        )
+    } else {
+        let outside = answered.denials.outside();
+        (
+            outside,
+            answered.naming(),
+            " calls that name a frame or a slot name one that the machine lacks: is this the trace's machine?\n",
+        )
+    };
+    let mut line = ArrayString::new();
+    line.push_str("kcore: warning: ");
+    line.push_str(Buffer::new().format(count));
+    line.push_str(" of ");
+    line.push_str(Buffer::new().format(of));
+    line.push_str(end);
+    line
+}
+
+/// Warns of a trace that is probably of another machine.
 fn warn<L: Sink>(answered: &Answered, err: &mut L)
     requires { L.failed err.old ≡ false }
-    ensures { IsWarned (is_mostly_outside answered.now) (took L.failed L.taken err.old err.new) (err.new ≡ err.old) }
+    ensures { IsWarned (is_doubted answered.now) answered.now (took L.failed L.taken err.old err.new) (err.new ≡ err.old) }
 {
-    if answered.is_mostly_outside() {
-        say(
-            "kcore: warning: more than half of the calls name frames or slots that the machine does not have\n",
-            err,
-        );
+    if answered.is_doubted() {
+        say(warning_line(answered).as_str(), err);
     }
 }
 
-/// Reports another state, after a warning of a trace that may be of another machine.
+/// Reports another state, after a warning of a trace that is probably of another machine.
 fn say_another<L: Sink>(answered: &Answered, err: &mut L)
     requires { L.failed err.old ≡ false }
-    ensures { Takes (took L.failed L.taken err.old err.new) (another_text (is_mostly_outside answered.now)) }
+    ensures { Takes (took L.failed L.taken err.old err.new) (another_text answered.now) }
 {
-    let is_outside = answered.is_mostly_outside();
-    if is_outside {
-        say(
-            "kcore: warning: more than half of the calls name frames or slots that the machine does not have\nkcore: another state\n",
-            err,
-        );
+    let mut text = if answered.is_doubted() {
+        warning_line(answered)
     } else {
-        say("kcore: another state\n", err);
-    }
+        ArrayString::new()
+    };
+    text.push_str("kcore: another state\n");
+    say(text.as_str(), err);
 }
 
 /// Reports the ending of a job that meets no fault, but perhaps a volume that is refused.

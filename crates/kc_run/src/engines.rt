@@ -232,10 +232,10 @@ pub(crate) fn redact_host<F: Files, T: Source, K: Sink, R: Threads + Wait + Sync
     let origin = start.origin();
     let Some(path) = start.path() else {
         let mut text = DefaultText::new();
-        return done(redact_host_text(threads, alloc, &mut text, input, out, origin, lanes));
+        return counted(redact_host_text(threads, alloc, &mut text, input, out, origin, lanes));
     };
     let mut file = open(files, path)?;
     let answer = redact_host_text(threads, alloc, &mut file, input, out, origin, lanes);
     files.close(file);
-    done(answer)
+    counted(answer)
 }

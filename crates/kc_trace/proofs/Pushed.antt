@@ -9,9 +9,12 @@ use Rattle.std.proofs.lemmas.Grind.{flat_map-append}
 more : (first second last piece rest : List ℕ) → second ≡ first ++ piece → last ≡ second ++ rest → last ≡ first ++ (piece ++ rest)
 more first second last piece rest e h = h ∙ ap (λ xs. xs ++ rest) e ∙ append_assoc first piece rest
 
--- three, five, six, seven, eight and nine pieces, one after another
+-- three, four, five, six, seven, eight and nine pieces, one after another
 pub three : (t t1 t2 t3 a b c : List ℕ) → t1 ≡ t ++ a → t2 ≡ t1 ++ b → t3 ≡ t2 ++ c → t3 ≡ t ++ (a ++ (b ++ c))
 three t t1 t2 t3 a b c h1 h2 h3 = more t t1 t3 a (b ++ c) h1 (more t1 t2 t3 b c h2 h3)
+
+pub four : (t t1 t2 t3 t4 a b c d : List ℕ) → t1 ≡ t ++ a → t2 ≡ t1 ++ b → t3 ≡ t2 ++ c → t4 ≡ t3 ++ d → t4 ≡ t ++ (a ++ (b ++ (c ++ d)))
+four t t1 t2 t3 t4 a b c d h1 h2 h3 h4 = more t t1 t4 a (b ++ (c ++ d)) h1 (three t1 t2 t3 t4 b c d h2 h3 h4)
 
 pub five : (t t1 t2 t3 t4 t5 a b c d e : List ℕ)
     → t1 ≡ t ++ a → t2 ≡ t1 ++ b → t3 ≡ t2 ++ c → t4 ≡ t3 ++ d → t5 ≡ t4 ++ e

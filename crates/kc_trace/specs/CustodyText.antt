@@ -144,15 +144,24 @@ volume_count_text count = if count == 0 then [] else member (codes ",\"volumes\"
 abbrev pub versions_text : List ℕ
 versions_text = codes "2,\"kcore\":\"" ++ (version_text ++ codes "\"")
 
--- what the first line says: the versions, what was read, the sizes of the core, whether the machine's accesses are in
--- the trace, and how many volumes it has
-abbrev pub heading_text : Heading → Configuration → List ℕ
-heading_text heading config = versions_text ++ (digests_text heading.digests ++ (member (codes ",\"frames\":") config.frames ++ (member (codes ",\"core\":") config.core
-    ++ (member (codes ",\"host\":") config.host ++ (member (codes ",\"slots\":") (slot_count config) ++ (accesses_text heading.is_unseen ++ (volume_count_text heading.volumes ++ (codes "}" ++ 10 ∷ []))))))))
+-- the sizes of the core
+abbrev pub sizes_text : Configuration → List ℕ
+sizes_text config = member (codes ",\"frames\":") config.frames ++ (member (codes ",\"core\":") config.core ++ (member (codes ",\"host\":") config.host ++ member (codes ",\"slots\":") (slot_count config)))
+
+-- how many calls of the trace were refused or rejected, if that is said
+abbrev pub refused_count_text : Option ℕ → List ℕ
+refused_count_text None = []
+refused_count_text (Some count) = member (codes ",\"refused\":") count
+
+-- what the first line says: the versions, what was read, the sizes of the core, perhaps how many calls were refused or
+-- rejected, whether the machine's accesses are in the trace, and how many volumes it has
+abbrev pub heading_text : Heading → Configuration → Option ℕ → List ℕ
+heading_text heading config refused = versions_text ++ (digests_text heading.digests ++ (sizes_text config ++ (refused_count_text refused
+    ++ (accesses_text heading.is_unseen ++ (volume_count_text heading.volumes ++ (codes "}" ++ 10 ∷ []))))))
 
 -- the first line
 abbrev pub header_line : Heading → Configuration → List ℕ
-header_line heading config = codes "{\"custody\":" ++ heading_text heading config
+header_line heading config = codes "{\"custody\":" ++ heading_text heading config None
 
 -- the line of a volume by its number: the line of its first call, how many calls it has, and its digest, if texts are
 -- named

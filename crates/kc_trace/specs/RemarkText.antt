@@ -49,13 +49,17 @@ reason_text (Rejected image) = member (codes ",\"rejected\":") image
 abbrev pub slot_text : Option ℕ → List ℕ
 slot_text slot = codes ",\"slot\":" ++ number_text slot
 
-abbrev pub named_text : Option NamedFrame → List ℕ
-named_text None = codes ",\"frame\":null,\"owner\":null,\"gfn\":null"
-named_text (Some named) = member (codes ",\"frame\":") named.frame ++ (codes ",\"owner\":" ++ (owner_text named.owner ++ (codes ",\"gfn\":" ++ number_text named.gfn)))
+-- a frame that is named, or only its number if it is another VM's than the one reported
+abbrev pub foreign_text : Option ℕ → List ℕ
+foreign_text foreign = codes ",\"frame\":" ++ (number_text foreign ++ codes ",\"owner\":null,\"gfn\":null")
+
+abbrev pub named_text : Option ℕ → Option NamedFrame → List ℕ
+named_text foreign None = foreign_text foreign
+named_text foreign (Some named) = member (codes ",\"frame\":") named.frame ++ (codes ",\"owner\":" ++ (owner_text named.owner ++ (codes ",\"gfn\":" ++ number_text named.gfn)))
 
 -- the line of a call that was refused or rejected, with its newline
 abbrev pub denied_line : Denied → List ℕ
-denied_line told = head_text told.line told.call ++ (reason_text told.reason ++ (slot_text told.slot ++ (named_text told.named ++ (codes "}" ++ 10 ∷ []))))
+denied_line told = head_text told.line told.call ++ (reason_text told.reason ++ (slot_text told.slot ++ (named_text told.foreign told.named ++ (codes "}" ++ 10 ∷ []))))
 
 -- the line of an access by the host, with its newline
 abbrev pub access_line : Access → List ℕ

@@ -1,5 +1,5 @@
 -- How lives of VMs are spelled: one JSON object (RFC 8259) on each line.
-use Rattle.std.specs.Prelude.{ℕ, ◌==◌, if◌then◌else◌, Bool, true, false, List, [], ◌∷◌, ◌++◌, codes, drop, length}
+use Rattle.std.specs.Prelude.{ℕ, ◌==◌, if◌then◌else◌, Bool, true, false, List, [], ◌∷◌, ◌++◌, codes, drop, length, Some}
 use Rattle.std.specs.List.{flat_map}
 use Rattle.kc_types.specs.Configuration.{Configuration}
 use Rattle.kc_types.specs.declared.custody.Sharing.{Sharing}
@@ -64,9 +64,9 @@ refused_text attempts = codes ",\"refused\":{" ++ (reasons_text attempts ++ code
 abbrev pub life_line : Bool → List Attempt → Life → List ℕ
 life_line unseen attempts life = turns_text life ++ (life_images_text life ++ (counts_text unseen life ++ (refused_text (attempts_in_life life attempts) ++ shared_text life)))
 
--- the first line
-abbrev pub summary_header : Heading → Configuration → List ℕ
-summary_header heading config = codes "{\"summary\":" ++ heading_text heading config
+-- the first line, given the number of calls that were refused or rejected
+abbrev pub summary_header : Heading → Configuration → ℕ → List ℕ
+summary_header heading config refused = codes "{\"summary\":" ++ heading_text heading config (Some refused)
 
 -- the last line: how many calls the trace has, how many lives the text has, and how many calls were refused or rejected
 abbrev pub summary_end : ℕ → ℕ → ℕ → List ℕ
@@ -75,5 +75,5 @@ summary_end calls lives refused = member (codes "{\"calls\":") calls ++ (member 
 -- the text of the lives in a trace, or in several volumes of one, given the numbers of its calls and of those that
 -- were refused or rejected, and the attempts at pages of VMs
 abbrev pub summary_text_of : Heading → Configuration → List VolumeEntry → ℕ → ℕ → List Attempt → List Life → List ℕ
-summary_text_of heading config volumes calls refused attempts lives = summary_header heading config ++ (volumes_text volumes
+summary_text_of heading config volumes calls refused attempts lives = summary_header heading config refused ++ (volumes_text volumes
     ++ (flat_map (life_line heading.is_unseen attempts) lives ++ summary_end calls (length lives) refused))

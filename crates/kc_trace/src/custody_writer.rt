@@ -4,7 +4,7 @@ ghost use Rattle.std.specs.List.{flat_map};
 ghost use Rattle.std.specs.Fmt.{decimal};
 ghost use Rattle.kc_types.specs.Limits.{image_limit};
 ghost use Rattle.kc_types.specs.Configuration.{slot_count};
-ghost use Rattle.kc_trace.specs.CustodyText.{owner_text, number_text, flag_text, phase_text, custody_text, frame_line, image_text, more_image_text, images_text, phase_line, change_line, version_text, digest_text, trace_text, start_text, digests_text, accesses_text, volume_count_text, versions_text, heading_text, header_line, end_line, longest_custody, longest_image, longest_images, longest_change, longest_digest, longest_trace, longest_start, longest_digests};
+ghost use Rattle.kc_trace.specs.CustodyText.{owner_text, number_text, flag_text, phase_text, custody_text, frame_line, image_text, more_image_text, images_text, phase_line, change_line, version_text, digest_text, trace_text, start_text, digests_text, accesses_text, volume_count_text, versions_text, sizes_text, refused_count_text, heading_text, header_line, end_line, longest_custody, longest_image, longest_images, longest_change, longest_digest, longest_trace, longest_start, longest_digests};
 
 use itoa::Buffer;
 use kc_lines::{push_bytes, push_digits};
@@ -326,20 +326,48 @@ fn push_volume_count(text: &mut Vec<u8>, count: u32)
     }
 }
 
-/// Appends what the first line of custody and of a summary says, with its newline: the versions, what was read, the
-/// sizes of the core, from which the boot state follows, whether the machine's accesses are in the trace, and how many
-/// volumes it has.
-pub(crate) fn push_heading(text: &mut Vec<u8>, heading: &Heading, config: &Config)
-    requires { vec_len text.old + 512 ≤ vec_capacity text.old }
-    ensures line { text.new.items ≡ text.old.items ++ heading_text heading.now config.now }
+/// Appends the sizes of the core, from which the boot state follows.
+fn push_sizes(text: &mut Vec<u8>, config: &Config)
+    requires { vec_len text.old + 128 ≤ vec_capacity text.old }
+    ensures items { text.new.items ≡ text.old.items ++ sizes_text config.now }
+    ensures len { vec_len text.new ≤ vec_len text.old + 128 }
     ensures capacity { vec_capacity text.old ≤ vec_capacity text.new }
 {
-    push_versions(text);
-    push_digests(text, &heading.digests);
     push_member(text, b",\"frames\":", config.frames() as usize);
     push_member(text, b",\"core\":", config.core() as usize);
     push_member(text, b",\"host\":", config.host() as usize);
     push_member(text, b",\"slots\":", config.slots() as usize);
+}
+
+/// Appends how many calls of the trace were refused or rejected, if that is said.
+fn push_refused_count(text: &mut Vec<u8>, refused: Option<usize>)
+    requires { vec_len text.old + 31 ≤ vec_capacity text.old }
+    ensures items { text.new.items ≡ text.old.items ++ refused_count_text refused }
+    ensures len { vec_len text.new ≤ vec_len text.old + 31 }
+    ensures capacity { vec_capacity text.old ≤ vec_capacity text.new }
+{
+    if let Some(count) = refused {
+        push_member(text, b",\"refused\":", count);
+    }
+}
+
+/// Appends what the first line of custody and of a summary says, with its newline: the versions, what was read, the
+/// sizes of the core, perhaps how many calls were refused or rejected, whether the machine's accesses are in the trace,
+/// and how many volumes it has.
+pub(crate) fn push_heading(
+    text: &mut Vec<u8>,
+    heading: &Heading,
+    config: &Config,
+    refused: Option<usize>,
+)
+    requires { vec_len text.old + 512 ≤ vec_capacity text.old }
+    ensures line { text.new.items ≡ text.old.items ++ heading_text heading.now config.now refused }
+    ensures capacity { vec_capacity text.old ≤ vec_capacity text.new }
+{
+    push_versions(text);
+    push_digests(text, &heading.digests);
+    push_sizes(text, config);
+    push_refused_count(text, refused);
     push_accesses(text, heading.is_unseen);
     push_volume_count(text, heading.volumes);
     push_bytes(text, b"}\n");
@@ -352,7 +380,7 @@ pub fn push_custody_header(text: &mut Vec<u8>, heading: &Heading, config: &Confi
     ensures capacity { vec_capacity text.old ≤ vec_capacity text.new }
 {
     push_bytes(text, b"{\"custody\":");
-    push_heading(text, heading, config);
+    push_heading(text, heading, config, None);
 }
 
 /// Appends the last line, with its newline: how many calls the trace has, how many lines of changes and notes the text

@@ -3,7 +3,7 @@ ghost use Rattle.std.specs.Prelude.{◌≡◌, ◌≤◌, ◌+◌, ◌++◌, ◌
 ghost use Rattle.std.specs.Fmt.{decimal};
 ghost use Rattle.kc_types.specs.Refusals.{name_of};
 ghost use Rattle.kc_trace.specs.CustodyText.{owner_text, number_text, member, longest_change};
-ghost use Rattle.kc_trace.specs.RemarkText.{kind_text, head_text, reason_text, slot_text, named_text, denied_line, access_line, longest_head, longest_reason, longest_slot, longest_named};
+ghost use Rattle.kc_trace.specs.RemarkText.{kind_text, head_text, reason_text, slot_text, foreign_text, named_text, denied_line, access_line, longest_head, longest_reason, longest_slot, longest_named};
 
 use crate::custody_writer::{push_gfn, push_member, push_number, push_owner};
 use kc_lines::push_bytes;
@@ -113,16 +113,28 @@ fn push_frame(text: &mut Vec<u8>, named: NamedFrame)
     push_gfn(text, named.gfn);
 }
 
-/// Appends the frame that a call names, if there is one.
-fn push_named(text: &mut Vec<u8>, named: Option<NamedFrame>)
+/// Appends the number of a frame that a call names and of which no more is said, or `null`.
+fn push_foreign(text: &mut Vec<u8>, foreign: Option<u32>)
     requires { vec_len text.old + longest_named ≤ vec_capacity text.old }
-    ensures items { text.new.items ≡ text.old.items ++ named_text named }
+    ensures items { text.new.items ≡ text.old.items ++ foreign_text foreign }
+    ensures len { vec_len text.new ≤ vec_len text.old + longest_named }
+    ensures capacity { vec_capacity text.old ≤ vec_capacity text.new }
+{
+    push_bytes(text, b",\"frame\":");
+    push_number(text, foreign);
+    push_bytes(text, b",\"owner\":null,\"gfn\":null");
+}
+
+/// Appends the frame that a call names, if there is one.
+fn push_named(text: &mut Vec<u8>, foreign: Option<u32>, named: Option<NamedFrame>)
+    requires { vec_len text.old + longest_named ≤ vec_capacity text.old }
+    ensures items { text.new.items ≡ text.old.items ++ named_text foreign named }
     ensures len { vec_len text.new ≤ vec_len text.old + longest_named }
     ensures capacity { vec_capacity text.old ≤ vec_capacity text.new }
 {
     match named {
         Some(named) => push_frame(text, named),
-        None => push_bytes(text, b",\"frame\":null,\"owner\":null,\"gfn\":null"),
+        None => push_foreign(text, foreign),
     }
 }
 
@@ -136,7 +148,7 @@ pub fn push_denied(text: &mut Vec<u8>, denied: &Denied)
     push_head(text, denied.line, denied.call);
     push_reason(text, denied.reason);
     push_slot(text, denied.slot);
-    push_named(text, denied.named);
+    push_named(text, denied.foreign, denied.named);
     push_bytes(text, b"}\n");
 }
 

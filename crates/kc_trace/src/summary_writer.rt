@@ -207,13 +207,18 @@ fn push_lives(
     Ok(())
 }
 
-/// Appends the first line.
-fn push_summary_header(text: &mut Vec<u8>, heading: &Heading, config: &Config) -> Result<(), Memory>
-    ensures { OnOk result (text.new.items ≡ text.old.items ++ summary_header heading.now config.now) }
+/// Appends the first line, with the number of calls that were refused or rejected.
+fn push_summary_header(
+    text: &mut Vec<u8>,
+    heading: &Heading,
+    config: &Config,
+    refused: usize,
+) -> Result<(), Memory>
+    ensures { OnOk result (text.new.items ≡ text.old.items ++ summary_header heading.now config.now refused) }
 {
     text.reserve(LONGEST_PART)?;
     push_bytes(text, b"{\"summary\":");
-    push_heading(text, heading, config);
+    push_heading(text, heading, config, Some(refused));
     Ok(())
 }
 
@@ -251,7 +256,7 @@ pub fn summary_text(
     ensures { IfOk result (λ text. text.items ≡ summary_text_of heading.now config.now volumes.now calls refused attempts.now lives.now) }
 {
     let mut text = Vec::new(alloc);
-    push_summary_header(&mut text, heading, config)?;
+    push_summary_header(&mut text, heading, config, refused)?;
     push_volumes(&mut text, volumes)?;
     push_lives(alloc, &mut text, heading.is_unseen, attempts, lives)?;
     push_summary_end(&mut text, calls, lives.len(), refused)?;

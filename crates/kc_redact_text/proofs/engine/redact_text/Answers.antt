@@ -7,11 +7,11 @@ use Rattle.kc_redact_text.proofs.engine.redact_text.Goals as goal
 
 pub returns-clause-ok : goal.returns-clause-ok
 returns-clause-ok g c =
-    on_ok_weaker c.give_redacted.result (λ given. redacts _ _ _ c.in_ok-head.head c.in_ok-head.calls.items c.in_ok-head.ensures.ok given) c.give_redacted.ensures.ok
+    on_ok_weaker c.give_redacted.result (λ given. redacts _ _ _ c.in_ok-head.head c.in_ok-head.calls.items _ c.in_ok-head.ensures.ok given) c.give_redacted.ensures.ok
 
 pub returns-clause-sink : goal.returns-clause-sink
 returns-clause-sink g c =
-    sink_more _ _ _ _ _ (λ begun. begins _ _ _ c.in_ok-head.head c.in_ok-head.calls.items c.in_ok-head.ensures.ok begun) c.give_redacted.ensures.sink
+    sink_more _ _ _ _ _ (λ begun. begins _ _ _ c.in_ok-head.head c.in_ok-head.calls.items _ c.in_ok-head.ensures.ok begun) c.give_redacted.ensures.sink
 
 pub returns-in_err-head-clause-trace : goal.returns-in_err-head-clause-trace
 returns-in_err-head-clause-trace g c fault e =

@@ -1,6 +1,8 @@
-use Rattle.std.proofs.lemmas.Result.{err_from_is_err_and, on_ok_weaker}
-use Rattle.kc_faults.proofs.Told.{sources_err, texts_err, sink_more}
-use Rattle.kc_redact_text.proofs.Given.{writes_host, begins_host}
+use Rattle.std.proofs.Common.{refl}
+use Rattle.std.proofs.lemmas.Result.{err_from_is_err_and}
+use Rattle.kc_cli.proofs.Sources.{sink_err}
+use Rattle.kc_faults.proofs.Told.{sources_err, texts_err}
+use Rattle.kc_redact_text.proofs.Given.{answers_host, writes_host, begins_host}
 use Rattle.kc_redact_text.proofs.host.redact_host_text.Goals as goal
 
 pub returns-in_err-head-clause-sources : goal.returns-in_err-head-clause-sources
@@ -13,10 +15,13 @@ returns-in_err-head-clause-texts g c =
     let made = err_from_is_err_and c.from_residual.result c.from_residual.ensures.1 in
     rw (made.1, made.2) (texts_err _ _ _ _ c.in_err-head.field-0.0 c.in_err-head.ensures.texts)
 
-pub returns-clause-ok : goal.returns-clause-ok
-returns-clause-ok g c =
-    on_ok_weaker c.give_redacted.result (λ given. writes_host _ _ _ _ _ c.in_ok-head.head c.in_ok-head.calls.items c.in_ok-head.ensures.ok given) c.give_redacted.ensures.ok
+pub returns-clause-answered : goal.returns-clause-answered
+returns-clause-answered g c = answers_host _ _ _ c.in_ok-head.head c.in_ok-head.calls.items c.in_ok-head.denials _ c.in_ok-head.ensures.ok refl refl
 
-pub returns-clause-sink : goal.returns-clause-sink
-returns-clause-sink g c =
-    sink_more _ _ _ _ _ (λ begun. begins_host _ _ _ _ _ c.in_ok-head.head c.in_ok-head.calls.items c.in_ok-head.ensures.ok begun) c.give_redacted.ensures.sink
+pub returns-clause-ok : goal.returns-clause-ok
+returns-clause-ok g c = writes_host _ _ _ _ _ c.in_ok-head.head c.in_ok-head.calls.items _ c.in_ok-head.ensures.ok c.in_ok-give_redacted.ensures.ok
+
+pub returns-in_err-give_redacted-clause-sink : goal.returns-in_err-give_redacted-clause-sink
+returns-in_err-give_redacted-clause-sink g c =
+    let made = err_from_is_err_and c.from_residual-in_err-give_redacted.result c.from_residual-in_err-give_redacted.ensures.1 in
+    rw (made.1, made.2) (sink_err _ _ _ _ c.in_err-give_redacted.field-0.0 (λ begun. begins_host _ _ _ _ _ c.in_ok-head.head c.in_ok-head.calls.items _ c.in_ok-head.ensures.ok begun) c.in_err-give_redacted.ensures.sink)

@@ -1,5 +1,5 @@
 use Rattle.std.proofs.Common.{◌∙◌, sym}
-use Rattle.kc_redact_text.proofs.Made.{kept-then, after-then}
+use Rattle.kc_redact_text.proofs.Made.{kept-then, after-then, counts-then}
 use Rattle.kc_redact_text.proofs.reading.push_each.Goals as goal
 
 pub loop-call-preserved : goal.loop-call-preserved
@@ -8,4 +8,5 @@ loop-call-preserved c =
     record {
       kept = kept-then c.args.core.now c.loop-call.core _ _ _ c.loop-call.yielded c.in-Some.call _ before.kept before.made c.in_ok-redacted.ensures.call c.in_ok-push.ensures.items;
       made = c.in_ok-redacted.ensures.core ∙ sym (after-then c.args.core.now c.loop-call.core c.loop-call.yielded c.in-Some.call before.made);
+      counted = counts-then c.args.core.now c.loop-call.core c.loop-call.yielded c.in-Some.call c.args.denials.now c.loop-call.denials _ before.made before.counted c.in_ok-redacted.ensures.counted;
     }

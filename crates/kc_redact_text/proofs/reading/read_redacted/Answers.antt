@@ -16,7 +16,7 @@ returns-in_err-take_rest-clause-read g c e =
 
 pub returns-in-Ok-finish-clause-ok : goal.returns-in-Ok-finish-clause-ok
 returns-in-Ok-finish-clause-ok g c =
-    whole_read _ _ _ _ _ _ _ _ c.new-redacting.result c.take.new.self c.take_rest.new.self c.new-redacting.ensures.read c.new-redacting.ensures.calls
+    whole_read _ _ _ _ _ _ _ _ c.new-redacting.result c.take.new.self c.take_rest.new.self c.new-redacting.ensures.read c.new-redacting.ensures.calls c.new-redacting.ensures.counted
     c.in-Ok.ensures.ok c.in-Ok.ensures.within c.in-Ok.ensures.short c.read_head.array_long c.in_ok-take.ensures.ok c.in_ok-take_rest.ensures.ok c.in_ok-take_rest.ensures.ended
     (rw c.in-Ok-finish.is at (ends_a_trace (stream_of c.take_rest.new.self) c.finish.result c.finish.ensures.fault))
 

@@ -1,4 +1,4 @@
-use Rattle.std.proofs.Common.{◌++◌, [], List, length, length-append, ap, sym, ◌∙◌, subst, rules, arith}
+use Rattle.std.proofs.Common.{◌<◌, ◌+◌, ◌^◌, ◌++◌, [], List, length, length-append, ap, sym, ◌∙◌, subst, rules, arith}
 use Rattle.std.proofs.lemmas.List.{append-nil}
 use Rattle.kc_types.specs.declared.call.Call.{Call}
 use Rattle.kc_cli.specs.Ledgers.{HasKept}
@@ -53,6 +53,7 @@ loop-witness-preserved g c =
     let few = before.4 in
     let same = ap length c.deref.ensures.value in
     let noted = c.in-Ok.ensures.few in
+    let short : c.loop-part.self.line + length c.in_ok-part.part.calls.items < 2 ^ 32 = let some = more.1.few in let room = c.requires.lines in omega (arith, some, long, at, room) in
     record {
       read = (
         before.0 ++ more.0,
@@ -62,7 +63,7 @@ loop-witness-preserved g c =
         omega (arith, long, few, same, noted),
         (rw c.deref-in-loop-witness.ensures.value at c.note_all.ensures) c.args.is_named before.1 before.5,
         λ form start first h. kept_after form start first before.1 calls c.loop-witness.core _ c.loop-witness.self _ (before.6 form start first h) ((rw c.deref.ensures.value at c.in-Ok.ensures.kept) form start)
-            (rw c.deref.ensures.value at c.in-Ok.ensures.state) (rw c.deref.ensures.value at c.in-Ok.ensures.denied) (omega (arith, same, noted)) (rw c.deref.ensures.value at c.in-Ok.ensures.counted) (omega arith),
+            (rw c.deref.ensures.value at c.in-Ok.ensures.state) (rw c.deref.ensures.value at c.in-Ok.ensures.denied) (omega (arith, same, noted)) (rw c.deref.ensures.value at c.in-Ok.ensures.counted) (omega arith) short,
       );
       few = c.in_ok-part.ensures.few;
       mark = c.in_ok-part.ensures.mark;
@@ -76,12 +77,13 @@ returns-in-Ok-finish-clause-ok g c =
     let long = length-append before.1 calls in
     let at = before.3 in
     let same = ap length c.deref.ensures.value in
-    let noted = c.in-Ok.ensures.few in (
+    let noted = c.in-Ok.ensures.few in
+    let short : c.loop-part.self.line + length c.in_ok-part.part.calls.items < 2 ^ 32 = let some = more.1.few in let room = c.requires.lines in omega (arith, some, long, at, room) in (
       before.1 ++ calls,
       c.in-Ok-finish.ensures.ok _ _ _ _ more.1 (c.in_ok-part.ensures.last c.if-part.true),
       more.1.few,
       omega (arith, long, at),
       c.digest_of.ensures c.args.is_named (before.1 ++ calls) ((rw c.deref-in-loop-witness.ensures.value at c.note_all.ensures) c.args.is_named before.1 before.5),
       λ form start first h. kept_after form start first before.1 calls c.loop-witness.core _ c.loop-witness.self _ (before.6 form start first h) ((rw c.deref.ensures.value at c.in-Ok.ensures.kept) form start)
-          (rw c.deref.ensures.value at c.in-Ok.ensures.state) (rw c.deref.ensures.value at c.in-Ok.ensures.denied) (omega (arith, same, noted)) (rw c.deref.ensures.value at c.in-Ok.ensures.counted) (omega arith),
+          (rw c.deref.ensures.value at c.in-Ok.ensures.state) (rw c.deref.ensures.value at c.in-Ok.ensures.denied) (omega (arith, same, noted)) (rw c.deref.ensures.value at c.in-Ok.ensures.counted) (omega arith) short,
     )

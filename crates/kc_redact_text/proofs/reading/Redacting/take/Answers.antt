@@ -6,15 +6,15 @@ use Rattle.kc_redact_text.proofs.reading.Redacting.take.Goals as goal
 pub returns-in-Ok-push_each-clause-ok : goal.returns-in-Ok-push_each-clause-ok
 returns-in-Ok-push_each-clause-ok c =
     let before = c.args.self.now in
-    let after : Redacting = record { reader = c.read_calls.new.reader; total = before.total + length c.args.piece.now; calls = c.push_each.new.calls } in
-    taken_ok c.args.core.now c.push_each.new.core before after c.args.piece.now c.in-Ok.more.items c.in-Ok.ensures.answer c.in-Ok.ensures.ok refl c.in-Ok-push_each.ensures.calls c.in-Ok-push_each.ensures.core
+    let after : Redacting = record { reader = c.read_calls.new.reader; total = before.total + length c.args.piece.now; calls = c.push_each.new.calls; denials = c.push_each.new.denials } in
+    taken_ok c.args.core.now c.push_each.new.core before after c.args.piece.now c.in-Ok.more.items c.in-Ok.ensures.answer c.in-Ok.ensures.ok refl c.in-Ok-push_each.ensures.calls c.in-Ok-push_each.ensures.core c.in-Ok-push_each.ensures.counted
 
 pub returns-in-Err : goal.returns-in-Err
 returns-in-Err c =
     let before = c.args.self.now in
-    let after : Redacting = record { reader = c.read_calls.new.reader; total = before.total + length c.args.piece.now; calls = before.calls } in
+    let after : Redacting = record { reader = c.read_calls.new.reader; total = before.total + length c.args.piece.now; calls = before.calls; denials = before.denials } in
     record {
-      ok = taken_err c.args.core.now c.args.core.now before after c.args.piece.now c.in-Err.field-0 c.in-Err.ensures.answer (search rules) (search rules) refl refl refl;
+      ok = taken_err c.args.core.now c.args.core.now before after c.args.piece.now c.in-Err.field-0 c.in-Err.ensures.answer (search rules) (search rules) refl refl refl refl;
       total = refl;
       few = search rules;
       read = λ e. absurd cc;
