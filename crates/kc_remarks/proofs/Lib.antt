@@ -6,3 +6,4 @@ pub mod Attempts
 pub mod Ordered
 pub mod Unread
 pub mod Naming
+pub mod Lived

@@ -4,6 +4,7 @@ ghost use Rattle.kc_types.specs.declared.call.Call.{Call};
 ghost use Rattle.kc_model.specs.State.{State};
 ghost use Rattle.kc_model.specs.Next.{replies_from};
 ghost use Rattle.kc_model.specs.Lawful.{IsLawful};
+ghost use Rattle.kc_remarks.specs.Attempts.{AllAttemptsAreCounted};
 ghost use Rattle.kc_remarks.specs.Unread.{NotesShowNoBytes, NotesAreRedacted};
 ghost use Rattle.kc_remarks.specs.Remarks.{notes};
 ghost use Rattle.kc_remarks.specs.Denials.{is_denied, is_denial, is_to_naming, is_naming};
@@ -24,4 +25,9 @@ pub fn unread()
 /// or is refused since none is free.
 pub fn naming()
     ensures { (m : State) (calls : List Call) → length (filter is_to_naming (replies_from m calls)) ≡ length (filter is_naming calls) }
+{}
+
+/// The attempts that a summary counts in each life are the calls of that life that are refused at a frame of its VM.
+pub fn attempts()
+    ensures { (m : State) (calls : List Call) → IsLawful m → AllAttemptsAreCounted m calls }
 {}
