@@ -131,14 +131,15 @@ typedef struct {
 size_t kcore_longest_reply(void);
 size_t kcore_longest_line(void);
 
-/* Opens a closed session, whose core is in the boot state of this configuration (JSON). If it cannot, the session stays
- * closed. */
+/* Opens a closed session, whose core is in the boot state of this configuration (JSON, up to 1,073,741,824 bytes). If it
+ * cannot, the session stays closed. */
 uint32_t kcore_boot(kcore *core, const uint8_t *config, size_t config_length);
 
 /* Opens a closed session, whose core is in the state of this text, and which has answered no call yet: the text is what
  * kcore_state or kcore_blank_state gave, or `kcore replay --state` wrote. It is judged as by `kcore replay --from`, and
- * the first fault is reported; then *place is the number of the line, frame or slot that is at fault, or 0, and the
- * session stays closed. */
+ * the first fault is reported; then *place is the number of the line, frame or slot that is at fault, or 0 (so too if
+ * memory runs out), and the session stays closed. A session that is open, and a text that is too long, leave *place as
+ * it was. */
 uint32_t kcore_resume(kcore *core, const uint8_t *text, size_t text_length, uint32_t *place);
 
 /* Answers the call on a line, which is given without its newline. The reply's line, with its newline, is the first

@@ -2,13 +2,14 @@
  * CALLS, each in a volume of its own. Then what the core reports goes to files in FOLDER: state, blank, dump, and
  * digest, that of the blank state as 64 digits. A second session is opened from each text of a state, and has to report
  * it again. The last CALLS calls of the trace are left for both sessions, which have to answer the same. The state that
- * they leave goes to the file after.
+ * they leave goes to the file after. At last texts that are too long have to be refused.
  *
  * usage: resuming FOLDER [CALLS] */
 #include <kcore.h>
 #include <stdio.h>
 #include <stdlib.h>
 #include <string.h>
+#include <sys/mman.h>
 
 static const char config[] = "{\"frames\":8,\"core\":1,\"host\":4,\"leaves\":1,\"approved\":"
                              "[\"ba7816bf8f01cfea414140de5dae2223b00361a396177a9cb410ff61f20015ad\"]}";
@@ -48,6 +49,16 @@ static void resume(kcore *core, const uint8_t *bytes, size_t length,
     need(kcore_resume(core, bytes, length, &place) == KCORE_DONE && place == 77, 8);
     need(kcore_resume(core, bytes, length, &place) == KCORE_ALREADY_OPEN && place == 77, 9);
     need(report(core, again, ROOM, &used) == KCORE_DONE && used == length && memcmp(again, bytes, length) == 0, 10);
+}
+
+/* A text of more than 1 GiB is refused before it is read: nobody may read these pages. */
+static void too_long(kcore *core) {
+    uint32_t place = 77;
+    const size_t most = (size_t)1 << 30;
+    const uint8_t *pages = mmap(NULL, most + 1, PROT_NONE, MAP_PRIVATE | MAP_ANONYMOUS | MAP_NORESERVE, -1, 0);
+    need(pages != MAP_FAILED, 28);
+    need(kcore_boot(core, pages, most + 1) == KCORE_TOO_LONG, 29);
+    need(kcore_resume(core, pages, most + 1, &place) == KCORE_TOO_LONG && place == 77, 30);
 }
 
 int main(int count, char **words) {
@@ -94,5 +105,6 @@ int main(int count, char **words) {
     need(kcore_blank_state(&core, state, ROOM, used) == KCORE_CLOSED && *used == 0, 25);
     need(kcore_dump(&core, state, ROOM, used) == KCORE_CLOSED && *used == 0, 26);
     need(kcore_blank_digest(&core, state, ROOM, used) == KCORE_CLOSED && *used == 0, 27);
+    too_long(&core);
     return 0;
 }

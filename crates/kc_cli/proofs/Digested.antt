@@ -1,4 +1,4 @@
--- What is said of what was read shows nothing of what guests wrote.
+-- The first line and the lines of volumes show nothing of what guests wrote.
 use Rattle.std.proofs.Common.{ℕ, ◌≡◌, ◌+◌, Bool, true, false, List, [], ◌∷◌, length, map, replicate, Option, Some, None, refl, ap, ap₂, ◌∙◌}
 use Rattle.std.proofs.lemmas.List.{length-map, length-replicate}
 use Rattle.sha2.specs.Sha256.{sha256}
@@ -21,7 +21,7 @@ use Rattle.kc_faults.specs.declared.origin.Origin.TheVariants as origins
 use Rattle.kc_cli.specs.declared.account.Named.{Named}
 use Rattle.kc_cli.specs.declared.account.Named.TheVariants as names
 use Rattle.kc_cli.specs.declared.account.Scope.{Scope}
-use Rattle.kc_cli.specs.Custody.{calls_digest, entries_of, entries_in, names_trace, listed, trace_digest, digests_of, heading_of, IsNamedBlind}
+use Rattle.kc_cli.specs.Custody.{calls_digest, entries_of, entries_in, names_trace, listed, trace_digest, digests_of, heading_of}
 
 -- redacting twice is redacting once
 bytes_twice : (bytes : List ℕ) → blanked (blanked bytes) ≡ blanked bytes
@@ -42,12 +42,15 @@ digest_same : (named : Bool) (calls : List Call) → calls_digest named (redacte
 digest_same false calls = refl
 digest_same true calls = ap (λ (seen : List Call). Some (sha256 (text_of Two seen))) (calls_twice calls)
 
-entries_same : (named : Bool) (line : ℕ) (volumes : List (List Call)) → entries_of named line (map redacted volumes) ≡ entries_of named line volumes
-entries_same named line [] = refl
-entries_same named line (calls ∷ volumes) =
+entries_from : (named : Bool) (line : ℕ) (volumes : List (List Call)) → entries_of named line (map redacted volumes) ≡ entries_of named line volumes
+entries_from named line [] = refl
+entries_from named line (calls ∷ volumes) =
     let entry : ℕ → Option (List ℕ) → VolumeEntry = λ count digest. record { line = line; calls = count; digest = digest } in
     ap₂ (λ (count : ℕ) (digest : Option (List ℕ)). entry count digest ∷ entries_of named (line + count) (map redacted volumes)) (length-map calls redacted_call) (digest_same named calls)
-    ∙ ap (λ (rest : List VolumeEntry). entry (length calls) (calls_digest named calls) ∷ rest) (entries_same named (line + length calls) volumes)
+    ∙ ap (λ (rest : List VolumeEntry). entry (length calls) (calls_digest named calls) ∷ rest) (entries_from named (line + length calls) volumes)
+
+pub entries_same : (scope : Scope) (volumes : List (List Call)) → entries_in scope (map redacted volumes) ≡ entries_in scope volumes
+entries_same scope volumes = entries_from (names_trace scope.named) first_line volumes
 
 -- and so is zeroing the pages of active VMs
 state_twice : (m : State) → IsLawful m → blank_state (blank_state m) ≡ blank_state m
@@ -62,11 +65,9 @@ digests_same names.Both origins.Boot start other m trace is same =
 digests_same names.Both origins.State start other m trace is same =
     ap (λ (n : State). Some (record { trace = trace; start = starts.State (sha256 (state_text n)) })) (state_twice m is)
 
-pub named_blind : (m : State) (volumes : List (List Call)) → IsLawful m → IsNamedBlind m volumes
-named_blind m volumes is = record {
-  entries = λ scope. entries_same (names_trace scope.named) first_line volumes;
-  heading = λ scope origin start other same.
-      ap (heading_of scope origin other (blank_state m)) (entries_same (names_trace scope.named) first_line volumes)
-      ∙ ap (λ (digests : Option Digests). record { digests = digests; is_unseen = scope.is_unseen; volumes = length (listed (entries_in scope volumes)) })
-      (digests_same scope.named origin start other m (trace_digest (entries_in scope volumes)) is same);
-}
+pub heading_same : (scope : Scope) (origin : Origin) (start other : List ℕ) (m : State) (volumes : List (List Call)) → IsLawful m → (origin ≡ origins.Boot → other ≡ start)
+    → heading_of scope origin other (blank_state m) (entries_in scope (map redacted volumes)) ≡ heading_of scope origin start m (entries_in scope volumes)
+heading_same scope origin start other m volumes is same =
+    ap (heading_of scope origin other (blank_state m)) (entries_same scope volumes)
+    ∙ ap (λ (digests : Option Digests). record { digests = digests; is_unseen = scope.is_unseen; volumes = length (listed (entries_in scope volumes)) })
+    (digests_same scope.named origin start other m (trace_digest (entries_in scope volumes)) is same)

@@ -6,6 +6,7 @@ mod Reported
 mod Ledgers
 mod Headings
 mod Digested
+mod Blind
 mod Marked
 mod Told
 mod Witnessed

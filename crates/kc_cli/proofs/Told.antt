@@ -29,6 +29,7 @@ use Rattle.kc_model.proofs.Custody.Bars.{bars_are}
 use Rattle.kc_model.proofs.Custody.Laws.{custody_is}
 use Rattle.kc_model.proofs.Summaries.Summed.{summaries_are}
 use Rattle.kc_model.proofs.States.Runs.{state_after-append, replies_from-append}
+use Rattle.kc_remarks.proofs.Lived.{attempts_counted}
 use Rattle.kc_custody.proofs.Own.{names_only}
 use Rattle.kc_cli.specs.declared.account.CustodyForm.{CustodyForm}
 use Rattle.kc_cli.specs.declared.telling.Kept.{Kept}
@@ -80,6 +81,7 @@ is_told m calls count refused is counted denied_so = record {
   redacted = notes_redacted m calls is;
   all = is_of_all m calls is;
   summaries = summaries_are m calls is;
+  attempts = attempts_counted m calls is;
   bars = bars_are m calls is;
   own = names_only m calls is;
 }

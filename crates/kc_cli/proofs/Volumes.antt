@@ -23,7 +23,7 @@ use Rattle.kc_cli.specs.declared.account.Told.{Told}
 use Rattle.kc_cli.specs.declared.custody.CustodyOrder.{CustodyOrder}
 use Rattle.kc_cli.specs.declared.custody.CustodyAccount.{CustodyAccount}
 use Rattle.kc_cli.specs.Answers.{AreAllAnswered}
-use Rattle.kc_cli.specs.Custody.{joined, AreVolumes, IsCustodyText, NamesStart, calls_digest, entries_of, entries_in, names_trace, names_start, heading_of, listed, trace_digest}
+use Rattle.kc_cli.specs.Custody.{joined, AreVolumes, IsMadeOf, IsCustodyText, NamesStart, calls_digest, entries_of, entries_in, names_trace, names_start, heading_of, listed, trace_digest}
 use Rattle.kc_trace.specs.declared.custody_writer.Digests.{Digests}
 use Rattle.kc_cli.specs.declared.account.Scope.{Scope}
 use Rattle.kc_cli.specs.Headings.{digests_by, heading_by}
@@ -37,7 +37,7 @@ use Rattle.kc_cli.specs.Ledgers.{HasKept, Keeps, events_kept, IsGiven, IsGivenOf
 use Rattle.kc_cli.specs.Volumes.{known, HasTold}
 use Rattle.kc_cli.proofs.Counted.{one_each, answered_by}
 use Rattle.kc_cli.proofs.Headings.{headed}
-use Rattle.kc_cli.proofs.Digested.{named_blind}
+use Rattle.kc_cli.proofs.Blind.{made_blind}
 use Rattle.kc_cli.proofs.Ledgers.{account_given, kept_within}
 use Rattle.kc_cli.proofs.Told.{is_told}
 
@@ -171,6 +171,9 @@ text_of order account m start sources texts told text h is all begins digest giv
     ∙ ap (heading_by order.scope order.origin account.start) h.entries ∙ headed order.scope order.origin start m account.start entries digest in
     let total = ap (λ (denials : Denials). denials.total) is.denials in
     let spelled : IsGiven order.scope.vm told.subject.heading told.subject.config told.subject.volumes.items told.subject.answered.calls told.subject.answered.denials.total told.ledger text = given in
+    let made : IsMadeOf order.origin order.form order.scope start m h.volumes told.subject.answered.calls told.subject.answered.denials.total text =
+    account_given order.form order.scope.vm (heading_of order.scope order.origin start m entries) m (listed entries) told.subject.answered.calls told.subject.answered.denials.total (notes m calls) account.kept.ledger text h.kept.ledger
+    (rw (is.config, heading, is.listed_are ∙ ap listed h.entries, is.ledger) at spelled) in
     record {
       first = m;
       begins = begins;
@@ -180,9 +183,8 @@ text_of order account m start sources texts told text h is all begins digest giv
       refused = told.subject.answered.denials.total;
       told = notes m calls;
       custody = is_told m calls told.subject.answered.calls told.subject.answered.denials.total h.lawful is.count (total ∙ h.kept.denied);
-      named = named_blind m h.volumes h.lawful;
-      account = account_given order.form order.scope.vm (heading_of order.scope order.origin start m entries) m (listed entries) told.subject.answered.calls told.subject.answered.denials.total (notes m calls) account.kept.ledger text h.kept.ledger
-          (rw (is.config, heading, is.listed_are ∙ ap listed h.entries, is.ledger) at spelled);
+      account = made;
+      blind = made_blind order.origin order.form order.scope start m h.volumes told.subject.answered.calls told.subject.answered.denials.total text h.lawful made;
     }
 
 -- what the sink took of it is the text of all, if they are known

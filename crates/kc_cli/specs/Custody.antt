@@ -25,7 +25,7 @@ use Rattle.kc_model.specs.Bars.{AreBars}
 use Rattle.kc_remarks.specs.declared.remark.Note.{Note}
 use Rattle.kc_remarks.specs.Remarks.{notes, events_in}
 use Rattle.kc_remarks.specs.Unread.{NotesShowNoBytes, NotesAreRedacted}
-use Rattle.kc_remarks.specs.Attempts.{attempts_in}
+use Rattle.kc_remarks.specs.Attempts.{attempts_in, AllAttemptsAreCounted}
 use Rattle.kc_remarks.specs.declared.remark.Remarks.{Remarks}
 use Rattle.kc_remarks.specs.Denials.{is_denial}
 use Rattle.kc_html.specs.Html.{html_text_of}
@@ -83,6 +83,7 @@ pub record IsCustodyTold (m : State) (calls : List Call) (count refused : ℕ) (
   pub redacted : NotesAreRedacted m calls
   pub all : IsCustodyOfAll m calls
   pub summaries : AreSummaries m calls
+  pub attempts : AllAttemptsAreCounted m calls
   pub bars : AreBars m calls
   -- in a report of one VM no note names another VM
   pub own : (v : ℕ) (remarks : Remarks) → All (NamesOnly v) (chosen (Some v) remarks told)
@@ -158,13 +159,17 @@ heading_of scope origin start m entries =
 abbrev pub entries_in : Scope → List (List Call) → List VolumeEntry
 entries_in scope volumes = entries_of (names_trace scope.named) first_line volumes
 
--- what is said of what was read shows nothing of what guests wrote: of the volumes without those bytes, from the state on in which the pages of active VMs are zeroed, whatever its text, the first line and the lines of volumes are the same; a configuration is the same one
-pub record IsNamedBlind (m : State) (volumes : List (List Call)) : Type 0 where
-  pub entries : (scope : Scope) → entries_in scope (map redacted volumes) ≡ entries_in scope volumes
-  pub heading : (scope : Scope) (origin : Origin) (start other : List ℕ) → (origin ≡ origins.Boot → other ≡ start)
-      → heading_of scope origin other (blank_state m) (entries_in scope (map redacted volumes)) ≡ heading_of scope origin start m (entries_in scope volumes)
+-- the text is what is reported of all calls of these volumes, as if they were one trace, from this state on, which the first text is of
+abbrev pub IsMadeOf : Origin → CustodyForm → Scope → List ℕ → State → List (List Call) → ℕ → ℕ → List ℕ → Type 0
+IsMadeOf origin form scope start m volumes count refused text =
+    IsAccount form scope.vm (heading_of scope origin start m (entries_in scope volumes)) m (listed (entries_in scope volumes)) count refused (notes m (joined volumes)) text
 
--- the text is made of the notes on all calls of the volumes, as if they were one trace, from the state on that the first text is of
+-- it shows nothing of what guests wrote: it is also what is reported of the redacted volumes, from the state on in which the pages of active VMs are zeroed, whatever the text of that; a configuration is the same one
+abbrev pub IsMadeBlind : Origin → CustodyForm → Scope → List ℕ → State → List (List Call) → ℕ → ℕ → List ℕ → Type 0
+IsMadeBlind origin form scope start m volumes count refused text =
+    (other : List ℕ) → (origin ≡ origins.Boot → other ≡ start) → IsMadeOf origin form scope other (blank_state m) (map redacted volumes) count refused text
+
+-- the text is made of the notes on all calls of the volumes, and shows nothing of what guests wrote
 pub record IsCustodyText (origin : Origin) (form : CustodyForm) (scope : Scope) (start : List ℕ) (traces : List (List ℕ)) (text : List ℕ) : Type 0 where
   pub first : State
   pub begins : BeginsIn origin start first
@@ -174,8 +179,8 @@ pub record IsCustodyText (origin : Origin) (form : CustodyForm) (scope : Scope) 
   pub refused : ℕ
   pub told : List Note
   pub custody : IsCustodyTold first (joined volumes) count refused told
-  pub named : IsNamedBlind first volumes
-  pub account : IsAccount form scope.vm (heading_of scope origin start first (entries_in scope volumes)) first (listed (entries_in scope volumes)) count refused told text
+  pub account : IsMadeOf origin form scope start first volumes count refused text
+  pub blind : IsMadeBlind origin form scope start first volumes count refused text
 
 -- the machine that calls begin on has the slot of this number, or has not
 abbrev pub HasSlot : Origin → List ℕ → ℕ → Type 0

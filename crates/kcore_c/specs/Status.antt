@@ -79,7 +79,8 @@ IsBooted session text = (config : Configuration) × (config_in text ≡ Ok confi
 abbrev pub BootSays : Option Kept → Option Kept → List ℕ → Status → Type 0
 BootSays old new text Done = (old ≡ None) × IsBooted new text
 BootSays old new text AlreadyOpen = IsSome old × (new ≡ old)
-BootSays old new text (Config fault) = (old ≡ None) × (new ≡ None) × ConfigFails fault (config_in text)
+BootSays old new text TooLong = (old ≡ None) × (new ≡ None) × (byte_limit < length text)
+BootSays old new text (Config fault) = (old ≡ None) × (new ≡ None) × (length text ≤ byte_limit) × ConfigFails fault (config_in text)
 BootSays old new text _ = ⊥
 
 -- the number of the line, frame or slot that is at fault, or 0

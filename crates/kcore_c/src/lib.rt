@@ -52,8 +52,8 @@ pub extern "C" fn kcore_longest_line() -> usize
     LONGEST_CALL
 }
 
-/// Opens a session whose core is in the boot state of the configuration that a text is. If it cannot, the handle stays
-/// as it is.
+/// Opens a session whose core is in the boot state of the configuration that a text of up to 1,073,741,824 bytes is.
+/// If it cannot, the handle stays as it is.
 #[unsafe(no_mangle)]
 pub extern "C" fn kcore_boot(alloc: Global, core: &mut Handle, config: &[u8]) -> u32
     ensures { IsCode (BootSays core.old.held.session core.new.held.session config.now) result }

@@ -54,6 +54,9 @@ pub fn boot(alloc: Global, core: &mut Handle, text: &[u8]) -> Status
     if core.is_open() {
         return Status::AlreadyOpen;
     }
+    if text.len() > BYTE_LIMIT {
+        return Status::TooLong;
+    }
     match opened(alloc, text) {
         Ok(session) => {
             core.put(session);
