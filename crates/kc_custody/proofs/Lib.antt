@@ -13,5 +13,6 @@ pub mod Tallied
 pub mod Distinct
 pub mod Taken
 pub mod Traced
+pub mod Few
 mod Denied
 pub mod Own

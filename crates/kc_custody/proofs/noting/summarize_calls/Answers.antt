@@ -1,3 +1,4 @@
+use Rattle.kc_custody.proofs.Few.{few-of-trace}
 use Rattle.std.proofs.Common.{◌<◌, ◌+◌, ◌^◌, arith}
 use Rattle.kc_model.proofs.States.Runs.{state_after-more}
 use Rattle.kc_remarks.proofs.Attempts.{attempts-more}
