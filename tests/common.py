@@ -2,6 +2,7 @@
 import fcntl
 import os
 import pathlib
+import re
 import select
 import shutil
 import signal
@@ -67,6 +68,11 @@ def run(words, text, program=PROGRAM):
             return status, out.decode(), err.decode()
     ran = subprocess.run(words, input=given, capture_output=True, env=ENVIRONMENT)
     return ran.returncode, ran.stdout.decode(), ran.stderr.decode()
+
+
+def unwarned(error):
+    """Standard error, as text or bytes, without the warning that a trace is probably of another machine."""
+    return re.sub(*((b"kcore: warning: .*\n", b"") if isinstance(error, bytes) else ("kcore: warning: .*\n", "")), error)
 
 
 def scratch(name, otherwise=None):
