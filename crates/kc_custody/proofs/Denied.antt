@@ -1,5 +1,6 @@
 -- How many calls are denied, and for what, if one more is made.
 use Rattle.std.proofs.Common.{ℕ, ◌≡◌, ◌<◌, ◌≤◌, ◌+◌, Bool, true, false, cond, List, [], ◌∷◌, ◌++◌, length, filter, take, get_or, sym, ap, ◌∙◌, arith, append_assoc, subst}
+use Rattle.std.specs.Prelude.{◌^◌}
 use Rattle.kc_types.specs.declared.call.Call.{Call}
 use Rattle.kc_types.specs.declared.reply.Reply.{Reply}
 use Rattle.kc_model.specs.State.{State}
@@ -22,6 +23,10 @@ denied-more n m old calls i call reply before counted now lt is from answered so
     ∙ both (notes_from n m (take i calls)) (notes_by (n + i) front call) in
     let one : length (filter is_denied (notes_by (n + i) front call)) ≡ cond (is_denial reply) 1 0 = rw (answered, from) (of-call (n + i) front call) in
     omega (arith, grown, one, so_far, added)
+
+-- there is room for one more, if all calls can be counted
+pub room : (before counted i n : ℕ) → before + n < 2 ^ 32 → counted ≤ before + i → i < n → counted + 1 < 2 ^ 32
+room before counted i n all few lt = omega (arith, all, few, lt)
 
 pub denied-few : (denied : Bool) (before counted now i : ℕ) → counted ≤ before + i → now ≡ counted + cond denied 1 0 → now ≤ before + (i + 1)
 denied-few true before counted now i few added = omega (arith, few, added)

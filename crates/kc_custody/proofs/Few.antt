@@ -76,10 +76,19 @@ few-before m small =
     let moved = frame_changes_by header_line (boot m.config) m in
     let turned : List Event = map (λ v. turn_before (slot_at m v).phase v) measured in
     let slots = length-range_with_len 0 (slot_count m.config) in
-    omega (arith, small, few-slots m.config, few-frames header_line (boot m.config) m,
-        length-append (map (turn_before Booting) taken) (map frame_before moved ++ turned), length-append (map frame_before moved) turned,
-        length-map taken (turn_before Booting), length-map moved frame_before, length-map measured (λ v. turn_before (slot_at m v).phase v),
-        fewer (is_taken m) (range_with_len 0 (slot_count m.config)) (slot_count m.config) slots, fewer (is_measured m) (range_with_len 0 (slot_count m.config)) (slot_count m.config) slots)
+    omega (
+      arith,
+      small,
+      few-slots m.config,
+      few-frames header_line (boot m.config) m,
+      length-append (map (turn_before Booting) taken) (map frame_before moved ++ turned),
+      length-append (map frame_before moved) turned,
+      length-map taken (turn_before Booting),
+      length-map moved frame_before,
+      length-map measured (λ v. turn_before (slot_at m v).phase v),
+      fewer (is_taken m) (range_with_len 0 (slot_count m.config)) (slot_count m.config) slots,
+      fewer (is_measured m) (range_with_len 0 (slot_count m.config)) (slot_count m.config) slots,
+    )
 
 -- what is so before the first call and the events of fewer than 2 ^ 32 calls can be counted, and one event more
 pub few-of-trace : (n : ℕ) (m : State) (calls : List Call) → m.config.frames ≤ 65536 → length calls < 2 ^ 32 → length (events_before m ++ events_from n m calls) + 1 < 2 ^ 64

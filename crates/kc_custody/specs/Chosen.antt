@@ -44,46 +44,44 @@ abbrev pub own_slot : ℕ → Option ℕ → Option ℕ
 own_slot v None = None
 own_slot v (Some named) = if named == v then Some named else None
 
--- whether it is another VM than this slot's
-abbrev pub is_anothers : ℕ → Owner → Bool
-is_anothers v (Vm w) = not (w == v)
-is_anothers v _ = false
+-- whether the owner is another VM than this slot's
+abbrev pub is_other_vm : ℕ → Owner → Bool
+is_other_vm v (Vm w) = not (w == v)
+is_other_vm v _ = false
 
 -- a frame that is named, if it is not another VM's
 abbrev pub own_frame : ℕ → Option NamedFrame → Option NamedFrame
 own_frame v None = None
-own_frame v (Some named) = if is_anothers v named.owner then None else Some named
+own_frame v (Some named) = if is_other_vm v named.owner then None else Some named
 
--- its number, if it is
+-- the number of a frame that is named, if it is another VM's
 abbrev pub foreign_frame : ℕ → Option NamedFrame → Option ℕ
 foreign_frame v None = None
-foreign_frame v (Some named) = if is_anothers v named.owner then Some named.frame else None
+foreign_frame v (Some named) = if is_other_vm v named.owner then Some named.frame else None
 
 -- a denied call without what belongs to other VMs than this slot's
 abbrev pub own_denied : ℕ → Denied → Denied
 own_denied v told = record told { slot = own_slot v told.slot; named = own_frame v told.named; foreign = foreign_frame v told.named }
 
+-- a note without that
 abbrev pub own_note : ℕ → Note → Note
 own_note v (note.Denied told) = note.Denied (own_denied v told)
 own_note v told = told
 
+-- notes, without that if one slot is given
 abbrev pub own_notes : Option ℕ → List Note → List Note
 own_notes None told = told
 own_notes (Some v) told = map (own_note v) told
 
+-- the notes that are reported, as they are then
 abbrev pub chosen : Option ℕ → Remarks → List Note → List Note
 chosen vm remarks told = own_notes vm (filter (is_chosen vm remarks) told)
 
--- an owner is no other VM than this slot's
-abbrev pub IsNoOther : ℕ → Owner → Type 0
-IsNoOther v (Vm w) = w ≡ v
-IsNoOther v _ = Unit {0}
-
--- a note names no other VM than this slot's: neither as a slot nor as the owner of a frame
+-- a note names no VM but this slot's: neither as a slot nor as the owner of a frame
 abbrev pub NamesOnly : ℕ → Note → Type 0
-NamesOnly v (note.Denied told) = IfSome told.slot (λ w. w ≡ v) × IfSome told.named (λ named. IsNoOther v named.owner)
+NamesOnly v (note.Denied told) = IfSome told.slot (λ w. w ≡ v) × IfSome told.named (λ named. is_other_vm v named.owner ≡ false)
 NamesOnly v (note.Access told) = told.vm ≡ v
-NamesOnly v (note.Event (event.Change (change.Frame told))) = IsNoOther v told.before.owner × IsNoOther v told.after.owner
+NamesOnly v (note.Event (event.Change (change.Frame told))) = (is_other_vm v told.before.owner ≡ false) × (is_other_vm v told.after.owner ≡ false)
 NamesOnly v (note.Event (event.Change (change.Phase told))) = told.vm ≡ v
 NamesOnly v (note.Event (event.Read w)) = w ≡ v
 NamesOnly v (note.Event (event.Write w)) = w ≡ v

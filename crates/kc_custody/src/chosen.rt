@@ -1,6 +1,6 @@
 //! Which notes are reported, and what of them in a report of one VM.
 ghost use Rattle.std.specs.Prelude.{◌≡◌, filter, map};
-ghost use Rattle.kc_custody.specs.Chosen.{is_slot, is_frame_of, is_denied_at, is_access_of, is_chosen, own_slot, is_anothers, own_frame, foreign_frame, own_denied, own_note, chosen};
+ghost use Rattle.kc_custody.specs.Chosen.{is_slot, is_frame_of, is_denied_at, is_access_of, is_chosen, own_slot, is_other_vm, own_frame, foreign_frame, own_denied, own_note, chosen};
 
 use crate::selected::is_selected;
 use kc_remarks::{Access, Denied, NamedFrame, Note, Remarks, is_owned_by};
@@ -67,8 +67,8 @@ fn own_slot(slot: Option<u32>, vm: u32) -> Option<u32>
 }
 
 /// Whether the owner is another VM than that of this slot.
-fn is_anothers(owner: Owner, vm: u32) -> bool
-    ensures { result ≡ is_anothers vm owner }
+fn is_other_vm(owner: Owner, vm: u32) -> bool
+    ensures { result ≡ is_other_vm vm owner }
 {
     match owner {
         Owner::Vm(owner) => owner.index() as u32 != vm,
@@ -81,14 +81,8 @@ fn own_frame(named: Option<NamedFrame>, vm: u32) -> Option<NamedFrame>
     ensures { result ≡ own_frame vm named }
 {
     match named {
-        Some(named) => {
-            if is_anothers(named.owner, vm) {
-                None
-            } else {
-                Some(named)
-            }
-        },
-        None => None,
+        Some(named) if !is_other_vm(named.owner, vm) => Some(named),
+        _ => None,
     }
 }
 
@@ -97,14 +91,8 @@ fn foreign_frame(named: Option<NamedFrame>, vm: u32) -> Option<u32>
     ensures { result ≡ foreign_frame vm named }
 {
     match named {
-        Some(named) => {
-            if is_anothers(named.owner, vm) {
-                Some(named.frame)
-            } else {
-                None
-            }
-        },
-        None => None,
+        Some(named) if is_other_vm(named.owner, vm) => Some(named.frame),
+        _ => None,
     }
 }
 
