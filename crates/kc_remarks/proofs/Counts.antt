@@ -2,6 +2,7 @@
 use Rattle.std.proofs.Common.{ℕ, suc, ◌≡◌, ◌≤◌, ◌<◌, ◌+◌, Bool, true, false, not, cond, List, [], ◌∷◌, ◌++◌, filter, length, get_or, refl, sym, ap, ◌∙◌, arith, inl, inr}
 use Rattle.std.specs.Prelude.{◌==◌, ◌^◌, slice_set}
 use Rattle.std.proofs.lemmas.Bool.{cases_eq, eq-eqb, ne_eqb}
+use Rattle.std.proofs.lemmas.List.Filters.{length-filter_both}
 use Rattle.std.proofs.lemmas.Grind.{get_or-set_at}
 use Rattle.std.proofs.lemmas.List.{length-append, get_or-set_other}
 use Rattle.std.proofs.lemmas.List.Elements.{filter-append}
@@ -82,12 +83,7 @@ are_among reason (answer ∷ more) =
     omega (arith, rest, here, all, one)
 
 few : {X : Type 0} (p : X → Bool) (xs : List X) → length (filter p xs) ≤ length xs
-few p [] = omega arith
-few p (x ∷ more) =
-    let rest = few p more in
-    let here = first p x more in
-    let one = one_at_most (p x) in
-    omega (arith, rest, here, one)
+few p xs = let all = length-filter_both p (λ x. not (p x)) (λ x. refl) xs in omega (arith, all)
 
 -- after a reply that denies no call and gives no frame
 pub after_other : (replies : List Reply) (answer : Reply) (denials : Denials) → is_denial answer ≡ false → is_frame answer ≡ false → Counts replies denials → Counts (replies ++ answer ∷ []) denials
@@ -219,22 +215,9 @@ takes_are replies denials h =
     let all = take_replies replies in
     omega (arith, frames, none, all)
 
-either : (b : Bool) → one_if b + one_if (not b) ≡ 1
-either true = refl
-either false = refl
-
-all_replies : (replies : List Reply) → length (filter is_to_take replies) + length (filter is_to_naming replies) ≡ length replies
-all_replies [] = refl
-all_replies (answer ∷ more) =
-    let rest = all_replies more in
-    let takes = first is_to_take answer more in
-    let naming = first is_to_naming answer more in
-    let one = either (is_to_take answer) in
-    omega (arith, rest, takes, naming, one)
-
 -- the replies to calls that name a frame or a slot
 pub naming_is : (replies : List Reply) (answered : Answered) → answered.calls ≡ length replies → AreCounts replies answered.denials → naming_in answered ≡ length (filter is_to_naming replies)
 naming_is replies answered count h =
     let takes = takes_are replies answered.denials h in
-    let all = all_replies replies in
+    let all = length-filter_both is_to_take is_to_naming (λ x. refl) replies in
     omega (arith, count, takes, all)

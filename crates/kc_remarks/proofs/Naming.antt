@@ -106,24 +106,7 @@ of-naming m call h = unless (refusal m call) m call (of-these (conditions m call
 
 of-call : (m : State) (call : Call) → is_to_naming (next m call).0 ≡ is_naming call
 of-call m Take = ap not (of-take m)
-of-call m (Give f) = ap not (of-naming m (Give f) refl)
-of-call m (HostFault f) = ap not (of-naming m (HostFault f) refl)
-of-call m (HostRead f off len) = ap not (of-naming m (HostRead f off len) refl)
-of-call m (HostWrite f off bytes) = ap not (of-naming m (HostWrite f off bytes) refl)
-of-call m (RegisterVm v) = ap not (of-naming m (RegisterVm v) refl)
-of-call m (RegisterVcpu v c) = ap not (of-naming m (RegisterVcpu v c) refl)
-of-call m (SetBoot v base len) = ap not (of-naming m (SetBoot v base len) refl)
-of-call m (Remap v i f) = ap not (of-naming m (Remap v i f) refl)
-of-call m (Verify v) = ap not (of-naming m (Verify v) refl)
-of-call m (Map v c f) = ap not (of-naming m (Map v c f) refl)
-of-call m (GuestRead v c g off len) = ap not (of-naming m (GuestRead v c g off len) refl)
-of-call m (GuestWrite v c g off bytes) = ap not (of-naming m (GuestWrite v c g off bytes) refl)
-of-call m (Grant v c g) = ap not (of-naming m (Grant v c g) refl)
-of-call m (Revoke v c g) = ap not (of-naming m (Revoke v c g) refl)
-of-call m (GrantRange v c g n) = ap not (of-naming m (GrantRange v c g n) refl)
-of-call m (RevokeRange v c g n) = ap not (of-naming m (RevokeRange v c g n) refl)
-of-call m (Drop v c g) = ap not (of-naming m (Drop v c g) refl)
-of-call m (Clear v) = ap not (of-naming m (Clear v) refl)
+of-call m call = ap not (of-naming m call refl)
 
 pub naming : (m : State) (calls : List Call) → length (filter is_to_naming (replies_from m calls)) ≡ length (filter is_naming calls)
 naming m [] = refl

@@ -9,7 +9,7 @@ use Rattle.std.proofs.lemmas.Grind.{flat_map-append}
 more : (first second last piece rest : List ℕ) → second ≡ first ++ piece → last ≡ second ++ rest → last ≡ first ++ (piece ++ rest)
 more first second last piece rest e h = h ∙ ap (λ xs. xs ++ rest) e ∙ append_assoc first piece rest
 
--- three, four, five, six, seven, eight and nine pieces, one after another
+-- three to eight pieces, one after another
 pub three : (t t1 t2 t3 a b c : List ℕ) → t1 ≡ t ++ a → t2 ≡ t1 ++ b → t3 ≡ t2 ++ c → t3 ≡ t ++ (a ++ (b ++ c))
 three t t1 t2 t3 a b c h1 h2 h3 = more t t1 t3 a (b ++ c) h1 (more t1 t2 t3 b c h2 h3)
 
@@ -57,13 +57,6 @@ eight t t1 t2 t3 t4 t5 t6 t7 t8 a b c d e f g h h1 h2 h3 h4 h5 h6 h7 h8 =
     (more t4 t5 t8 e (f ++ (g ++ h)) h5
     (more t5 t6 t8 f (g ++ h) h6
     (more t6 t7 t8 g (h) h7 h8))))))
-
-pub nine : (t t1 t2 t3 t4 t5 t6 t7 t8 t9 a b c d e f g h i : List ℕ)
-    → t1 ≡ t ++ a → t2 ≡ t1 ++ b → t3 ≡ t2 ++ c → t4 ≡ t3 ++ d → t5 ≡ t4 ++ e → t6 ≡ t5 ++ f → t7 ≡ t6 ++ g → t8 ≡ t7 ++ h → t9 ≡ t8 ++ i
-    → t9 ≡ t ++ (a ++ (b ++ (c ++ (d ++ (e ++ (f ++ (g ++ (h ++ i))))))))
-nine t t1 t2 t3 t4 t5 t6 t7 t8 t9 a b c d e f g h i h1 h2 h3 h4 h5 h6 h7 h8 h9 =
-    more t t1 t9 a (b ++ (c ++ (d ++ (e ++ (f ++ (g ++ (h ++ i))))))) h1
-    (eight t1 t2 t3 t4 t5 t6 t7 t8 t9 b c d e f g h i h2 h3 h4 h5 h6 h7 h8 h9)
 
 -- one more line
 pub lines_more : {X : Type 0} (line : X → List ℕ) (front : List ℕ) (n : ℕ) (xs : List X) (x : X) (before after : List ℕ) → n < length xs → x ≡ get_or xs n x
