@@ -11,7 +11,6 @@ use Rattle.kc_faults.specs.Origins.{BeginsIn}
 use Rattle.kc_texts.specs.Written.{Writes, Begins}
 use Rattle.kc_redact.specs.Redacted.{IsRedaction, IsHostRedaction}
 use Rattle.kc_redact.proofs.Redacted.{is_redaction, is_host_redaction, header-taken}
-use Rattle.kc_types.specs.declared.reply.Reply.{Reply}
 use Rattle.kc_remarks.specs.declared.denials.Denials.{Denials}
 use Rattle.kc_remarks.specs.declared.denials.Answered.{Answered}
 use Rattle.kc_cli.specs.Answers.{AreAnswered}
@@ -64,4 +63,4 @@ answers_host origin (Some start) None head kept denials answered made count same
 answers_host origin (Some start) (Some text) head kept denials answered made count same =
     let read = made.3 in
     let long : answered.calls ≡ length read.calls = count ∙ ap length read.redacted ∙ redacted-length made.0 read.calls in
-    (made.0, made.2, read.calls, read.read, answered_by made.0 read.calls answered long (rw same read.counted))
+    (made.0, made.2, (read.calls, read.read, answered_by made.0 read.calls answered long (rw same read.counted)))
