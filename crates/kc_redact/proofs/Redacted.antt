@@ -100,7 +100,7 @@ host-are : (m : State) (version : Version) (calls : List Call) → AreCalls vers
 host-are m version [] are = tt
 host-are m version (call ∷ calls) are = (host-is m version call are.0, host-are (next m call).1 version calls are.1)
 
-host-number : (m : State) (calls : List Call) → length (redacted_from m calls) ≡ length calls
+pub host-number : (m : State) (calls : List Call) → length (redacted_from m calls) ≡ length calls
 host-number m [] = refl
 host-number m (call ∷ calls) = ap suc (host-number (next m call).1 calls)
 

@@ -10,14 +10,12 @@ use Rattle.kc_faults.specs.declared.origin.Origin.{Origin}
 use Rattle.kc_faults.specs.Origins.{BeginsIn}
 use Rattle.kc_texts.specs.Written.{Writes, Begins}
 use Rattle.kc_redact.specs.Redacted.{IsRedaction, IsHostRedaction}
-use Rattle.kc_redact.proofs.Redacted.{is_redaction, is_host_redaction, header-taken}
-use Rattle.kc_types.specs.declared.reply.Reply.{Reply}
+use Rattle.kc_redact.proofs.Redacted.{is_redaction, is_host_redaction, header-taken, host-number}
 use Rattle.kc_remarks.specs.declared.denials.Denials.{Denials}
 use Rattle.kc_remarks.specs.declared.denials.Answered.{Answered}
 use Rattle.kc_cli.specs.Answers.{AreAnswered}
 use Rattle.kc_cli.proofs.Counted.{answered_by}
 use Rattle.kc_redact_text.specs.Made.{redacted_by}
-use Rattle.kc_redact_text.proofs.Made.{redacted-length}
 use Rattle.kc_redact_text.specs.Reading.{IsHeadAndCalls}
 use Rattle.kc_redact_text.specs.Redacts.{Redacts, BeginsRedaction, IsHostRedacted}
 
@@ -63,5 +61,5 @@ answers_host origin None trace head kept denials answered made count same = tt
 answers_host origin (Some start) None head kept denials answered made count same = tt
 answers_host origin (Some start) (Some text) head kept denials answered made count same =
     let read = made.3 in
-    let long : answered.calls ≡ length read.calls = count ∙ ap length read.redacted ∙ redacted-length made.0 read.calls in
-    (made.0, made.2, read.calls, read.read, answered_by made.0 read.calls answered long (rw same read.counted))
+    let long : answered.calls ≡ length read.calls = count ∙ ap length read.redacted ∙ host-number made.0 read.calls in
+    (made.0, made.2, (read.calls, read.read, answered_by made.0 read.calls answered long (rw same read.counted)))

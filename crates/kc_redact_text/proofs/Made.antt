@@ -1,5 +1,5 @@
 -- Redacting calls as they come in two stretches is redacting them in one.
-use Rattle.std.proofs.Common.{append_assoc, append-nil, subst, length, suc, ◌≤◌, arith, ◌≡◌, ℕ, Bool, true, false, not, List, [], ◌∷◌, ◌++◌, Option, Some, None, refl, sym, ap, ◌∙◌}
+use Rattle.std.proofs.Common.{append_assoc, append-nil, subst, length, ◌≤◌, arith, ◌≡◌, ℕ, Bool, true, false, not, List, [], ◌∷◌, ◌++◌, Option, Some, None, refl, sym, ap, ◌∙◌}
 use Rattle.std.proofs.lemmas.List.{map-append}
 use Rattle.std.specs.Prelude.{if◌then◌else◌}
 use Rattle.kc_types.specs.declared.call.Call.{Call}
@@ -8,12 +8,13 @@ use Rattle.kc_types.specs.declared.owner.Owner.{Owner}
 use Rattle.kc_types.specs.declared.owner.Owner.TheVariants.{Core, Host, Free, Vm}
 use Rattle.kc_model.specs.State.{State, frame_at}
 use Rattle.kc_types.specs.declared.reply.Reply.{Reply}
-use Rattle.kc_model.specs.Next.{next, replies_from, state_after}
+use Rattle.kc_model.specs.Next.{next, state_after}
 use Rattle.kc_model.specs.Redaction.{counts}
 use Rattle.kc_model.specs.Blanking.{is_guests}
 use Rattle.kc_model.proofs.States.Runs.{state_after-append, replies_from-append}
 use Rattle.kc_remarks.specs.declared.denials.Denials.{Denials}
 use Rattle.kc_remarks.specs.Denials.{Counts}
+use Rattle.kc_cli.proofs.Counted.{one_each}
 use Rattle.kc_redact.specs.Redacted.{blanked, redacted_call, redacted_in, redacted_from, all_frames}
 use Rattle.kc_redact_text.specs.Kept.{blanked_call}
 use Rattle.kc_redact_text.specs.Made.{is_hidden, redacted_next, core_next, redacted_by, core_after, reply_next, replies_by, CountsMore}
@@ -114,12 +115,4 @@ counts-then core now xs call before mid after at one two =
 -- there is a reply to each call, if there is a core
 pub replies-few : (core : Option State) (calls : List Call) → length (replies_by core calls) ≤ length calls
 replies-few None calls = omega arith
-replies-few (Some m) calls = let each = one-each m calls in omega (arith, each)
-  where
-    one-each : (m : State) (calls : List Call) → length (replies_from m calls) ≡ length calls
-    one-each m [] = refl
-    one-each m (call ∷ calls) = ap suc (one-each (next m call).1 calls)
-
-pub redacted-length : (m : State) (calls : List Call) → length (redacted_from m calls) ≡ length calls
-redacted-length m [] = refl
-redacted-length m (call ∷ calls) = ap suc (redacted-length (next m call).1 calls)
+replies-few (Some m) calls = let each = one_each m calls in omega (arith, each)

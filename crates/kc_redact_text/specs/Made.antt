@@ -35,15 +35,16 @@ abbrev pub core_after : Option State → List Call → Option State
 core_after None calls = None
 core_after (Some m) calls = Some (state_after m calls)
 
--- the replies of the core, if there is one
+-- the reply of the core to a call, if there is one
 abbrev pub reply_next : Option State → Call → List Reply
 reply_next None call = []
 reply_next (Some m) call = (next m call).0 ∷ []
 
+-- its replies to calls in order
 abbrev pub replies_by : Option State → List Call → List Reply
 replies_by None calls = []
 replies_by (Some m) calls = replies_from m calls
 
--- counts of any replies become those of these after them
+-- the counts of any replies become those of these replies after them
 abbrev pub CountsMore : List Reply → Denials → Denials → Type 0
 CountsMore more old new = (replies : List Reply) → Counts replies old → Counts (replies ++ more) new

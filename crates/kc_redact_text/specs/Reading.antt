@@ -1,5 +1,5 @@
 -- How far a trace that is redacted has been read.
-use Rattle.std.specs.Prelude.{◌≡◌, ◌≢◌, ℕ, List, ◌++◌, take, Option, None, Result, Ok}
+use Rattle.std.specs.Prelude.{◌≡◌, ◌≢◌, ℕ, List, ◌++◌, take, Option, Result, Ok}
 use Rattle.std.specs.Io.KnownBytes.{Consumes}
 use Rattle.kc_types.specs.declared.call.Call.{Call}
 use Rattle.kc_model.specs.State.{State}
@@ -15,7 +15,8 @@ use Rattle.kc_remarks.specs.Denials.{AreCounts}
 use Rattle.kc_redact_text.specs.Made.{redacted_by, core_after, replies_by, CountsMore}
 use Rattle.kc_redact_text.specs.declared.reading.Redacting.{Redacting}
 
--- calls that are redacted as others are, and that the core, if there is one, answers as those, and after which it is as it is after those
+-- calls that are redacted as others are; the core, if there is one, answers both alike, and is in the same state after
+-- both
 pub record AreAsGood (core : Option State) (calls others : List Call) : Type 0 where
   pub redacted : redacted_by core calls ≡ redacted_by core others
   pub made : core_after core calls ≡ core_after core others

@@ -59,7 +59,7 @@ fn is_hidden(core: &KCore, call: &Call) -> bool
 }
 
 /// Redacts a call: what a virtual processor writes, and if there is a core, also what the host writes to a frame of a
-/// VM that is active before the call, which is then made on the core, whose reply is counted. `Memory` if memory runs
+/// VM that is active before the call. The call is then made on the core, and its reply counted. `Memory` if memory runs
 /// out.
 pub(crate) fn redact_next(
     core: &mut Option<KCore>,

@@ -44,8 +44,8 @@ fn read_head<T: Source>(source: &mut T, head: &mut [u8; HEADER]) -> Result<usize
     Ok(used)
 }
 
-/// Appends some calls as a redacted trace has them, and makes them on the core, if there is one, whose replies are
-/// counted. The memory of the bytes that are left out is zeroed.
+/// Appends some calls as a redacted trace has them. If there is a core, they are made on it, and its replies counted.
+/// The memory of the bytes that are left out is zeroed.
 fn push_each(
     calls: &mut Vec<RedactedCall>,
     core: &mut Option<KCore>,

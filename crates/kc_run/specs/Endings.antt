@@ -16,11 +16,12 @@ use Rattle.kc_run.specs.declared.ending.Ending.TheVariants as endings
 abbrev pub Ended : Type 0
 Ended = Result Ending TextFault
 
+-- `Done` if it is so, and otherwise the other ending
 abbrev pub ending_of : Bool → Ending → Ending
 ending_of true other = endings.Done
 ending_of false other = other
 
--- that of a replay whose last state is compared
+-- the ending of a replay whose last state is compared, by the first line that differs, if one does
 abbrev pub compared_by : Answered → Option ℕ → Ending
 compared_by answered None = endings.Answered answered
 compared_by answered (Some line) = endings.Another answered line
@@ -29,21 +30,23 @@ abbrev pub compared_as : Result Compared TextFault → Ended
 compared_as (Ok made) = Ok (compared_by made.answered made.difference)
 compared_as (Err fault) = Err fault
 
--- that of an engine that has no answer, and of one that answers yes or no
+-- how an engine ends that has no answer
 abbrev pub done_as : {A : Type 0} → Result A TextFault → Ended
 done_as (Ok answer) = Ok endings.Done
 done_as (Err fault) = Err fault
 
+-- how one ends that answers yes or no
 abbrev pub judged_as : Result Bool TextFault → Ending → Ended
 judged_as (Ok so) other = Ok (ending_of so other)
 judged_as (Err fault) other = Err fault
 
--- that of an engine that counts how calls were answered
+-- how one ends that counts how calls were answered
 abbrev pub answered_as : Result Answered TextFault → Ended
 answered_as (Ok answered) = Ok (endings.Answered answered)
 answered_as (Err fault) = Err fault
 
--- 0 if all is as it was asked, 1 if the state is another one or something is found in the dump, else that of the fault, or of a volume's
+-- the exit status: 0 if all is as it was asked, 1 if the state differs or something is found in the dump, and otherwise
+-- that of the fault, or of the volume's fault
 abbrev pub status_after : Ended → ℕ
 status_after (Ok endings.Done) = 0
 status_after (Ok (endings.Answered answered)) = 0
@@ -52,6 +55,7 @@ status_after (Ok endings.Unsound) = 1
 status_after (Ok (endings.Refused volume fault)) = status_of (texts.Trace fault)
 status_after (Err fault) = status_of fault
 
+-- the fault, or that of the volume that is refused, if there is one
 abbrev pub fault_in : Ended → Option TextFault
 fault_in (Ok (endings.Refused volume fault)) = Some (texts.Trace fault)
 fault_in (Ok ending) = None
@@ -63,7 +67,7 @@ answered_in (Ok (endings.Answered answered)) = Some answered
 answered_in (Ok (endings.Another answered line)) = Some answered
 answered_in _ = None
 
--- the first line that differs, if a state was compared and is another one
+-- the first line that differs, if a state was compared and differs
 abbrev pub difference_in : Ended → Option ℕ
 difference_in (Ok (endings.Another answered line)) = Some line
 difference_in _ = None
@@ -88,32 +92,38 @@ pub record Takes (sink : Took) (text : List ℕ) : Type 0 where
   pub whole : sink.failed ≡ false → Appends sink.had sink.has text
   pub begun : sink.failed ≡ true → AppendsBeginning sink.had sink.has text
 
--- what is reported of a trace that is probably of another machine, if more than half of its calls were refused or
--- rejected, and if they were not
+-- the line of a warning: so many of so many calls, and what is said of them
+abbrev pub warning_of : ℕ → ℕ → List ℕ → List ℕ
+warning_of count all end = codes "kcore: warning: " ++ decimal count ++ codes " of " ++ decimal all ++ end
+
+-- the warning of a trace that is probably of another machine: if more than half of its calls were refused or rejected
 abbrev pub denied_line : Answered → List ℕ
-denied_line answered = codes "kcore: warning: " ++ decimal answered.denials.total ++ codes " of " ++ decimal answered.calls ++ codes " calls were refused: is this the trace's machine?\n"
+denied_line answered = warning_of answered.denials.total answered.calls (codes " calls were refused: is this the trace's machine?\n")
 
+-- the same if more than half of those that name a frame or a slot name one that the machine does not have
 abbrev pub outside_line : Answered → List ℕ
-outside_line answered = codes "kcore: warning: " ++ decimal (outside_in answered.denials) ++ codes " of " ++ decimal (naming_in answered)
-    ++ codes " calls that name a frame or a slot name one that the machine lacks: is this the trace's machine?\n"
+outside_line answered =
+    warning_of (outside_in answered.denials) (naming_in answered) (codes " calls that name a frame or a slot name one that the machine lacks: is this the trace's machine?\n")
 
+-- the first of these lines if most calls were denied, and otherwise the second
 abbrev pub warning_line : Answered → List ℕ
 warning_line answered = if is_mostly_denied answered then denied_line answered else outside_line answered
 
--- that line, if the trace is one, or nothing
+-- the warning if the trace is probably of another machine, and otherwise nothing
 abbrev pub warning_text : Answered → List ℕ
 warning_text answered = if is_doubted answered then warning_line answered else []
 
--- what is reported of another state, after the warning
+-- what is reported if the state differs, after the warning
 abbrev pub another_text : Answered → List ℕ
 another_text answered = warning_text answered ++ codes "kcore: another state\n"
 
--- the error sink takes the warning if it is to be given, and nothing otherwise
+-- the error sink takes the warning if there is to be one, and nothing otherwise
 abbrev pub IsWarned : Bool → Answered → Took → Type 0 → Type 0
 IsWarned true answered err untouched = Takes err (warning_line answered)
 IsWarned false answered err untouched = untouched
 
--- the error sink takes the line of a fault, of a volume that is refused, of another state or of this warning, and nothing else
+-- the error sink takes the line of a fault or of a volume that is refused, the warning, or what is reported if the state
+-- differs, and nothing else
 abbrev pub IsReported : Ended → Took → Type 0 → Type 0
 IsReported (Ok endings.Done) err untouched = untouched
 IsReported (Ok (endings.Answered answered)) err untouched = IsWarned (is_doubted answered) answered err untouched

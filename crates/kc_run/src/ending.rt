@@ -1,11 +1,11 @@
 //! How the program ends: its exit status, and what it reports on the error sink.
-ghost use Rattle.std.specs.Prelude.{◌≡◌, ◌≤◌, false, true, None, Ok};
+ghost use Rattle.std.specs.Prelude.{◌≡◌, ◌≤◌, false, true, length, None, Ok};
 ghost use Rattle.arrayvec.specs.ArrayString.{array_string_len};
 ghost use Rattle.std.specs.Io.KnownBytes.{Appends};
 ghost use Rattle.kc_texts.specs.Written.{AppendsBeginning};
 ghost use Rattle.kc_remarks.specs.Denials.{is_doubted};
 ghost use Rattle.kc_args.specs.Clashes.{clash_text};
-ghost use Rattle.kc_run.specs.Endings.{Takes, took, status_after, fault_in, answered_in, difference_in, volume_in, warning_line, another_text, IsWarned, IsReported};
+ghost use Rattle.kc_run.specs.Endings.{Takes, took, status_after, fault_in, answered_in, difference_in, volume_in, warning_of, warning_line, warning_text, another_text, IsWarned, IsReported};
 
 use arrayvec::ArrayString;
 use itoa::Buffer;
@@ -73,33 +73,59 @@ fn say<L: Sink>(text: &str, err: &mut L)
     let _ = write_whole(err, text.as_bytes());
 }
 
-/// The line for a trace that is probably of another machine.
-fn warning_line(answered: &Answered) -> ArrayString<256>
-    ensures bytes { result.bytes ≡ warning_line answered.now }
+/// Returns the line of a warning: so many of so many calls, and what is said of them.
+fn warning_of(count: usize, all: usize, end: &str) -> ArrayString<256>
+    requires { length end.now ≤ 100 }
+    ensures bytes { result.bytes ≡ warning_of count all end.now }
     ensures short { array_string_len result ≤ 200 }
 {
-    let (count, of, end) = if answered.is_mostly_denied() {
-        let denied = answered.denials.total as usize;
-        (
-            denied,
-            answered.calls,
-            " calls were refused: is this the trace's machine?\n",
-        )
-    } else {
-        let outside = answered.denials.outside();
-        (
-            outside,
-            answered.naming(),
-            " calls that name a frame or a slot name one that the machine lacks: is this the trace's machine?\n",
-        )
-    };
     let mut line = ArrayString::new();
     line.push_str("kcore: warning: ");
     line.push_str(Buffer::new().format(count));
     line.push_str(" of ");
-    line.push_str(Buffer::new().format(of));
+    line.push_str(Buffer::new().format(all));
     line.push_str(end);
     line
+}
+
+/// Returns the warning of a trace that is probably of another machine.
+fn warning_line(answered: &Answered) -> ArrayString<256>
+    ensures bytes { result.bytes ≡ warning_line answered.now }
+    ensures short { array_string_len result ≤ 200 }
+{
+    if answered.is_mostly_denied() {
+        warning_of(
+            answered.denials.total as usize,
+            answered.calls,
+            " calls were refused: is this the trace's machine?\n",
+        )
+    } else {
+        warning_of(
+            answered.denials.outside(),
+            answered.naming(),
+            " calls that name a frame or a slot name one that the machine lacks: is this the trace's machine?\n",
+        )
+    }
+}
+
+/// Returns that warning, or nothing if the trace is not doubted.
+fn warning_text(answered: &Answered) -> ArrayString<256>
+    ensures bytes { result.bytes ≡ warning_text answered.now }
+    ensures short { array_string_len result ≤ 200 }
+{
+    if !answered.is_doubted() {
+        return ArrayString::new();
+    }
+    warning_line(answered)
+}
+
+/// Returns what is reported if the state differs, after the warning.
+fn another_text(answered: &Answered) -> ArrayString<256>
+    ensures { result.bytes ≡ another_text answered.now }
+{
+    let mut text = warning_text(answered);
+    text.push_str("kcore: another state\n");
+    text
 }
 
 /// Warns of a trace that is probably of another machine.
@@ -110,20 +136,6 @@ fn warn<L: Sink>(answered: &Answered, err: &mut L)
     if answered.is_doubted() {
         say(warning_line(answered).as_str(), err);
     }
-}
-
-/// Reports another state, after a warning of a trace that is probably of another machine.
-fn say_another<L: Sink>(answered: &Answered, err: &mut L)
-    requires { L.failed err.old ≡ false }
-    ensures { Takes (took L.failed L.taken err.old err.new) (another_text answered.now) }
-{
-    let mut text = if answered.is_doubted() {
-        warning_line(answered)
-    } else {
-        ArrayString::new()
-    };
-    text.push_str("kcore: another state\n");
-    say(text.as_str(), err);
 }
 
 /// Reports the ending of a job that meets no fault, but perhaps a volume that is refused.
@@ -146,7 +158,7 @@ fn end_well<L: Sink>(ending: Ending, err: &mut L) -> Exit
             }
         },
         Ending::Another { answered, line } => {
-            say_another(&answered, err);
+            say(another_text(&answered).as_str(), err);
             Exit {
                 answered: Some(answered),
                 difference: Some(line),

@@ -92,8 +92,8 @@ fn run_over<F: Files, T: Source, K: Sink, R: Threads + Wait + Sync>(
 
 /// Does what a job asks for: opens the files that it names, reads its input, which is one of these or standard input,
 /// and for custody the files of the volumes after it, writes onto the sink what is asked for, and onto the error sink
-/// the line of a fault, of another state, or of a trace that may be of another machine. Each file that was opened is
-/// given back.
+/// the line of a fault, of a state that differs, or of a trace that is probably of another machine. Each file that was
+/// opened is given back.
 pub fn run_job<F: Files, T: Source, K: Sink, L: Sink, R: Threads + Wait + Sync>(
     system: &System<'_, R>,
     files: &mut F,

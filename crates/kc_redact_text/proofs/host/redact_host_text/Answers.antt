@@ -1,4 +1,4 @@
-use Rattle.std.proofs.Common.{refl}
+use Rattle.std.proofs.Common.{refl, ◌∙◌}
 use Rattle.std.proofs.lemmas.Result.{err_from_is_err_and}
 use Rattle.kc_cli.proofs.Sources.{sink_err}
 use Rattle.kc_faults.proofs.Told.{sources_err, texts_err}
@@ -16,7 +16,7 @@ returns-in_err-head-clause-texts g c =
     rw (made.1, made.2) (texts_err _ _ _ _ c.in_err-head.field-0.0 c.in_err-head.ensures.texts)
 
 pub returns-clause-answered : goal.returns-clause-answered
-returns-clause-answered g c = answers_host _ _ _ c.in_ok-head.head c.in_ok-head.calls.items c.in_ok-head.denials _ c.in_ok-head.ensures.ok refl refl
+returns-clause-answered g c = answers_host _ _ _ c.in_ok-head.head c.in_ok-head.calls.items c.in_ok-head.denials _ c.in_ok-head.ensures.ok (c.len.ensures ∙ c.in_ok-head.calls.ok.0) refl
 
 pub returns-clause-ok : goal.returns-clause-ok
 returns-clause-ok g c = writes_host _ _ _ _ _ c.in_ok-head.head c.in_ok-head.calls.items _ c.in_ok-head.ensures.ok c.in_ok-give_redacted.ensures.ok
