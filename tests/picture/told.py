@@ -127,7 +127,7 @@ class Reported:
             if it.owner == vm:
                 begun[frame] = 1, rules.custody_of(it.owner, it.gfn, it.share, it.present)
         told, remarks = core.custody(lines)[1], core_after(config, before).remarks(lines)
-        self.remarks = [line for _, vms, line in remarks if vm in vms]
+        self.remarks = [rules.own(line, vm) for _, vms, line in remarks if vm in vms]
         for line in (it for vms, it in told if vm in vms and "frame" in it):
             if line["frame"] in begun:
                 bars.append(self.bar(vm, line["frame"], *begun.pop(line["frame"]), line["line"] - 1))
@@ -153,8 +153,11 @@ def title_of_remark(line):
     said += f" refused, {line['refused']}" if "refused" in line else f" rejected, image {line['rejected']}"
     if line["frame"] is None:
         return said
+    said += f": frame {line['frame']}"
+    if line["owner"] is None:
+        return said
     owner = line["owner"].replace("vm", "vm ")
-    return f"{said}: frame {line['frame']}, {owner}{place_of(line['gfn'])}"
+    return f"{said}, {owner}{place_of(line['gfn'])}"
 
 
 def lines_in(last, columns, column):

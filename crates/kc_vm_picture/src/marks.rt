@@ -1,6 +1,6 @@
 //! The marks of the picture of one VM: what each is of, where it is drawn, and what its title says.
 ghost use Rattle.std.specs.Prelude.{◌≡◌, ◌++◌, IfOk, OnOk, string_bytes};
-ghost use Rattle.kc_vm_picture.specs.Marks.{mark_of, marks, line_of, denied_kind, access_kind, kind_of, frame_if_held, frame_of, reason_words, named_words, access_words, mark_title, kind_words, marks_title};
+ghost use Rattle.kc_vm_picture.specs.Marks.{mark_of, marks, line_of, denied_kind, access_kind, kind_of, frame_if_held, frame_of, reason_words, foreign_words, named_words, access_words, mark_title, kind_words, marks_title};
 
 use kc_lanes::{MarkKind, Run};
 use kc_picture::{push_owner, push_place};
@@ -116,16 +116,30 @@ fn push_reason(words: &mut String, reason: Denial) -> Result<(), Memory>
     Ok(())
 }
 
-/// Appends the frame that a call names, if there is one.
-fn push_named(words: &mut String, named: Option<NamedFrame>) -> Result<(), Memory>
-    ensures { OnOk result (string_bytes words.new ≡ string_bytes words.old ++ named_words named) }
+/// Appends the number of a frame of another VM, if a call names one.
+fn push_foreign(words: &mut String, foreign: Option<u32>) -> Result<(), Memory>
+    ensures { OnOk result (string_bytes words.new ≡ string_bytes words.old ++ foreign_words foreign) }
 {
-    if let Some(named) = named {
-        let frame = named.frame;
-        write!(words, ": frame {frame}, ")?;
-        push_owner(words, named.owner, named.gfn)?;
+    if let Some(frame) = foreign {
+        write!(words, ": frame {frame}")?;
     }
     Ok(())
+}
+
+/// Appends the frame that a call names, if there is one.
+fn push_named(
+    words: &mut String,
+    foreign: Option<u32>,
+    named: Option<NamedFrame>,
+) -> Result<(), Memory>
+    ensures { OnOk result (string_bytes words.new ≡ string_bytes words.old ++ named_words foreign named) }
+{
+    let Some(named) = named else {
+        return push_foreign(words, foreign);
+    };
+    let frame = named.frame;
+    write!(words, ": frame {frame}, ")?;
+    push_owner(words, named.owner, named.gfn)
 }
 
 /// The title of a call that was denied.
@@ -135,7 +149,7 @@ fn denied_title(alloc: Global, denied: &Denied) -> Result<String, Memory>
     let (line, name) = (denied.line, call_name(denied.call));
     let mut title = format!(in alloc; "line {line}: {name}")?;
     push_reason(&mut title, denied.reason)?;
-    push_named(&mut title, denied.named)?;
+    push_named(&mut title, denied.foreign, denied.named)?;
     Ok(title)
 }
 
