@@ -60,12 +60,12 @@ abbrev pub reason_words : Denial → List ℕ
 reason_words (denial.Refused reason) = codes " refused, " ++ name_of reason
 reason_words (denial.Rejected image) = codes " rejected, image " ++ decimal image
 
--- the number of a frame that it names and that is another VM's, if there is one
+-- the number of a frame of another VM, if it names one
 abbrev pub foreign_words : Option ℕ → List ℕ
 foreign_words None = []
 foreign_words (Some frame) = codes ": frame " ++ decimal frame
 
--- the frame that it names, if there is one; of another VM's only its number
+-- the frame that it names, if there is one
 abbrev pub named_words : Option ℕ → Option NamedFrame → List ℕ
 named_words foreign None = foreign_words foreign
 named_words foreign (Some named) = (codes ": frame " ++ decimal named.frame ++ codes ", ") ++ owner_words named.owner named.gfn
@@ -75,8 +75,9 @@ abbrev pub access_words : Access → List ℕ
 access_words told = codes "line " ++ (decimal told.line ++ (codes ": " ++ (kind_text told.call ++ (codes " of " ++ (decimal told.len
     ++ (codes " bytes from byte " ++ (decimal told.offset ++ (codes " of frame " ++ decimal told.frame))))))))
 
--- as "line 25: hwrite refused, not-present: frame 3, vm 0 at guest frame 7", "line 8: verify rejected, image 0", and
--- "line 31: hread of 49 bytes from byte 55 of frame 3 at guest frame 7"
+-- as "line 25: hwrite refused, not-present: frame 3, vm 0 at guest frame 7", "line 9: map refused, not-host: frame 5" of
+-- another VM's frame, "line 8: verify rejected, image 0", and "line 31: hread of 49 bytes from byte 55 of frame 3 at guest
+-- frame 7"
 abbrev pub mark_title : Mark → List ℕ
 mark_title (mark.Denied told) =
     (codes "line " ++ decimal told.line ++ codes ": " ++ kind_text told.call) ++ (reason_words told.reason ++ named_words told.foreign told.named)

@@ -116,7 +116,7 @@ fn push_reason(words: &mut String, reason: Denial) -> Result<(), Memory>
     Ok(())
 }
 
-/// Appends the number of a frame of another VM that a call names, if there is one.
+/// Appends the number of a frame of another VM, if a call names one.
 fn push_foreign(words: &mut String, foreign: Option<u32>) -> Result<(), Memory>
     ensures { OnOk result (string_bytes words.new ≡ string_bytes words.old ++ foreign_words foreign) }
 {
@@ -126,7 +126,7 @@ fn push_foreign(words: &mut String, foreign: Option<u32>) -> Result<(), Memory>
     Ok(())
 }
 
-/// Appends the frame that a call names, if there is one; of another VM's only its number.
+/// Appends the frame that a call names, if there is one.
 fn push_named(
     words: &mut String,
     foreign: Option<u32>,
@@ -134,15 +134,12 @@ fn push_named(
 ) -> Result<(), Memory>
     ensures { OnOk result (string_bytes words.new ≡ string_bytes words.old ++ named_words foreign named) }
 {
-    match named {
-        Some(named) => {
-            let frame = named.frame;
-            write!(words, ": frame {frame}, ")?;
-            push_owner(words, named.owner, named.gfn)?;
-        },
-        None => push_foreign(words, foreign)?,
-    }
-    Ok(())
+    let Some(named) = named else {
+        return push_foreign(words, foreign);
+    };
+    let frame = named.frame;
+    write!(words, ": frame {frame}, ")?;
+    push_owner(words, named.owner, named.gfn)
 }
 
 /// The title of a call that was denied.
