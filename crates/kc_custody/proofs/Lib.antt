@@ -13,5 +13,10 @@ pub mod Tallied
 pub mod Distinct
 pub mod Taken
 pub mod Traced
+pub mod Appended
+pub mod Ended
+pub mod Grows
+pub mod Growth
+pub mod Gives
 mod Denied
 pub mod Own

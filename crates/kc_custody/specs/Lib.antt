@@ -7,3 +7,6 @@ pub mod Tallies
 pub mod Ends
 pub mod Within
 pub mod Gathered
+pub mod Endings
+pub mod Growing
+pub mod Grown
