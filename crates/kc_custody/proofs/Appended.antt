@@ -1,5 +1,5 @@
 -- What events say of a life with one event more after the others.
-use Rattle.std.proofs.Common.{ℕ, ◌≡◌, ◌≤◌, ◌+◌, ◌-◌, ◌==◌, ◌&&◌, ◌||◌, max, Bool, true, false, not, cond, List, [], ◌∷◌, ◌++◌, length, map, filter, All, Option, Some, None, refl, sym, ap, ap₂, ◌∙◌, arith, append-nil, append_assoc, length-append}
+use Rattle.std.proofs.Common.{ℕ, ◌≡◌, ◌≤◌, ◌+◌, ◌-◌, ◌==◌, ◌&&◌, ◌||◌, max, Bool, true, false, cond, List, [], ◌∷◌, ◌++◌, length, map, filter, Option, Some, None, refl, sym, ap, ap₂, ◌∙◌, arith, append-nil, append_assoc, length-append}
 use Rattle.std.specs.Option.{option_or}
 use Rattle.std.specs.Cmp.{nat_eq_equiv}
 use Rattle.std.proofs.lemmas.Bool.{eqb-true}
@@ -7,14 +7,13 @@ use Rattle.std.proofs.lemmas.List.{map-append}
 use Rattle.std.proofs.lemmas.List.Elements.{filter-append, filter_map-append}
 use Rattle.kc_types.specs.declared.slot.Phase.{Phase}
 use Rattle.kc_types.specs.declared.slot.Phase.TheVariants.{Empty, Booting, Active, Dead}
-use Rattle.kc_types.specs.declared.custody.MeasuredImage.{MeasuredImage}
 use Rattle.kc_types.specs.declared.custody.Change.TheVariants as change
 use Rattle.kc_types.specs.declared.custody.Event.{Event}
 use Rattle.kc_types.specs.declared.custody.Event.TheVariants as event
 use Rattle.kc_types.specs.declared.custody.Sharing.{Sharing}
 use Rattle.kc_model.specs.Resources.{is_in}
 use Rattle.kc_model.specs.Custody.{same_phase}
-use Rattle.kc_model.specs.Lives.{is_turn, life_in, line_of_turn, is_measuring, images_told, is_gain, is_loss, frames_gained, count_different, most_beyond, end_of_sharing, sharing_from, sharings}
+use Rattle.kc_model.specs.Lives.{is_turn, life_in, line_of_turn, images_told, is_gain, is_loss, frames_gained, count_different, most_beyond, end_of_sharing, sharing_from, sharings}
 use Rattle.kc_custody.specs.Growing.{first_images, is_open, has_member, with_member, AreMembers}
 
 pub or-none : {X : Type 0} (o : Option X) → option_or o None ≡ o
@@ -71,7 +70,7 @@ images-more v (event.Change (change.Phase told) ∷ xs) zs = by_turns ((told.vm 
   where
     by_turns : (active dead : Bool) → images_told v (xs ++ zs) ≡ first_images (line_of_turn v Active xs) (line_of_turn v Dead xs) (images_told v xs) (images_told v zs)
         → cond (cond active true dead) told.images (images_told v (xs ++ zs))
-          ≡ first_images (cond active (Some told.line) (line_of_turn v Active xs)) (cond dead (Some told.line) (line_of_turn v Dead xs)) (cond (cond active true dead) told.images (images_told v xs)) (images_told v zs)
+        ≡ first_images (cond active (Some told.line) (line_of_turn v Active xs)) (cond dead (Some told.line) (line_of_turn v Dead xs)) (cond (cond active true dead) told.images (images_told v xs)) (images_told v zs)
     by_turns true dead rest = refl
     by_turns false true rest = by_line (line_of_turn v Active xs)
       where
@@ -136,7 +135,7 @@ most-more v (x ∷ xs) e = by_kind (is_gain v x) (is_loss v x) (not-both v x) (m
     by_kind : (gains loses : Bool) → (gains ≡ true → loses ≡ false)
         → most_beyond v (xs ++ e ∷ []) ≡ max (most_beyond v xs) (length (filter (is_gain v) xs) + length (filter (is_gain v) (e ∷ [])) - (length (filter (is_loss v) xs) + length (filter (is_loss v) (e ∷ []))))
         → cond gains (most_beyond v (xs ++ e ∷ []) + 1) (cond loses (most_beyond v (xs ++ e ∷ []) - 1) (most_beyond v (xs ++ e ∷ [])))
-          ≡ max (cond gains (most_beyond v xs + 1) (cond loses (most_beyond v xs - 1) (most_beyond v xs))) (length (cond gains (x ∷ filter (is_gain v) xs) (filter (is_gain v) xs)) + length (filter (is_gain v) (e ∷ [])) - (length (cond loses (x ∷ filter (is_loss v) xs) (filter (is_loss v) xs)) + length (filter (is_loss v) (e ∷ []))))
+        ≡ max (cond gains (most_beyond v xs + 1) (cond loses (most_beyond v xs - 1) (most_beyond v xs))) (length (cond gains (x ∷ filter (is_gain v) xs) (filter (is_gain v) xs)) + length (filter (is_gain v) (e ∷ [])) - (length (cond loses (x ∷ filter (is_loss v) xs) (filter (is_loss v) xs)) + length (filter (is_loss v) (e ∷ []))))
     by_kind true true apart rest = let never : true ≡ false = apart refl in cc
     by_kind true false apart rest = omega (arith, rest)
     by_kind false true apart rest = omega (arith, rest)
@@ -168,6 +167,7 @@ members-more numbers members x are = by_member (has_member members x) refl
   where
     counts : (held : Bool) → has_member members x ≡ held → count_different (numbers ++ x ∷ []) ≡ cond held (count_different numbers) (count_different numbers + 1)
     counts held is = different-more numbers x ∙ ap (λ (b : Bool). cond b (count_different numbers) (count_different numbers + 1)) (sym (are.same x) ∙ is)
+
     by_member : (held : Bool) → has_member members x ≡ held → AreMembers (numbers ++ x ∷ []) (cond held members (members ++ x ∷ []))
     by_member true held = record {
       count = are.count ∙ sym (counts true held);
@@ -212,7 +212,7 @@ shared-more v (x ∷ xs) e = by_turns (is_turn v Booting x) (is_turn v Empty x) 
   where
     by_turns : (begins ends : Bool) → sharings v (xs ++ e ∷ []) ≡ map (ended_with e) (sharings v xs) ++ cond (is_open v xs) (sharings v (e ∷ [])) []
         → cond begins [] (cond ends [] (sharing_from v x (xs ++ e ∷ []) ++ sharings v (xs ++ e ∷ [])))
-          ≡ map (ended_with e) (cond begins [] (cond ends [] (sharing_from v x xs ++ sharings v xs))) ++ cond (cond begins false (cond ends false (is_open v xs))) (sharings v (e ∷ [])) []
+        ≡ map (ended_with e) (cond begins [] (cond ends [] (sharing_from v x xs ++ sharings v xs))) ++ cond (cond begins false (cond ends false (is_open v xs))) (sharings v (e ∷ [])) []
     by_turns true ends rest = refl
     by_turns false true rest = refl
     by_turns false false rest = ap₂ ◌++◌ (from-more v x xs e) rest ∙ sym (append_assoc (map (ended_with e) (sharing_from v x xs)) (map (ended_with e) (sharings v xs)) (cond (is_open v xs) (sharings v (e ∷ [])) []))

@@ -1,5 +1,5 @@
 -- The endings of frames, with a change of one more.
-use Rattle.std.proofs.Common.{ℕ, ◌≡◌, ◌≢◌, ◌<◌, ◌==◌, ◌&&◌, Bool, true, false, cond, List, [], ◌∷◌, length, get_or, set, replicate, Option, Some, None, refl, sym, ap, ◌∙◌, inl, inr, get_or-set_other, get_or-set_same}
+use Rattle.std.proofs.Common.{ℕ, ◌≡◌, ◌<◌, ◌==◌, false, List, [], ◌∷◌, length, get_or, set, None, refl, sym, inl, inr, get_or-set_other, get_or-set_same}
 use Rattle.std.proofs.Math.ListN.{length-set}
 use Rattle.std.proofs.lemmas.Bool.{cases_eq, ne_eqb}
 use Rattle.kc_types.specs.declared.custody.FrameChange.{FrameChange}
@@ -7,7 +7,7 @@ use Rattle.kc_types.specs.declared.custody.Change.TheVariants as change
 use Rattle.kc_types.specs.declared.custody.Event.{Event}
 use Rattle.kc_types.specs.declared.custody.Event.TheVariants as event
 use Rattle.kc_model.specs.Lives.{end_of_sharing}
-use Rattle.kc_custody.specs.Endings.{FrameEndings, no_endings, HasEnding, HasEndingOf, line_of_ending, NotesChange, NotesEvent}
+use Rattle.kc_custody.specs.Endings.{FrameEndings, no_endings, line_of_ending, NotesChange, NotesEvent}
 use Rattle.kc_custody.proofs.Appended.{or-none}
 
 -- an event that ends no sharing

@@ -1,5 +1,5 @@
 -- Which open lives an event is given to.
-use Rattle.std.proofs.Common.{ℕ, ◌≡◌, ◌≢◌, ◌<◌, ◌≤◌, ◌==◌, ◌||◌, Bool, true, false, List, [], ◌∷◌, length, get_or, set, Option, Some, None, refl, sym, ap, ◌∙◌, inl, inr, arith, get_or-set_other, get_or-set_same}
+use Rattle.std.proofs.Common.{ℕ, ◌≡◌, ◌≢◌, ◌<◌, ◌==◌, ◌||◌, Bool, true, false, length, get_or, set, Some, None, refl, sym, ap, ◌∙◌, inl, inr, get_or-set_other, get_or-set_same}
 use Rattle.std.proofs.Math.ListN.{length-set}
 use Rattle.std.proofs.lemmas.Bool.{cases_eq, eqb-true, eq-eqb}
 use Rattle.kc_types.specs.declared.owner.Owner.{Owner}
@@ -61,6 +61,7 @@ gives-twice told ending old mid new apart differ first second = record {
     or-right : (b c : Bool) → c ≡ true → (b || c) ≡ true
     or-right true c is = refl
     or-right false c is = is
+
     by_owner : (v i : ℕ) → i < length old.lives.items → get_or old.places.items v None ≡ Some i → (had has : Bool) → is_owned_by v told.before.owner ≡ had → is_owned_by v told.after.owner ≡ has → (had || has) ≡ true
         → TakesIn (event.Change (change.Frame told)) ending (get_or old.lives.items i no_life) (get_or new.lives.items i no_life)
     by_owner v i low at true true was owned either = absurd (differ (owner-is v told.before.owner was ∙ sym (owner-is v told.after.owner owned)))

@@ -1,9 +1,8 @@
 -- How a life grows by one event more.
-use Rattle.std.proofs.Common.{ℕ, ◌≡◌, ◌≢◌, ◌<◌, ◌≤◌, ◌+◌, ◌-◌, ◌^◌, ◌==◌, ◌&&◌, ◌||◌, max, nat_lt, Bool, true, false, cond, List, [], ◌∷◌, ◌++◌, length, map, filter, Option, Some, None, refl, sym, ap, ap₂, ◌∙◌, arith, append-nil, length-append}
+use Rattle.std.proofs.Common.{ℕ, ◌≡◌, ◌<◌, ◌≤◌, ◌+◌, ◌-◌, ◌^◌, ◌==◌, ◌&&◌, ◌||◌, max, Bool, true, false, cond, List, [], ◌∷◌, ◌++◌, length, map, filter, Option, Some, None, refl, sym, ap, ap₂, ◌∙◌, arith, append-nil}
 use Rattle.std.specs.Option.{option_or}
 use Rattle.std.proofs.lemmas.List.{map-append}
-use Rattle.std.proofs.lemmas.Bool.{cases_eq, eq-eqb, ne_eqb}
-use Rattle.kc_types.specs.declared.slot.Phase.{Phase}
+use Rattle.std.proofs.lemmas.Bool.{eq-eqb}
 use Rattle.kc_types.specs.declared.slot.Phase.TheVariants.{Empty, Booting, Active, Dead}
 use Rattle.kc_types.specs.declared.custody.MeasuredImage.{MeasuredImage}
 use Rattle.kc_types.specs.declared.custody.Change.TheVariants as change
@@ -12,11 +11,10 @@ use Rattle.kc_types.specs.declared.custody.Event.TheVariants as event
 use Rattle.kc_types.specs.declared.custody.FrameChange.{FrameChange}
 use Rattle.kc_types.specs.declared.custody.PhaseChange.{PhaseChange}
 use Rattle.kc_types.specs.declared.custody.Sharing.{Sharing}
-use Rattle.kc_model.specs.Lives.{is_turn, life_in, is_owned_by, is_measuring, line_of_turn, images_told, is_gain, is_loss, is_read, is_write, frames_gained, count_different, most_beyond, sharings, end_of_sharing}
+use Rattle.kc_model.specs.Lives.{life_in, is_owned_by, is_measuring, line_of_turn, images_told, is_gain, is_loss, is_read, is_write, frames_gained, count_different, sharings}
 use Rattle.kc_custody.specs.declared.open_life.Stretch.{Stretch}
 use Rattle.kc_custody.specs.Endings.{FrameEndings, HasEndingOf, line_of_ending, NotesEvent, NumbersStretches, begins_sharing}
-use Rattle.kc_custody.specs.Tally.{HasRoom}
-use Rattle.kc_custody.specs.Growing.{Growing, with_member, gaining, losing, owning, sharing, sharing_of, stretch_from, first_images, is_open, Start, is_open_since, life_since, with_event, counted, AreMembers, HaveEndings, IsGrowing, HasRoomFor, EndsBy, concerns, IsOf, TakesIn}
+use Rattle.kc_custody.specs.Growing.{Growing, with_member, gaining, losing, owning, sharing, sharing_of, stretch_from, first_images, is_open, Start, is_open_since, life_since, with_event, counted, AreMembers, HaveEndings, IsGrowing, HasRoomFor, EndsBy, concerns, TakesIn}
 use Rattle.kc_custody.proofs.Counts.{counted-short}
 use Rattle.kc_custody.proofs.Appended.{or-none, open-more, life-open, life-closed, line-more, images-more, images-kept, counted-more, gained-more, most-covers, most-more, members-more, ended_with, shared-more}
 
@@ -203,7 +201,7 @@ takes-read w ending old new made = λ start before after room ends alive of is.
     let few : old.reads + 1 < 2 ^ 64 = let n = ap (λ (g : Growing). g.reads) is.counts in let short = (counts-short v start.line start.more).0.0 in omega (arith, n, short, room) in
     let same : (w == v) ≡ true = eq-eqb w v of in
     let step : counted v start.line (life_since start ++ event.Read w ∷ []) ≡ record c { reads = c.reads + 1 } =
-        counted-plain v start.line (life_since start) (event.Read w) 0 1 0 refl refl refl refl refl refl (rw same refl) refl ∙ rw (add-zero c.lost, add-zero c.writes) refl in
+    counted-plain v start.line (life_since start) (event.Read w) 0 1 0 refl refl refl refl refl refl (rw same refl) refl ∙ rw (add-zero c.lost, add-zero c.writes) refl in
     rw (made few) (grows-counts (event.Read w) start before after old (record old { reads = old.reads + 1 }) ends.noted alive refl
     (ap (λ (g : Growing). record g { reads = g.reads + 1 }) is.counts ∙ ap (λ (g : Growing). record g { frames = old.frames; members = old.members; shared = old.shared }) (sym step))
     refl (λ still. refl) refl refl refl is)
@@ -215,7 +213,7 @@ takes-write w ending old new made = λ start before after room ends alive of is.
     let few : old.writes + 1 < 2 ^ 64 = let n = ap (λ (g : Growing). g.writes) is.counts in let short = (counts-short v start.line start.more).0.1 in omega (arith, n, short, room) in
     let same : (w == v) ≡ true = eq-eqb w v of in
     let step : counted v start.line (life_since start ++ event.Write w ∷ []) ≡ record c { writes = c.writes + 1 } =
-        counted-plain v start.line (life_since start) (event.Write w) 0 0 1 refl refl refl refl refl refl refl (rw same refl) ∙ rw (add-zero c.lost, add-zero c.reads) refl in
+    counted-plain v start.line (life_since start) (event.Write w) 0 0 1 refl refl refl refl refl refl refl (rw same refl) ∙ rw (add-zero c.lost, add-zero c.reads) refl in
     rw (made few) (grows-counts (event.Write w) start before after old (record old { writes = old.writes + 1 }) ends.noted alive refl
     (ap (λ (g : Growing). record g { writes = g.writes + 1 }) is.counts ∙ ap (λ (g : Growing). record g { frames = old.frames; members = old.members; shared = old.shared }) (sym step))
     refl (λ still. refl) refl refl refl is)
@@ -232,8 +230,8 @@ takes-active told ending old new phase made = λ start before after room ends al
     let c = counted v start.line (life_since start) in
     let same = turn-own v told of in
     let step : counted v start.line (life_since start ++ e ∷ []) ≡ record c { active = option_or c.active (Some told.line); images = first_images c.active c.dead c.images told.images } =
-        counted-by v start.line (life_since start) e (Some told.line) None None told.images 0 0 0 (rw (same, phase) refl) (rw (same, phase) refl) (rw (same, phase) refl) (rw (is_measuring, same, phase) refl) refl refl refl refl
-        ∙ rw (or-none c.dead, or-none c.cleared, add-zero c.lost, add-zero c.reads, add-zero c.writes) refl in
+    counted-by v start.line (life_since start) e (Some told.line) None None told.images 0 0 0 (rw (same, phase) refl) (rw (same, phase) refl) (rw (same, phase) refl) (rw (is_measuring, same, phase) refl) refl refl refl refl
+    ∙ rw (or-none c.dead, or-none c.cleared, add-zero c.lost, add-zero c.reads, add-zero c.writes) refl in
     rw made (grows-counts e start before after old (record old { active = option_or old.active (Some told.line); images = first_images old.active old.dead old.images told.images }) ends.noted alive (rw (same, phase) refl)
     (ap (λ (g : Growing). record g { active = option_or g.active (Some told.line); images = first_images g.active g.dead g.images told.images }) is.counts ∙ ap (λ (g : Growing). record g { frames = old.frames; members = old.members; shared = old.shared }) (sym step))
     refl (λ still. refl) refl refl (rw (same, phase) refl) is)
@@ -246,8 +244,8 @@ takes-dead told ending old new phase made = λ start before after room ends aliv
     let c = counted v start.line (life_since start) in
     let same = turn-own v told of in
     let step : counted v start.line (life_since start ++ e ∷ []) ≡ record c { dead = option_or c.dead (Some told.line); images = first_images c.active c.dead c.images told.images } =
-        counted-by v start.line (life_since start) e None (Some told.line) None told.images 0 0 0 (rw (same, phase) refl) (rw (same, phase) refl) (rw (same, phase) refl) (rw (is_measuring, same, phase) refl) refl refl refl refl
-        ∙ rw (or-none c.active, or-none c.cleared, add-zero c.lost, add-zero c.reads, add-zero c.writes) refl in
+    counted-by v start.line (life_since start) e None (Some told.line) None told.images 0 0 0 (rw (same, phase) refl) (rw (same, phase) refl) (rw (same, phase) refl) (rw (is_measuring, same, phase) refl) refl refl refl refl
+    ∙ rw (or-none c.active, or-none c.cleared, add-zero c.lost, add-zero c.reads, add-zero c.writes) refl in
     rw made (grows-counts e start before after old (record old { dead = option_or old.dead (Some told.line); images = first_images old.active old.dead old.images told.images }) ends.noted alive (rw (same, phase) refl)
     (ap (λ (g : Growing). record g { dead = option_or g.dead (Some told.line); images = first_images g.active g.dead g.images told.images }) is.counts ∙ ap (λ (g : Growing). record g { frames = old.frames; members = old.members; shared = old.shared }) (sym step))
     refl (λ still. refl) refl refl (rw (same, phase) refl) is)
@@ -264,8 +262,8 @@ takes-empty told ending old new phase made = λ start before after room ends ali
     let c = counted v start.line (life_since start) in
     let same = turn-own v told of in
     let step : counted v start.line (life_since start ++ e ∷ []) ≡ record c { cleared = option_or c.cleared (Some told.line) } =
-        counted-by v start.line (life_since start) e None None (Some told.line) [] 0 0 0 (rw (same, phase) refl) (rw (same, phase) refl) (rw (same, phase) refl) (rw (is_measuring, same, phase) refl) refl refl refl refl
-        ∙ rw (or-none c.active, or-none c.dead, images-none v start.line (life_since start), add-zero c.lost, add-zero c.reads, add-zero c.writes) refl in
+    counted-by v start.line (life_since start) e None None (Some told.line) [] 0 0 0 (rw (same, phase) refl) (rw (same, phase) refl) (rw (same, phase) refl) (rw (is_measuring, same, phase) refl) refl refl refl refl
+    ∙ rw (or-none c.active, or-none c.dead, images-none v start.line (life_since start), add-zero c.lost, add-zero c.reads, add-zero c.writes) refl in
     rw made (grows-counts e start before after old (record old { cleared = option_or old.cleared (Some told.line); members = [] }) ends.noted alive (rw (same, phase) refl)
     (ap (λ (g : Growing). record g { cleared = option_or g.cleared (Some told.line); members = [] }) is.counts ∙ ap (λ (g : Growing). record g { frames = old.frames; members = []; shared = old.shared }) (sym step))
     refl (λ still. let ended : is_open v (e ∷ []) ≡ false = rw (same, phase) refl in let never = sym ended ∙ still in cc) refl refl (rw (same, phase) refl) is)
@@ -337,7 +335,7 @@ frame-kept start told ending l before after old has ends alive owned gain loss i
     let none : frames_gained v (e ∷ []) ≡ [] = rw gain refl in
     let gained : frames_gained v (life_since (with_event e start)) ≡ frames_gained v (life_since start) = ap (frames_gained v) more ∙ gained-more v (life_since start) (e ∷ []) ∙ ap (λ ys. frames_gained v (life_since start) ++ ys) none ∙ append-nil (frames_gained v (life_since start)) in
     let step : counted v start.line (life_since (with_event e start)) ≡ record c { lost = c.lost + l } =
-        ap (counted v start.line) more ∙ counted-plain v start.line (life_since start) e l 0 0 refl refl refl refl (rw gain refl) loss refl refl ∙ rw (add-zero c.reads, add-zero c.writes) refl in
+    ap (counted v start.line) more ∙ counted-plain v start.line (life_since start) e l 0 0 refl refl refl refl (rw gain refl) loss refl refl ∙ rw (add-zero c.reads, add-zero c.writes) refl in
     grows e start before after old (record old { lost = old.lost + l; shared = old.shared ++ begun }) begun ends.noted alive
     (ap (λ (g : Growing). record g { lost = g.lost + l; shared = old.shared ++ begun }) is.counts ∙ ap (λ (g : Growing). record g { frames = old.frames; members = old.members; shared = old.shared ++ begun }) (sym step))
     (is.frames ∙ ap count_different (sym gained)) (λ still. rw gained (is.members alive)) refl stretch.0 stretch.1 is
@@ -357,7 +355,7 @@ frame-gained start told ending before after old ends alive was owned is =
     let one : frames_gained v (e ∷ []) ≡ told.frame ∷ [] = rw (was, owned) refl in
     let gained : frames_gained v (life_since (with_event e start)) ≡ frames_gained v (life_since start) ++ told.frame ∷ [] = ap (frames_gained v) more ∙ gained-more v (life_since start) (e ∷ []) ∙ ap (λ ys. frames_gained v (life_since start) ++ ys) one in
     let step : counted v start.line (life_since (with_event e start)) ≡ record c { gained = c.gained + 1; most = max c.most (c.gained + 1 - c.lost) } =
-        ap (counted v start.line) more ∙ counted-gain v start.line (life_since start) told was owned in
+    ap (counted v start.line) more ∙ counted-gain v start.line (life_since start) told was owned in
     let members : AreMembers (frames_gained v (life_since start) ++ told.frame ∷ []) (with_member old.members told.frame) = members-more (frames_gained v (life_since start)) old.members told.frame (is.members alive) in
     grows e start before after old new begun ends.noted alive
     (ap (λ (g : Growing). record g { frames = new.frames; members = new.members; gained = g.gained + 1; most = max g.most (g.gained + 1 - g.lost); shared = new.shared }) is.counts ∙ ap (λ (g : Growing). record g { frames = new.frames; members = new.members; shared = new.shared }) (sym step))

@@ -1,11 +1,11 @@
 -- How the lives of some events grow by one event more.
-use Rattle.std.proofs.Common.{ℕ, zero, suc, ◌≡◌, ◌≢◌, ◌<◌, ◌≤◌, ◌+◌, ◌-◌, ◌==◌, ◌&&◌, ◌||◌, Bool, true, false, cond, List, [], ◌∷◌, ◌++◌, length, map, All, get_or, set, Option, Some, None, refl, sym, ap, ◌∙◌, inl, inr, arith, append-nil, append_assoc, length-append, get_or-set_other, get_or-set_same}
+use Rattle.std.proofs.Common.{ℕ, zero, suc, ◌≡◌, ◌≢◌, ◌<◌, ◌≤◌, ◌+◌, ◌==◌, ◌&&◌, Bool, true, false, cond, List, [], ◌∷◌, ◌++◌, length, map, All, get_or, set, Option, Some, None, refl, sym, ap, ◌∙◌, inl, inr, arith, append-nil, append_assoc, length-append, get_or-set_other, get_or-set_same}
 use Rattle.std.proofs.Math.ListN.{length-set}
 use Rattle.std.proofs.Math.Seq.{get_or-append_seam}
 use Rattle.std.proofs.lemmas.List.{map-append, length-map, get_or-map, get_or_append_left, get_or_past, ext_get_or}
 use Rattle.std.proofs.lemmas.Bool.{cases_eq, cases_lt, eq-eqb, eqb-true, ne_eqb}
 use Rattle.kc_types.specs.Limits.{slot_limit}
-use Rattle.kc_types.specs.declared.slot.Phase.TheVariants.{Empty, Booting, Active, Dead}
+use Rattle.kc_types.specs.declared.slot.Phase.TheVariants.{Empty, Booting}
 use Rattle.kc_types.specs.declared.custody.PhaseChange.{PhaseChange}
 use Rattle.kc_types.specs.declared.custody.FrameChange.{FrameChange}
 use Rattle.kc_types.specs.declared.custody.Change.TheVariants as change
@@ -13,13 +13,13 @@ use Rattle.kc_types.specs.declared.custody.Event.{Event}
 use Rattle.kc_types.specs.declared.custody.Event.TheVariants as event
 use Rattle.kc_types.specs.declared.custody.Life.{Life}
 use Rattle.kc_model.specs.Custody.{same_phase}
-use Rattle.kc_model.specs.Lives.{is_turn, life_in, lives, life_from, life_of, end_of_sharing}
+use Rattle.kc_model.specs.Lives.{lives, life_from, life_of, end_of_sharing}
 use Rattle.kc_custody.specs.declared.register.Register.{Register}
 use Rattle.kc_custody.specs.declared.growing.Lives.{Lives}
-use Rattle.kc_custody.specs.Endings.{FrameEndings, NotesEvent, NotesChanges, NumbersStretches}
-use Rattle.kc_custody.specs.Tally.{HasRoom}
+use Rattle.kc_custody.specs.Endings.{FrameEndings, NotesChanges, NumbersStretches}
+use Rattle.kc_custody.specs.Growing.{HasRoom}
 use Rattle.kc_custody.specs.Within.{IsWithin}
-use Rattle.kc_custody.specs.Growing.{Growing, new_life, finished, sharing_of, is_open, Start, is_open_since, life_since, with_event, counted, AreMembers, IsGrowing, EndsBy, concerns, IsOf, TakesIn}
+use Rattle.kc_custody.specs.Growing.{Growing, new_life, finished, is_open, Start, is_open_since, with_event, counted, IsGrowing, EndsBy, concerns, IsOf}
 use Rattle.kc_custody.specs.Grown.{Notes, start_from, starts, no_start, no_life, AreGrowing, AreOpen, AreGrown, AreUnset, HaveOwnPlaces, GivesTo}
 use Rattle.kc_custody.proofs.Appended.{open-more}
 use Rattle.kc_custody.proofs.Ended.{noted-left}
@@ -111,9 +111,9 @@ pub finished-all : (endings : List FrameEndings) (told : List Event) (some : Lis
 finished-all endings told some each =
     ext_get_or (life_at no_start) (map (finished endings) some) (map life_at (starts told)) (length-map some (finished endings) ∙ each.count ∙ sym (length-map (starts told) life_at))
     (λ i low.
-        let here : i < length some = rw (length-map some (finished endings)) at low in
-        let begun : i < length (starts told) = rw each.count at here in
-        get_or-map (finished endings) some i no_life (life_at no_start) here ∙ finished-is endings (get_or (starts told) i no_start) (get_or some i no_life) (each.each i begun) ∙ sym (get_or-map life_at (starts told) i no_start (life_at no_start) begun))
+    let here : i < length some = rw (length-map some (finished endings)) at low in
+    let begun : i < length (starts told) = rw each.count at here in
+    get_or-map (finished endings) some i no_life (life_at no_start) here ∙ finished-is endings (get_or (starts told) i no_start) (get_or some i no_life) (each.each i begun) ∙ sym (get_or-map life_at (starts told) i no_start (life_at no_start) begun))
     ∙ sym (lives-are told)
 
 -- no events
@@ -169,24 +169,26 @@ ends-left e ending endings none other = record { noted = noted-left e endings no
 -- a slot's place is written, since its life ends
 open-set : (e : Event) (begun : List Start) (places : List (Option ℕ)) (w : ℕ) (place : Option ℕ) → ((v : ℕ) → v ≢ w → is_open v (e ∷ []) ≡ true) → is_open w (e ∷ []) ≡ false → AreOpen begun places
     → ((i : ℕ) → i < length begun → is_open_since (get_or (map (with_event e) begun) i no_start) ≡ true → get_or (set places w place) (get_or (map (with_event e) begun) i no_start).vm None ≡ Some i)
-      × ((v i : ℕ) → v ≢ w → get_or (set places w place) v None ≡ Some i → (i < length begun) × ((get_or (map (with_event e) begun) i no_start).vm ≡ v) × (is_open_since (get_or (map (with_event e) begun) i no_start) ≡ true))
+    × ((v i : ℕ) → v ≢ w → get_or (set places w place) v None ≡ Some i → (i < length begun) × ((get_or (map (with_event e) begun) i no_start).vm ≡ v) × (is_open_since (get_or (map (with_event e) begun) i no_start) ≡ true))
 open-set e begun places w place alive ended are = (
-    (λ i here still.
+  (λ i here still.
       let s = get_or begun i no_start in
       let at = get_or-map (with_event e) begun i no_start no_start here in
       let both : (is_open_since s && is_open s.vm (e ∷ [])) ≡ true = sym (open-more s.vm s.more e) ∙ rw at at still in
       let other : s.vm ≢ w = λ same. let never = sym ended ∙ ap (λ v. is_open v (e ∷ [])) (sym same) ∙ second (is_open_since s) (is_open s.vm (e ∷ [])) both in cc in
       rw at (get_or-set_other places w s.vm place None other ∙ are.marked i here (first (is_open_since s) (is_open s.vm (e ∷ [])) both))),
-    (λ v i other there.
+  (λ v i other there.
       let held = are.held v i (sym (get_or-set_other places w v place None other) ∙ there) in
       let s = get_or begun i no_start in
       let at = get_or-map (with_event e) begun i no_start no_start held.0 in
       let is : is_open s.vm (e ∷ []) ≡ true = ap (λ u. is_open u (e ∷ [])) held.1 ∙ alive v other in
-      rw at (held.0, held.1, open-more s.vm s.more e ∙ rw (held.2, is) refl)))
+      rw at (held.0, held.1, open-more s.vm s.more e ∙ rw (held.2, is) refl)),
+)
   where
     first : (was is : Bool) → (was && is) ≡ true → was ≡ true
     first true is both = refl
     first false is both = both
+
     second : (was is : Bool) → (was && is) ≡ true → is ≡ true
     second true is both = both
     second false is both = cc

@@ -9,9 +9,6 @@ pub mod Calls
 pub mod Pushed
 pub mod Picked
 pub mod Counts
-pub mod Tallied
-pub mod Distinct
-pub mod Taken
 pub mod Traced
 pub mod Appended
 pub mod Ended

@@ -1,6 +1,5 @@
 -- Growing: what the events since a VM's registering say of its life, and how one event more changes that.
 use Rattle.std.specs.Prelude.{ℕ, ◌≡◌, ◌+◌, ◌-◌, ◌<◌, ◌^◌, ◌==◌, ◌||◌, Bool, true, false, List, [], ◌∷◌, ◌++◌, length, filter, map, max, eqb, Option, None, Some, if◌then◌else◌}
-use Rattle.std.specs.Option.{option_or}
 use Rattle.std.specs.List.{list_any}
 use Rattle.kc_types.specs.declared.slot.Phase.TheVariants.{Empty, Booting, Active, Dead}
 use Rattle.kc_types.specs.declared.custody.MeasuredImage.{MeasuredImage}
@@ -14,7 +13,6 @@ use Rattle.kc_model.specs.Resources.{is_in}
 use Rattle.kc_model.specs.Lives.{is_turn, is_owned_by, life_in, line_of_turn, images_told, frames_gained, count_different, most_beyond, is_gain, is_loss, is_read, is_write, sharings}
 use Rattle.kc_custody.specs.declared.open_life.Stretch.{Stretch}
 use Rattle.kc_custody.specs.Endings.{FrameEndings, HasEndingOf, line_of_ending, NotesEvent, NumbersStretches}
-use Rattle.kc_custody.specs.Tally.{HasRoom}
 
 -- what is said of a life: its lines and images, how many different frames it gained and which, counts, and the stretches begun
 pub record Growing : Type 0 where
@@ -159,6 +157,10 @@ pub record IsGrowing (endings : List FrameEndings) (start : Start) (life : Growi
   pub members : is_open_since start ≡ true → AreMembers (frames_gained start.vm (life_since start)) life.members
   pub shared : map (sharing_of endings) life.shared ≡ sharings start.vm start.more
   pub begun : HaveEndings endings life.shared
+
+-- some events can be counted, and one more after them
+abbrev pub HasRoom : List Event → Type 0
+HasRoom told = length told + 1 < 2 ^ 64
 
 -- whether the event is one of the slot, or of a frame of its VM
 abbrev pub concerns : ℕ → Event → Bool

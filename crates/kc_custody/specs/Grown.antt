@@ -8,7 +8,7 @@ use Rattle.kc_types.specs.declared.custody.Event.TheVariants as event
 use Rattle.kc_model.specs.Custody.{same_phase}
 use Rattle.kc_custody.specs.Endings.{FrameEndings}
 use Rattle.kc_custody.specs.Growing.{Growing, Start, new_life, is_open_since, TakesIn, IsGrowing}
-use Rattle.kc_custody.specs.Tally.{HasRoom}
+use Rattle.kc_custody.specs.Growing.{HasRoom}
 use Rattle.kc_custody.specs.Within.{IsWithin}
 use Rattle.kc_custody.specs.declared.register.Register.{Register}
 use Rattle.kc_custody.specs.declared.growing.Lives.{Lives}

@@ -5,7 +5,7 @@ ghost use Rattle.kc_types.specs.declared.custody.Event.TheVariants as event;
 ghost use Rattle.kc_types.specs.declared.custody.Change.TheVariants as change;
 ghost use Rattle.kc_model.specs.Lives.{lives};
 ghost use Rattle.kc_custody.specs.Within.{IsWithin};
-ghost use Rattle.kc_custody.specs.Tally.{HasRoom};
+ghost use Rattle.kc_custody.specs.Growing.{HasRoom};
 ghost use Rattle.kc_custody.specs.Grown.{AreGrown, Notes};
 
 use crate::endings::Endings;

@@ -269,11 +269,7 @@ impl OpenLife {
 }
 
 /// Stretches with the lines at which they end.
-fn with_ends(
-    alloc: Global,
-    shared: Vec<Stretch>,
-    endings: &Endings,
-) -> Result<Vec<Sharing>, Memory>
+fn with_ends(alloc: Global, shared: Vec<Stretch>, endings: &Endings) -> Result<Vec<Sharing>, Memory>
     ensures { IfOk result (λ sharings. sharings.items ≡ map (sharing_of endings.now) shared.items) }
 {
     let mut ended = Vec::with_capacity(alloc, shared.len())?;

@@ -1,6 +1,6 @@
 use Rattle.std.proofs.Common.{[], arith}
 use Rattle.std.proofs.lemmas.Result.{IfOk-weaker}
-use Rattle.kc_custody.specs.Tally.{HasRoom}
+use Rattle.kc_custody.specs.Growing.{HasRoom}
 use Rattle.kc_custody.proofs.gathering.lives.Goals as goal
 
 pub returns : goal.returns

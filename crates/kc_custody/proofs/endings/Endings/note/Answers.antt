@@ -1,7 +1,6 @@
 use Rattle.kc_custody.specs.Endings.{no_endings, NotesChange, NotesChanges}
 use Rattle.indexmap.proofs.MapLemmas.{OnOk-map}
 use Rattle.kc_custody.proofs.Ended.{noted-by}
-use Rattle.kc_custody.proofs.Grows.{takes-frame}
 use Rattle.kc_custody.proofs.endings.Endings.note.Goals as goal
 
 pub returns-clause-noted : goal.returns-clause-noted

@@ -1,7 +1,7 @@
 use Rattle.std.proofs.Common.{ℕ, ◌++◌, List, All}
 use Rattle.kc_types.specs.declared.custody.Event.{Event}
 use Rattle.kc_custody.specs.Within.{IsWithin}
-use Rattle.kc_custody.specs.Tally.{HasRoom}
+use Rattle.kc_custody.specs.Growing.{HasRoom}
 use Rattle.kc_custody.specs.Grown.{AreGrown}
 use Rattle.kc_custody.proofs.growing.Lives.note_all.Given as goal
 
