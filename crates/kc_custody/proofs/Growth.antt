@@ -2,7 +2,7 @@
 use Rattle.std.proofs.Common.{ℕ, zero, suc, ◌≡◌, ◌≢◌, ◌<◌, ◌≤◌, ◌+◌, ◌==◌, ◌&&◌, Bool, true, false, cond, List, [], ◌∷◌, ◌++◌, length, map, All, get_or, set, Option, Some, None, refl, sym, ap, ◌∙◌, inl, inr, arith, append-nil, append_assoc, length-append, get_or-set_other, get_or-set_same}
 use Rattle.std.proofs.Math.ListN.{length-set}
 use Rattle.std.proofs.Math.Seq.{get_or-append_seam}
-use Rattle.std.proofs.lemmas.List.{map-append, length-map, get_or-map, get_or_append_left, get_or_past, ext_get_or}
+use Rattle.std.proofs.lemmas.List.{map-append, length-map, get_or-map, get_or_append_left, get_or-append-add, get_or_past, ext_get_or}
 use Rattle.std.proofs.lemmas.Bool.{cases_eq, cases_lt, eq-eqb, eqb-true, ne_eqb}
 use Rattle.kc_types.specs.Limits.{slot_limit}
 use Rattle.kc_types.specs.declared.slot.Phase.TheVariants.{Empty, Booting}
@@ -20,7 +20,7 @@ use Rattle.kc_custody.specs.Endings.{FrameEndings, NotesChanges, NumbersStretche
 use Rattle.kc_custody.specs.Growing.{HasRoom}
 use Rattle.kc_custody.specs.Within.{IsWithin}
 use Rattle.kc_custody.specs.Growing.{Growing, new_life, finished, is_open, Start, is_open_since, with_event, counted, IsGrowing, EndsBy, concerns, IsOf}
-use Rattle.kc_custody.specs.Grown.{Notes, start_from, starts, no_start, no_life, AreGrowing, AreOpen, AreGrown, AreUnset, HaveOwnPlaces, GivesTo}
+use Rattle.kc_custody.specs.Grown.{Notes, NotesAll, start_from, starts, no_start, no_life, AreGrowing, AreOpen, AreGrown, AreUnset, HaveOwnPlaces, GivesTo}
 use Rattle.kc_custody.proofs.Appended.{open-more}
 use Rattle.kc_custody.proofs.Ended.{noted-left}
 use Rattle.kc_custody.proofs.Grows.{closed-left, unconcerned-left}
@@ -313,13 +313,23 @@ grown-frame frames ending told before old new notes numbers gives low room grown
     (record { noted = notes there; numbered = λ changed is. let same : told ≡ changed = cc in rw (← same) (numbers there) })
     (gives (own-places (starts before) old.register.places.items grown.places)) grown
 
--- some events are taken in one by one
-pub more-noted : (frames : ℕ) (told some : List Event) (e : Event) (mid new : Lives) → (All (IsWithin frames) some → HasRoom (told ++ some) → AreGrown frames (told ++ some) mid) → Notes e mid new
-    → All (IsWithin frames) (some ++ e ∷ []) → HasRoom (told ++ (some ++ e ∷ [])) → AreGrown frames (told ++ (some ++ e ∷ [])) new
-more-noted frames told some e mid new before notes within room =
-    let count = length-append told (some ++ e ∷ []) in
-    let own = length-append some (e ∷ []) in
-    let short : HasRoom (told ++ some) = let all = length-append told some in omega (arith, count, own, all, room) in
-    let last : IsWithin frames e = rw (get_or-append_seam some e [] e) at (within (length some) e (omega (arith, own))) in
-    let first : All (IsWithin frames) some = λ k d low. rw (get_or_append_left some (e ∷ []) d k low) at (within k d (omega (arith, own, low))) in
-    rw (← append_assoc told some (e ∷ [])) (notes frames (told ++ some) last short (before first short))
+-- some events are taken in, and then more
+pub notes-some : (some more : List Event) (old mid new : Lives) → NotesAll some old mid → NotesAll more mid new → NotesAll (some ++ more) old new
+notes-some some more old mid new first second = λ frames told within room grown.
+    let all = length-append told (some ++ more) in
+    let own = length-append some more in
+    let before = length-append told some in
+    let both = length-append (told ++ some) more in
+    let early : All (IsWithin frames) some = λ k d low. rw (get_or_append_left some more d k low) at (within k d (omega (arith, own, low))) in
+    let late : All (IsWithin frames) more = λ k d low. rw (get_or-append-add some more k d) at (within (length some + k) d (omega (arith, own, low))) in
+    let short : HasRoom (told ++ some) = omega (arith, all, own, before, room) in
+    let long : HasRoom ((told ++ some) ++ more) = omega (arith, all, own, before, both, room) in
+    rw (← append_assoc told some more) (second frames (told ++ some) late long (first frames told early short grown))
+
+pub notes-none : (lives : Lives) → NotesAll [] lives lives
+notes-none lives = λ frames told within room grown. rw (append-nil told) grown
+
+pub notes-one : (e : Event) (old new : Lives) → Notes e old new → NotesAll (e ∷ []) old new
+notes-one e old new notes = λ frames told within room grown.
+    let count = length-append told (e ∷ []) in
+    notes frames told (within 0 e (omega arith)) (omega (arith, count, room)) grown

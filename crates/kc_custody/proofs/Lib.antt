@@ -10,6 +10,7 @@ pub mod Pushed
 pub mod Picked
 pub mod Counts
 pub mod Traced
+pub mod Few
 pub mod Appended
 pub mod Ended
 pub mod Grows

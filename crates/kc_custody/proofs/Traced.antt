@@ -30,7 +30,7 @@ few-of : (version : Version) → slots_of version ≤ 64
 few-of One = omega arith
 few-of Two = omega arith
 
-few-slots : (c : Configuration) → slot_count c ≤ 64
+pub few-slots : (c : Configuration) → slot_count c ≤ 64
 unfolding slot_count
 few-slots c = few-of c.version
 

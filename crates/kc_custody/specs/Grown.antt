@@ -1,5 +1,5 @@
 -- Grown: the lives that have begun in some events, and which of them is open in each slot.
-use Rattle.std.specs.Prelude.{ℕ, ◌≡◌, ◌≢◌, ◌<◌, Bool, true, List, [], ◌∷◌, ◌++◌, length, Option, None, Some, slice_index_or, if◌then◌else◌}
+use Rattle.std.specs.Prelude.{ℕ, ◌≡◌, ◌≢◌, ◌<◌, Bool, true, List, [], ◌∷◌, ◌++◌, length, All, Option, None, Some, slice_index_or, if◌then◌else◌}
 use Rattle.kc_types.specs.Limits.{slot_limit}
 use Rattle.kc_types.specs.declared.slot.Phase.TheVariants.{Booting}
 use Rattle.kc_types.specs.declared.custody.Change.TheVariants as change
@@ -66,3 +66,7 @@ pub record AreGrown (frames : ℕ) (told : List Event) (lives : Lives) : Type 0 
 -- the lives of any events become those of them and this one
 abbrev pub Notes : Event → Lives → Lives → Type 0
 Notes told old new = (frames : ℕ) (before : List Event) → IsWithin frames told → HasRoom before → AreGrown frames before old → AreGrown frames (before ++ told ∷ []) new
+
+-- and of some events more
+abbrev pub NotesAll : List Event → Lives → Lives → Type 0
+NotesAll more old new = (frames : ℕ) (told : List Event) → All (IsWithin frames) more → HasRoom (told ++ more) → AreGrown frames told old → AreGrown frames (told ++ more) new

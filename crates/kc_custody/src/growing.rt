@@ -1,12 +1,10 @@
 //! Lives that grow event by event, so that no event is kept.
-ghost use Rattle.std.specs.Prelude.{◌≡◌, ◌∷◌, ◌++◌, [], ℕ, List, All, OnOk, IfOk};
+ghost use Rattle.std.specs.Prelude.{◌≡◌, [], ℕ, List, OnOk, IfOk};
 ghost use Rattle.kc_types.specs.declared.custody.Event.{Event as AnEvent};
 ghost use Rattle.kc_types.specs.declared.custody.Event.TheVariants as event;
 ghost use Rattle.kc_types.specs.declared.custody.Change.TheVariants as change;
 ghost use Rattle.kc_model.specs.Lives.{lives};
-ghost use Rattle.kc_custody.specs.Within.{IsWithin};
-ghost use Rattle.kc_custody.specs.Growing.{HasRoom};
-ghost use Rattle.kc_custody.specs.Grown.{AreGrown, Notes};
+ghost use Rattle.kc_custody.specs.Grown.{AreGrown, Notes, NotesAll};
 
 use crate::endings::Endings;
 use crate::register::Register;
@@ -64,8 +62,7 @@ impl Lives {
 
     /// Takes in some more events, in order.
     pub fn note_all(&mut self, alloc: Global, events: Vec<Event>) -> Result<(), Memory>
-        ensures { OnOk result ((frames : ℕ) (told : List AnEvent) → All (IsWithin frames) events.items → HasRoom (told ++ events.items)
-            → AreGrown frames told self.old → AreGrown frames (told ++ events.items) self.new) }
+        ensures { OnOk result (NotesAll events.items self.old self.new) }
     {
         for event in events {
             self.note(alloc, event)?;

@@ -1,13 +1,15 @@
-use Rattle.std.proofs.Common.{◌≡◌, sym, ◌∙◌}
+use Rattle.std.proofs.Common.{◌≡◌, [], ◌∷◌, sym, ◌∙◌}
 use Rattle.std.proofs.lemmas.Iterator.Adapters.{YieldsList-from_vec}
 use Rattle.std.proofs.lemmas.Iterator.Consumers.{YieldsList-end}
 use Rattle.std.proofs.lemmas.List.{map-id}
-use Rattle.kc_custody.proofs.Growth.{more-noted}
+use Rattle.kc_custody.proofs.Growth.{notes-none, notes-one, notes-some}
 use Rattle.kc_custody.proofs.growing.Lives.note_all.Goals as goal
 
+pub loop-event-init : goal.loop-event-init
+loop-event-init c = notes-none c.args.self.now
+
 pub loop-event-preserved : goal.loop-event-preserved
-loop-event-preserved c = λ frames told within room grown.
-    more-noted frames told c.loop-event.yielded c.in-Some.event c.loop-event.self c.note.new.self (λ some short. c.loop-event.invariant frames told some short grown) c.in_ok-note.ensures within room
+loop-event-preserved c = notes-some c.loop-event.yielded (c.in-Some.event ∷ []) c.args.self.now c.loop-event.self c.note.new.self c.loop-event.invariant (notes-one c.in-Some.event c.loop-event.self c.note.new.self c.in_ok-note.ensures)
 
 pub returns : goal.returns
 returns c =
