@@ -4,7 +4,9 @@ use Rattle.std.specs.List.{range_with_len}
 use Rattle.std.proofs.lemmas.List.{length-map}
 use Rattle.std.proofs.lemmas.List.FromFn.{length-range_with_len}
 use Rattle.std.proofs.lemmas.List.Sums.{length-filter, count_by-le-length}
-use Rattle.kc_types.specs.Configuration.{Configuration, slot_count}
+use Rattle.kc_types.specs.Configuration.{Configuration, IsConfiguration, most_frames, slot_count}
+use Rattle.kc_types.specs.declared.version.Version.{Version}
+use Rattle.kc_types.specs.declared.version.Version.TheVariants.{One, Two}
 use Rattle.kc_types.specs.declared.owner.Owner.{Owner}
 use Rattle.kc_types.specs.declared.owner.Owner.TheVariants.{Vm}
 use Rattle.kc_types.specs.declared.call.Call.{Call}
@@ -18,11 +20,21 @@ use Rattle.kc_types.specs.declared.custody.Event.TheVariants as event
 use Rattle.kc_model.specs.State.{State, frame_at, slot_at}
 use Rattle.kc_model.specs.Boot.{boot}
 use Rattle.kc_model.specs.Next.{next}
+use Rattle.kc_model.specs.Lawful.{IsLawful}
 use Rattle.kc_model.specs.Custody.{changes_by, frame_change, frame_changes_by, phase_change, phase_changes_by, has_moved, has_turned}
 use Rattle.kc_model.specs.Before.{header_line, is_taken, is_measured, turn_before, frame_before, slots_that, events_before}
 use Rattle.kc_model.specs.Events.{of_owner, access_by, events_by, events_from}
 use Rattle.kc_model.proofs.States.Sizes.{sized-next}
+use Rattle.kc_custody.specs.Growing.{HasRoom}
 use Rattle.kc_custody.proofs.Traced.{few-slots}
+
+few-of : (version : Version) → most_frames version ≤ 65536
+few-of One = omega arith
+few-of Two = omega arith
+
+-- no configuration has more frames
+few-frames-of : (c : Configuration) → IsConfiguration c → c.frames ≤ 65536
+few-frames-of c is = let most = is.few_frames in let few = few-of c.version in omega (arith, most, few)
 
 fewer : {X : Type 0} (test : X → Bool) (xs : List X) (n : ℕ) → length xs ≡ n → length (filter test xs) ≤ n
 fewer test xs n long = let all = length-filter test xs in let some = count_by-le-length test xs in omega (arith, all, some, long)
@@ -91,5 +103,10 @@ few-before m small =
     )
 
 -- what is so before the first call and the events of fewer than 2 ^ 32 calls can be counted, and one event more
-pub few-of-trace : (n : ℕ) (m : State) (calls : List Call) → m.config.frames ≤ 65536 → length calls < 2 ^ 32 → length (events_before m ++ events_from n m calls) + 1 < 2 ^ 64
-few-of-trace n m calls small short = omega (arith, short, few-before m small, few-events n m calls small, length-append (events_before m) (events_from n m calls))
+pub few-of-trace : (n : ℕ) (m : State) (calls : List Call) → IsLawful m → length calls < 2 ^ 32 → HasRoom (events_before m ++ events_from n m calls)
+few-of-trace n m calls is short =
+    let small = few-frames-of m.config is.config in
+    omega (arith, short, few-before m small, few-events n m calls small, length-append (events_before m) (events_from n m calls))
+
+pub room-before : (m : State) → IsLawful m → HasRoom (events_before m)
+room-before m is = omega (arith, few-before m (few-frames-of m.config is.config))

@@ -9,10 +9,12 @@ pub mod Calls
 pub mod Pushed
 pub mod Picked
 pub mod Counts
-pub mod Tallied
-pub mod Distinct
-pub mod Taken
 pub mod Traced
 pub mod Few
+pub mod Appended
+pub mod Ended
+pub mod Grows
+pub mod Growth
+pub mod Gives
 mod Denied
 pub mod Own

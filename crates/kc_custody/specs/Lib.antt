@@ -2,8 +2,7 @@ pub mod Movable
 pub mod Marks
 pub mod Selected
 pub mod Chosen
-pub mod Tally
-pub mod Tallies
-pub mod Ends
 pub mod Within
-pub mod Gathered
+pub mod Endings
+pub mod Growing
+pub mod Grown

@@ -9,30 +9,30 @@
 //! - one VM's changes: `specs/Selected.antt`, `src/selected.rt`
 //! - calls made, and noted or summarized: `src/noting.rt`; the frame that a call names: `src/naming.rt`; which notes are written:
 //!   `specs/Chosen.antt`, `src/chosen.rt`
-//! - how lives are counted, from the last event to the first: what the events after a point say of a slot, of a frame
-//!   and of all: `specs/Tally.antt`, `specs/Ends.antt`, `specs/Gathered.antt`; the loop: `src/gathering.rt`
+//! - lives that grow event by event: one life, `specs/Growing.antt`, `src/open_life.rt`; all of them, `specs/Grown.antt`,
+//!   `src/register.rt`, `src/growing.rt`; where the sharing of frames ends: `specs/Endings.antt`, `src/endings.rt`
 #![tactic(auto)]
 
 mod before;
 mod chosen;
-mod different;
-mod ends;
-mod gathered;
+mod endings;
 mod gathering;
+mod growing;
 mod look_ups;
 mod movable;
 mod naming;
 mod noting;
+mod open_life;
+mod register;
 mod selected;
 mod selected_lives;
-mod tallies;
-mod tally;
 mod telling;
 mod watching;
 
 pub use before::events_before;
 pub use chosen::choose;
 pub use gathering::lives;
+pub use growing::Lives;
 pub use look_ups::custody_at;
 pub use noting::{note_call, note_calls, summarize_call, summarize_calls};
 pub use selected::select;

@@ -6,12 +6,14 @@ ghost use Rattle.kc_model.specs.Events.{events_by, events_from};
 ghost use Rattle.kc_remarks.specs.Attempts.{attempts_in};
 ghost use Rattle.kc_remarks.specs.Remarks.{notes_by, notes_from};
 ghost use Rattle.kc_remarks.specs.Denials.{is_denied, Counts};
+ghost use Rattle.kc_custody.specs.Grown.{NotesAll};
 
+use crate::growing::Lives;
 use crate::naming::named_by;
 use crate::telling::tell_call;
 use kc_core::KCore;
 use kc_remarks::{Attempt, Denials, Note, attempt_told, note_events, remark_told};
-use kc_types::{Call, Event, Memory, Reply};
+use kc_types::{Call, Memory, Reply};
 use std::alloc::Global;
 
 /// Makes a call, and adds its notes; the call has this line in its trace. After `Memory`, if memory runs out, the call
@@ -62,43 +64,47 @@ pub fn note_calls(
     Ok(())
 }
 
-/// Makes a call, and adds what a summary is made of: its events, and the attempt that it is, if it is refused at a page of a VM;
-/// the call has this line in its trace. After `Memory`, if memory runs out, the call may be done, and the attempt lacking.
+/// Makes a call, and adds what a summary is made of: lives take its events in, and the attempt that it is is added, if it is refused
+/// at a page of a VM; the call has this line in its trace. After `Memory`, if memory runs out, the call may be done, the attempt
+/// lacking, and the lives of no use.
 pub fn summarize_call(
     alloc: Global,
     core: &mut KCore,
     call: &Call,
     line: u32,
-    events: &mut Vec<Event>,
+    lives: &mut Lives,
     attempts: &mut Vec<Attempt>,
 ) -> Result<Reply, Memory>
     ensures reply { IfOk result (λ reply. reply ≡ (next core.old call.now).0) }
     ensures state { OnOk result (core.new ≡ (next core.old call.now).1) }
-    ensures events { OnOk result (events.new.items ≡ events.old.items ++ events_by line core.old call.now) }
+    ensures lives { OnOk result (NotesAll (events_by line core.old call.now) lives.old lives.new) }
     ensures attempts { OnOk result (attempts.new.items ≡ attempts.old.items ++ attempts_in (notes_by line core.old call.now)) }
 {
     let named = named_by(core, call);
-    let reply = tell_call(alloc, core, call, line, events)?;
+    let mut events = Vec::new(alloc);
+    let reply = tell_call(alloc, core, call, line, &mut events)?;
+    lives.note_all(alloc, events)?;
     if let Some(attempt) = attempt_told(line, named, &reply) {
         attempts.push(attempt)?;
     }
     Ok(reply)
 }
 
-/// Makes some calls in order, of which the first has this line in the trace, adds their events and attempts, and counts those
-/// that are refused or rejected. After `Memory`, if memory runs out, some calls are done.
+/// Makes some calls in order, of which the first has this line in the trace, adds their attempts, has lives take their events in, and counts those
+/// that are refused or rejected. After `Memory`, if memory runs out, some calls are done, and the lives
+/// are of no use.
 pub fn summarize_calls(
     alloc: Global,
     core: &mut KCore,
     calls: &[Call],
     first: u32,
-    events: &mut Vec<Event>,
+    lives: &mut Lives,
     attempts: &mut Vec<Attempt>,
     denials: &mut Denials,
 ) -> Result<(), Memory>
     requires lines { first + length calls.now < 2 ^ 32 }
     requires counts { denials.old.total + length calls.now < 2 ^ 32 }
-    ensures events { OnOk result (events.new.items ≡ events.old.items ++ events_from first core.old calls.now) }
+    ensures lives { OnOk result (NotesAll (events_from first core.old calls.now) lives.old lives.new) }
     ensures attempts { OnOk result (attempts.new.items ≡ attempts.old.items ++ attempts_in (notes_from first core.old calls.now)) }
     ensures state { OnOk result (core.new ≡ state_after core.old calls.now) }
     ensures denied { OnOk result (denials.new.total ≡ denials.old.total + length (filter is_denied (notes_from first core.old calls.now))) }
@@ -106,7 +112,7 @@ pub fn summarize_calls(
     ensures counted { OnOk result ((replies : List Reply) → Counts replies denials.old → Counts (replies ++ replies_from core.old calls.now) denials.new) }
 {
     for (i, call) in calls.iter().enumerate() {
-        let reply = summarize_call(alloc, core, call, first + i as u32, events, attempts)?;
+        let reply = summarize_call(alloc, core, call, first + i as u32, lives, attempts)?;
         denials.note(&reply);
     }
     Ok(())

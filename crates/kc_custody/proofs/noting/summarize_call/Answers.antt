@@ -1,6 +1,8 @@
-use Rattle.std.proofs.Common.{◌≡◌, ◌∙◌, sym, ap, ap₂, append-nil, Option}
+use Rattle.std.proofs.Common.{◌≡◌, ◌++◌, ◌∙◌, sym, ap, ap₂, append-nil, List, Option}
 use Rattle.std.specs.Option.{option_to_list}
 use Rattle.kc_types.specs.declared.reply.Reply.{Reply}
+use Rattle.kc_types.specs.declared.custody.Event.{Event}
+use Rattle.kc_model.specs.Events.{events_by}
 use Rattle.kc_remarks.specs.declared.remark.NamedFrame.{NamedFrame}
 use Rattle.kc_remarks.specs.Attempts.{attempt_told, attempts_in}
 use Rattle.kc_remarks.specs.Remarks.{notes_by}
@@ -16,3 +18,8 @@ returns-clause-attempts c =
       | in-Some+in_ok-push w ↦ rw (w.attempts-is, w.in-Some.is) w.in_ok-push.ensures.items
       | in_default w ↦ rw (w.attempts-is, w.in_default.is) (sym (append-nil c.args.attempts.now.items))
     ])
+
+pub returns-clause-lives : goal.returns-clause-lives
+returns-clause-lives c =
+    let all = c.in_ok-reply.ensures.told ∙ ap (λ (xs : List Event). xs ++ events_by c.args.line c.args.core.now c.args.call.now) c.new-events.ensures.items in
+    rw (← all) c.in_ok-note_all.ensures

@@ -1,6 +1,9 @@
+use Rattle.std.proofs.Common.{◌≡◌, take, arith}
+use Rattle.std.proofs.lemmas.List.{take_all}
 use Rattle.kc_model.proofs.States.Runs.{state_after-more}
 use Rattle.kc_remarks.proofs.Attempts.{attempts-more}
-use Rattle.kc_custody.proofs.Runs.{calls-told}
+use Rattle.kc_custody.proofs.Runs.{events-more}
+use Rattle.kc_custody.proofs.Growth.{notes-some}
 use Rattle.kc_remarks.specs.Denials.{is_denial}
 use Rattle.kc_custody.proofs.Denied.{denied-more, room, denied-few, counted-more}
 use Rattle.kc_custody.proofs.noting.summarize_calls.Goals as goal
@@ -10,8 +13,8 @@ loop-i-preserved c =
     let step = state_after-more c.args.core.now c.args.calls.now c.loop-i.i c.index-calls-i.result c.loop-i-test.true c.index-calls-i.is in
     let added = c.note.ensures.total (room _ _ _ _ c.requires.counts c.loop-i.invariant.few c.loop-i-test.true) in
     record {
-      events = calls-told c.args.first c.args.core.now c.loop-i.core c.args.calls.now c.loop-i.i c.index-calls-i.result c.args.events.now.items c.loop-i.events.items _ c.loop-i-test.true c.index-calls-i.is
-          c.loop-i.invariant.events c.loop-i.invariant.state c.in_ok-reply.ensures.events;
+      lives = rw (events-more c.args.first c.args.core.now c.args.calls.now c.loop-i.i c.index-calls-i.result c.loop-i-test.true c.index-calls-i.is, ← c.loop-i.invariant.state)
+          (notes-some _ _ c.args.lives.now c.loop-i.lives _ c.loop-i.invariant.lives c.in_ok-reply.ensures.lives);
       attempts = attempts-more c.args.first c.args.core.now c.loop-i.core c.args.calls.now c.loop-i.i c.index-calls-i.result c.args.attempts.now.items c.loop-i.attempts.items _ c.loop-i-test.true c.index-calls-i.is
           c.loop-i.invariant.attempts c.loop-i.invariant.state c.in_ok-reply.ensures.attempts;
       denied = denied-more c.args.first c.args.core.now c.loop-i.core c.args.calls.now c.loop-i.i c.index-calls-i.result c.in_ok-reply.reply c.args.denials.now.total c.loop-i.denials.total c.note.new.self.total c.loop-i-test.true c.index-calls-i.is
@@ -21,3 +24,9 @@ loop-i-preserved c =
       few = denied-few (is_denial c.in_ok-reply.reply) c.args.denials.now.total c.loop-i.denials.total c.note.new.self.total c.loop-i.i c.loop-i.invariant.few added;
       state = rw (step, ← c.loop-i.invariant.state) c.in_ok-reply.ensures.state;
     }
+
+pub returns-clause-lives : goal.returns-clause-lives
+returns-clause-lives c =
+    let past = c.loop-i-test.false in
+    let all : take c.loop-i.i c.args.calls.now ≡ c.args.calls.now = take_all c.loop-i.i c.args.calls.now (omega (arith, past)) in
+    rw all at c.loop-i.invariant.lives
