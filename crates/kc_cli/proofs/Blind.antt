@@ -26,7 +26,7 @@ use Rattle.kc_faults.specs.declared.origin.Origin.{Origin}
 use Rattle.kc_cli.specs.declared.account.CustodyForm.{CustodyForm}
 use Rattle.kc_cli.specs.declared.account.CustodyForm.TheVariants.{Changes, Summary, Picture, Html}
 use Rattle.kc_cli.specs.declared.account.Scope.{Scope}
-use Rattle.kc_cli.specs.Custody.{joined, reported, IsAccount, listed, entries_in, heading_of, IsMadeOf, IsMadeBlind}
+use Rattle.kc_cli.specs.Custody.{joined, IsAccount, listed, entries_in, heading_of, IsMadeOf, IsMadeBlind}
 use Rattle.kc_cli.proofs.Digested.{entries_same, heading_same}
 
 -- ---- what is so before the first call
@@ -70,7 +70,7 @@ account_blank : (form : CustodyForm) (vm : Option ℕ) (heading : Heading) (m : 
 account_blank (Changes remarks) vm heading m volumes count refused told text is given = given
 account_blank Summary vm heading m volumes count refused told text is given =
     given
-    ∙ ap (λ (before : List Event). summary_text_of heading m.config volumes count refused (attempts_in told) (selected_lives vm (lives (before ++ reported heading.is_unseen (events_in told))))) (sym (before_blank m is))
+    ∙ ap (λ (before : List Event). summary_text_of heading m.config volumes count refused (attempts_in told) (selected_lives vm (lives (before ++ events_in told)))) (sym (before_blank m is))
 account_blank Picture vm heading m volumes count refused told text is given = given
 account_blank Html vm heading m volumes count refused told text is given = given
 

@@ -1,5 +1,5 @@
 -- What is kept of calls that come after others.
-use Rattle.std.proofs.Common.{ℕ, ◌≡◌, ◌++◌, Bool, true, false, List, [], ◌∷◌, map, All, Option, None, Result, Ok, Err, subst, refl, ap, ap₂, sym, ◌∙◌, arith, append_assoc}
+use Rattle.std.proofs.Common.{ℕ, ◌≡◌, ◌++◌, Bool, true, false, List, [], ◌∷◌, map, All, Option, None, Result, Ok, Err, subst, refl, ap, ap₂, sym, ◌∙◌, arith, append_assoc, append-nil}
 use Rattle.std.specs.Prelude.{OnOk}
 use Rattle.std.specs.Global.{Vec}
 use Rattle.std.proofs.lemmas.List.{map-append}
@@ -13,13 +13,20 @@ use Rattle.kc_types.specs.declared.custody.Event.{Event}
 use Rattle.kc_types.specs.declared.custody.Event.TheVariants as event
 use Rattle.kc_model.proofs.Custody.Events.{changes-of-changes}
 use Rattle.kc_custody.specs.Within.{IsWithin}
+use Rattle.kc_custody.specs.Growing.{HasRoom}
+use Rattle.kc_custody.specs.Grown.{AreGrown, NotesAll}
+use Rattle.kc_custody.specs.declared.growing.Lives.{Lives}
+use Rattle.kc_custody.proofs.Traced.{before-within, events-within}
+use Rattle.kc_custody.proofs.Few.{room-before}
+use Rattle.kc_types.specs.Configuration.{Configuration}
+use Rattle.kc_model.specs.Lawful.{IsLawful}
 use Rattle.kc_trace.specs.declared.custody_writer.Heading.{Heading}
 use Rattle.kc_trace.specs.declared.volume_writer.VolumeEntry.{VolumeEntry}
 use Rattle.kc_model.specs.State.{State, slot_at}
 use Rattle.kc_model.specs.Boot.{boot}
 use Rattle.kc_model.specs.Custody.{frame_changes_by}
-use Rattle.kc_model.specs.Before.{header_line, is_taken, is_measured, turn_before, frame_before, slots_that, events_before}
-use Rattle.kc_model.specs.Lives.{lives, selected_lives}
+use Rattle.kc_model.specs.Before.{events_before, lives_from}
+use Rattle.kc_model.specs.Lives.{selected_lives}
 use Rattle.kc_custody.specs.Chosen.{chosen}
 use Rattle.kc_cli.proofs.Plain.{plain}
 use Rattle.kc_model.specs.Events.{events_from, change_in, changes_in}
@@ -41,8 +48,8 @@ use Rattle.kc_cli.specs.declared.ledger.Ledger.TheVariants as kept
 use Rattle.kc_cli.specs.declared.ledger.Ledger.{Ledger}
 use Rattle.kc_picture.specs.Frames.{IsIn}
 use Rattle.kc_html.specs.Html.{html_text_of}
-use Rattle.kc_cli.specs.Custody.{IsAccount, page_remarks, reported}
-use Rattle.kc_cli.specs.Ledgers.{attempts_kept, Keeps, events_kept, IsGiven}
+use Rattle.kc_cli.specs.Custody.{IsAccount, page_remarks}
+use Rattle.kc_cli.specs.Ledgers.{attempts_kept, CanCount, Keeps, events_kept, reported, IsGiven}
 
 -- the events of notes that more are added to
 events_more : (n : ℕ) (m : State) (calls : List Call) (told : List Note) (old new : List Event) → new ≡ old ++ events_from n m calls → old ≡ events_in told → new ≡ events_in (told ++ notes_from n m calls)
@@ -77,13 +84,23 @@ pub on_ok_both : {T E : Type 0} (P Q : Type 0) (r : Result T E) → OnOk r P →
 on_ok_both P Q (Ok x) p q = (p, q)
 on_ok_both P Q (Err e) p q = tt
 
-pub summary_grows : (n : ℕ) (m : State) (calls : List Call) (old new : Vec Event) (before after : Vec Attempt) → new.items ≡ old.items ++ events_from n m calls → after.items ≡ before.items ++ attempts_in (notes_from n m calls)
-    → (form : CustodyForm) (start : State) (told : List Note) → Keeps form start told (kept.Summary old before) → Keeps form start (told ++ notes_from n m calls) (kept.Summary new after)
-summary_grows n m calls old new before after grown tried (Changes remarks) start told h = h
-summary_grows n m calls old new before after grown tried Summary start told h =
-    (more_after (events_before start) n m calls told old.items new.items grown h.0, tried ∙ ap (λ (xs : List Attempt). xs ++ attempts_in (notes_from n m calls)) h.1 ∙ sym (both told (notes_from n m calls)))
-summary_grows n m calls old new before after grown tried Picture start told h = h
-summary_grows n m calls old new before after grown tried Html start told h = h
+-- lives that have grown by the events of calls
+pub summary_grows : (n : ℕ) (m : State) (calls : List Call) (old new : Lives) (before after : Vec Attempt)
+    → NotesAll (events_from n m calls) old new → after.items ≡ before.items ++ attempts_in (notes_from n m calls) → (form : CustodyForm) (start : State) (told : List Note) → m.config ≡ start.config → CanCount start (told ++ notes_from n m calls)
+    → Keeps form start told (kept.Summary old before) → Keeps form start (told ++ notes_from n m calls) (kept.Summary new after)
+summary_grows n m calls old new before after grown tried (Changes remarks) start told same room h = h
+summary_grows n m calls old new before after grown tried Summary start told same room h =
+    let so_far = events_before start ++ events_in told in
+    let all = more_after (events_before start) n m calls told so_far (so_far ++ events_from n m calls) refl refl in
+    (subst (λ (told : List Event). AreGrown start.config.frames told new) all (grown start.config.frames so_far (subst (λ (c : Configuration). All (IsWithin c.frames) (events_from n m calls)) same (events-within n m calls)) (subst HasRoom (sym all) room) h.0),
+    tried ∙ ap (λ (xs : List Attempt). xs ++ attempts_in (notes_from n m calls)) h.1 ∙ sym (both told (notes_from n m calls)))
+summary_grows n m calls old new before after grown tried Picture start told same room h = h
+summary_grows n m calls old new before after grown tried Html start told same room h = h
+
+-- lives that have grown by what is so before the first call
+pub summary_begins : (m : State) (none begun : Lives) → IsLawful m → AreGrown m.config.frames [] none → NotesAll (events_before m) none begun → AreGrown m.config.frames (events_before m ++ []) begun
+summary_begins m none begun is fresh grown =
+    subst (λ (told : List Event). AreGrown m.config.frames told begun) (sym (append-nil (events_before m))) (grown m.config.frames [] (before-within m) (room-before m is) fresh)
 
 pub picture_grows : (n : ℕ) (m : State) (calls : List Call) (old new : Vec Event) → new.items ≡ old.items ++ events_from n m calls
     → (form : CustodyForm) (start : State) (told : List Note) → Keeps form start told (kept.Picture old) → Keeps form start (told ++ notes_from n m calls) (kept.Picture new)
@@ -120,7 +137,7 @@ kept_within frames (Changes remarks) m told (kept.VmPicture v before notes) h be
 kept_within frames (Changes remarks) m told (kept.Html notes) h before_is is = absurd h
 kept_within frames Summary m told (kept.Changes events) h before_is is = absurd h
 kept_within frames Summary m told (kept.Notes wanted notes) h before_is is = absurd h
-kept_within frames Summary m told (kept.Summary events attempts) h before_is is = both_within frames _ _ _ before_is is h.0
+kept_within frames Summary m told (kept.Summary grown attempts) h before_is is = All-nil (IsWithin frames)
 kept_within frames Summary m told (kept.Picture events) h before_is is = absurd h
 kept_within frames Summary m told (kept.VmPicture v before notes) h before_is is = absurd h
 kept_within frames Summary m told (kept.Html notes) h before_is is = absurd h
@@ -160,33 +177,6 @@ kept_in_order (Changes remarks) m told (kept.Summary events attempts) h order = 
 kept_in_order Picture m told (kept.Summary events attempts) h order = absurd h
 kept_in_order Html m told (kept.Summary events attempts) h order = absurd h
 
--- what is so before the first call is reported whether or not the machine's own accesses are in the trace
-all_changes : (m : State) → map event.Change (changes_in (events_before m)) ≡ events_before m
-all_changes m =
-    let taken = slots_that is_taken m in
-    let moved = frame_changes_by header_line (boot m.config) m in
-    let settled = slots_that is_measured m in
-    let turned : List ℕ → (ℕ → Phase) → List Event = λ slots phase. map (λ v. turn_before (phase v) v) slots in
-    changes-append (turned taken (λ v. Booting)) _ (changes-mapped (λ v. change.Phase (record { line = header_line; vm = v; phase = Booting; images = [] })) taken)
-    (changes-append (map frame_before moved) _ (changes-mapped change.Frame moved) (changes-mapped (λ v. change.Phase (record { line = header_line; vm = v; phase = (slot_at m v).phase; images = [] })) settled))
-  where
-    changes-mapped : {X : Type 0} (made : X → Change) (xs : List X) → map event.Change (changes_in (map (λ x. event.Change (made x)) xs)) ≡ map (λ x. event.Change (made x)) xs
-    changes-mapped made [] = refl
-    changes-mapped made (x ∷ xs) = ap (λ (rest : List Event). event.Change (made x) ∷ rest) (changes-mapped made xs)
-
-    changes-append : (xs ys : List Event) → map event.Change (changes_in xs) ≡ xs → map event.Change (changes_in ys) ≡ ys → map event.Change (changes_in (xs ++ ys)) ≡ xs ++ ys
-    changes-append xs ys first second =
-        ap (map event.Change) (filter_map-append change_in xs ys)
-        ∙ map-append event.Change (changes_in xs) (changes_in ys)
-        ∙ ap₂ (λ (one other : List Event). one ++ other) first second
-
-reported_after : (unseen : Bool) (m : State) (told : List Event) → reported unseen (events_before m ++ told) ≡ events_before m ++ reported unseen told
-reported_after false m told = refl
-reported_after true m told =
-    ap (map event.Change) (filter_map-append change_in (events_before m) told)
-    ∙ map-append event.Change (changes_in (events_before m)) (changes_in told)
-    ∙ ap (λ (xs : List Event). xs ++ map event.Change (changes_in told)) (all_changes m)
-
 -- what is given of what is kept is the account of the notes
 pub account_given : (form : CustodyForm) (vm : Option ℕ) (heading : Heading) (m : State) (volumes : List VolumeEntry) (count refused : ℕ) (told : List Note) (ledger : Ledger) (text : List ℕ) → Keeps form m told ledger → IsGiven vm heading m.config volumes count refused ledger text → IsAccount form vm heading m volumes count refused told text
 account_given (Changes remarks) vm heading m volumes count refused told (kept.Changes events) text h given =
@@ -201,10 +191,9 @@ account_given (Changes remarks) vm heading m volumes count refused told (kept.Vm
 account_given (Changes remarks) vm heading m volumes count refused told (kept.Html notes) text h given = absurd h
 account_given Summary vm heading m volumes count refused told (kept.Changes events) text h given = absurd h
 account_given Summary vm heading m volumes count refused told (kept.Notes wanted notes) text h given = absurd h
-account_given Summary vm heading m volumes count refused told (kept.Summary events attempts) text h given =
-    given
-    ∙ ap₂ (λ (xs : List Event) (ys : List Attempt). summary_text_of heading m.config volumes count refused ys (selected_lives vm (lives (reported heading.is_unseen xs)))) h.0 h.1
-    ∙ ap (λ (xs : List Event). summary_text_of heading m.config volumes count refused (attempts_in told) (selected_lives vm (lives xs))) (reported_after heading.is_unseen m (events_in told))
+account_given Summary vm heading m volumes count refused told (kept.Summary grown attempts) text h given =
+    given m.config.frames (events_before m ++ events_in told) h.0
+    ∙ ap (λ (xs : List Attempt). summary_text_of heading m.config volumes count refused xs (selected_lives vm (lives_from m (events_in told)))) h.1
 account_given Summary vm heading m volumes count refused told (kept.Picture events) text h given = absurd h
 account_given Summary vm heading m volumes count refused told (kept.VmPicture v before notes) text h given = absurd h
 account_given Summary vm heading m volumes count refused told (kept.Html notes) text h given = absurd h
@@ -221,12 +210,7 @@ account_given Html vm heading m volumes count refused told (kept.Picture events)
 account_given Html vm heading m volumes count refused told (kept.VmPicture v before notes) text h given = absurd h
 account_given Html vm heading m volumes count refused told (kept.Html notes) text h given = given ∙ ap (λ (xs : List Note). html_text_of (notes_text_of heading m.config volumes count refused (chosen vm (page_remarks heading.is_unseen) xs))) h
 
--- what is reported of events within a machine is within it
-pub reported_within : (unseen : Bool) (frames : ℕ) (told : List Event) → All (IsWithin frames) told → All (IsWithin frames) (reported unseen told)
-reported_within false frames told h = h
-reported_within true frames told h = subst (λ (kept : List Event). All (IsWithin frames) kept) (picked None told) (All-filter (is_selected None) (IsWithin frames) told h)
-
--- the changes among them are the same
+-- the changes among the events that a picture is of are the same
 pub changes_reported : (unseen : Bool) (told : List Event) → changes_in (reported unseen told) ≡ changes_in told
 changes_reported false told = refl
 changes_reported true told = changes-of-changes (changes_in told)

@@ -29,6 +29,11 @@ use Rattle.kc_model.proofs.Custody.Bars.{bars_are}
 use Rattle.kc_model.proofs.Custody.Laws.{custody_is}
 use Rattle.kc_model.proofs.Summaries.Summed.{summaries_are}
 use Rattle.kc_model.proofs.States.Runs.{state_after-append, replies_from-append}
+use Rattle.kc_model.proofs.States.Sizes.{config-after}
+use Rattle.kc_model.specs.Before.{events_before}
+use Rattle.kc_types.specs.declared.custody.Event.{Event}
+use Rattle.kc_custody.specs.Growing.{HasRoom}
+use Rattle.kc_custody.proofs.Few.{few-of-trace}
 use Rattle.kc_remarks.proofs.Lived.{attempts_counted}
 use Rattle.kc_custody.proofs.Own.{names_only}
 use Rattle.kc_cli.specs.declared.account.CustodyForm.{CustodyForm}
@@ -36,7 +41,7 @@ use Rattle.kc_cli.specs.declared.telling.Kept.{Kept}
 use Rattle.kc_cli.specs.Custody.{IsCustodyTold, IsCustodyOfAll}
 use Rattle.kc_texts.specs.declared.source.Failed.{Failed}
 use Rattle.kc_faults.specs.Outcomes.{TellsSink}
-use Rattle.kc_cli.specs.Ledgers.{Keeps, HasKept, written}
+use Rattle.kc_cli.specs.Ledgers.{CanCount, Keeps, HasKept, written}
 
 -- the notes on calls after those so far
 pub told_more : (m old : State) (xs ys : List Call) (line : ℕ) → old ≡ state_after m xs → line ≡ first_line + length xs → notes m xs ++ notes_from line old ys ≡ notes m (xs ++ ys)
@@ -86,17 +91,23 @@ is_told m calls count refused is counted denied_so = record {
   own = names_only m calls is;
 }
 
+-- the events of a trace can be counted
+can_count : (m : State) (calls : List Call) → IsLawful m → length calls < 2 ^ 32 → CanCount m (notes m calls)
+can_count m calls is short = subst (λ (told : List Event). HasRoom (events_before m ++ told)) (sym (events-of-notes m calls)) (few-of-trace first_line m calls is short)
+
 -- what is kept of calls after those so far
-kept_more : (form : CustodyForm) (m : State) (xs ys : List Call) (old new : State) (before after : Kept) → HasKept form m xs old before
-    → ((told : List Note) → Keeps form m told before.ledger → Keeps form m (told ++ notes_from before.line old ys) after.ledger) → new ≡ state_after old ys
+kept_more : (form : CustodyForm) (m : State) (xs ys : List Call) (old new : State) (before after : Kept) → IsLawful m → HasKept form m xs old before
+    → ((told : List Note) → old.config ≡ m.config → CanCount m (told ++ notes_from before.line old ys) → Keeps form m told before.ledger → Keeps form m (told ++ notes_from before.line old ys) after.ledger) → new ≡ state_after old ys
     → after.denials.total ≡ before.denials.total + length (filter is_denied (notes_from before.line old ys)) → after.denials.total ≤ before.denials.total + length ys
     → ((replies : List Reply) → Counts replies before.denials → Counts (replies ++ replies_from old ys) after.denials) → after.line ≡ before.line + length ys → after.line < 2 ^ 32 → HasKept form m (xs ++ ys) new after
-kept_more form m xs ys old new before after h grown to added few counted at short =
+kept_more form m xs ys old new before after is h grown to added few counted at short =
     let long = length-append xs ys in
     let so_far = h.line in
     let few_before = h.few in
+    let all = told_more m old xs ys before.line h.left h.line in
+    let room = subst (CanCount m) (sym all) (can_count m (xs ++ ys) is (omega (arith, long, so_far, at, short))) in
     record {
-      ledger = subst (λ (told : List Note). Keeps form m told after.ledger) (told_more m old xs ys before.line h.left h.line) (grown (notes m xs) h.ledger);
+      ledger = subst (λ (told : List Note). Keeps form m told after.ledger) all (grown (notes m xs) (ap (λ (s : State). s.config) h.left ∙ config-after m xs) room h.ledger);
       line = omega (arith, long, so_far, at);
       short = short;
       left = left_more m old new xs ys h.left to;
@@ -106,12 +117,12 @@ kept_more form m xs ys old new before after h grown to added few counted at shor
     }
 
 -- the same after others
-pub kept_after : (form : CustodyForm) (m : State) (first xs ys : List Call) (old new : State) (before after : Kept) → HasKept form m (first ++ xs) old before
-    → ((told : List Note) → Keeps form m told before.ledger → Keeps form m (told ++ notes_from before.line old ys) after.ledger) → new ≡ state_after old ys
+pub kept_after : (form : CustodyForm) (m : State) (first xs ys : List Call) (old new : State) (before after : Kept) → IsLawful m → HasKept form m (first ++ xs) old before
+    → ((told : List Note) → old.config ≡ m.config → CanCount m (told ++ notes_from before.line old ys) → Keeps form m told before.ledger → Keeps form m (told ++ notes_from before.line old ys) after.ledger) → new ≡ state_after old ys
     → after.denials.total ≡ before.denials.total + length (filter is_denied (notes_from before.line old ys)) → after.denials.total ≤ before.denials.total + length ys
     → ((replies : List Reply) → Counts replies before.denials → Counts (replies ++ replies_from old ys) after.denials) → after.line ≡ before.line + length ys → after.line < 2 ^ 32 → HasKept form m (first ++ (xs ++ ys)) new after
-kept_after form m first xs ys old new before after h grown to added few counted at short =
-    subst (λ (all : List Call). HasKept form m all new after) (append_assoc first xs ys) (kept_more form m (first ++ xs) ys old new before after h grown to added few counted at short)
+kept_after form m first xs ys old new before after is h grown to added few counted at short =
+    subst (λ (all : List Call). HasKept form m all new after) (append_assoc first xs ys) (kept_more form m (first ++ xs) ys old new before after is h grown to added few counted at short)
 
 cut_first : (xs ys : List ℕ) (n : ℕ) → (m : ℕ) × (take n xs ≡ take m (xs ++ ys))
 cut_first xs ys n =

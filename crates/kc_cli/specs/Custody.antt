@@ -6,8 +6,6 @@ use Rattle.kc_types.specs.Limits.{call_limit}
 use Rattle.kc_types.specs.Configuration.{slot_count}
 use Rattle.kc_types.specs.declared.call.Call.{Call}
 use Rattle.kc_model.specs.State.{State}
-use Rattle.kc_types.specs.declared.custody.Event.{Event}
-use Rattle.kc_types.specs.declared.custody.Event.TheVariants as event
 use Rattle.kc_model.specs.Lawful.{IsLawful}
 use Rattle.kc_model.specs.Next.{replies_from}
 use Rattle.kc_model.specs.Promises.{KeepsPromises}
@@ -88,11 +86,6 @@ pub record IsCustodyTold (m : State) (calls : List Call) (count refused : ℕ) (
   -- in a report of one VM no note names another VM
   pub own : (v : ℕ) (remarks : Remarks) → All (NamesOnly v) (chosen (Some v) remarks told)
 
--- the events that are reported: the changes alone, if the machine's own accesses are not in the trace
-abbrev pub reported : Bool → List Event → List Event
-reported false told = told
-reported true told = map event.Change (changes_in told)
-
 -- what a page has of calls beside their changes: what was refused, and what was served if the machine's own accesses are in the trace
 abbrev pub page_remarks : Bool → Remarks
 page_remarks unseen = record { refused = true; accesses = not unseen }
@@ -100,7 +93,7 @@ page_remarks unseen = record { refused = true; accesses = not unseen }
 -- the text is that of the changes of all frames and slots, or of one slot's VM, and of what else is asked for; that of the lives of all VMs, or of one slot's, from those that are under way in this state on, with what was refused at their pages; a picture, which says at its foot of what it is; or a page for a browser, with the first of these texts in it, and what was refused and served. The volumes are those that it names
 abbrev pub IsAccount : CustodyForm → Option ℕ → Heading → State → List VolumeEntry → ℕ → ℕ → List Note → List ℕ → Type 0
 IsAccount (Changes remarks) vm heading m volumes count refused told text = text ≡ notes_text_of heading m.config volumes count refused (chosen vm remarks told)
-IsAccount Summary vm heading m volumes count refused told text = text ≡ summary_text_of heading m.config volumes count refused (attempts_in told) (selected_lives vm (lives_from m (reported heading.is_unseen (events_in told))))
+IsAccount Summary vm heading m volumes count refused told text = text ≡ summary_text_of heading m.config volumes count refused (attempts_in told) (selected_lives vm (lives_from m (events_in told)))
 IsAccount Picture vm heading m volumes count refused told text = HasFoot heading text
 IsAccount Html vm heading m volumes count refused told text = text ≡ html_text_of (notes_text_of heading m.config volumes count refused (chosen vm (page_remarks heading.is_unseen) told))
 

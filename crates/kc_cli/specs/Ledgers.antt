@@ -1,11 +1,12 @@
 -- What the engine of custody keeps of the notes on a trace: all of them, or their events, with the attempts at pages of VMs, if these are enough.
-use Rattle.std.specs.Prelude.{◌≡◌, ◌<◌, ◌≤◌, ◌+◌, ◌^◌, ◌++◌, ℕ, Bool, true, false, List, [], filter, length, take, Option, is_some, IfSome, Result, Ok, Err}
+use Rattle.std.specs.Prelude.{◌≡◌, ◌<◌, ◌≤◌, ◌+◌, ◌^◌, ◌++◌, ℕ, Bool, true, false, List, [], map, filter, length, take, Option, is_some, IfSome, Result, Ok, Err}
 use Rattle.std.specs.List.{flat_map}
 use Rattle.std.specs.Io.KnownBytes.{Appends}
 use Rattle.sha2.specs.declared.Sha256.{Sha256}
 use Rattle.kc_types.specs.Configuration.{Configuration}
 use Rattle.kc_types.specs.declared.call.Call.{Call}
 use Rattle.kc_types.specs.declared.custody.Event.{Event}
+use Rattle.kc_types.specs.declared.custody.Event.TheVariants as event
 use Rattle.kc_remarks.specs.declared.remark.Note.{Note}
 use Rattle.kc_remarks.specs.declared.remark.Note.TheVariants as note
 use Rattle.kc_remarks.specs.Remarks.{notes, events_in}
@@ -18,6 +19,8 @@ use Rattle.kc_model.specs.Custody.{first_line}
 use Rattle.kc_model.specs.Lives.{lives, selected_lives}
 use Rattle.kc_model.specs.Before.{events_before}
 use Rattle.kc_model.specs.Events.{changes_in}
+use Rattle.kc_custody.specs.Grown.{AreGrown}
+use Rattle.kc_custody.specs.Growing.{HasRoom}
 use Rattle.kc_custody.specs.Selected.{selected}
 use Rattle.kc_custody.specs.Chosen.{no_remarks, chosen}
 use Rattle.kc_redact.specs.Witness.{HasSeen}
@@ -33,7 +36,7 @@ use Rattle.kc_cli.specs.declared.account.CustodyForm.{CustodyForm}
 use Rattle.kc_cli.specs.declared.account.CustodyForm.TheVariants.{Changes, Summary, Picture, Html}
 use Rattle.kc_html.specs.Html.{html_text_of}
 use Rattle.kc_svg.specs.Foot.{HasFoot}
-use Rattle.kc_cli.specs.Custody.{page_remarks, reported}
+use Rattle.kc_cli.specs.Custody.{page_remarks}
 use Rattle.kc_cli.specs.declared.account.Subject.{Subject}
 use Rattle.kc_cli.specs.declared.account.Told.{Told}
 use Rattle.kc_cli.specs.declared.lined.View.{View}
@@ -42,35 +45,44 @@ use Rattle.kc_cli.specs.declared.ledger.Ledger.{Ledger}
 use Rattle.kc_cli.specs.declared.ledger.Ledger.TheVariants as kept
 use Rattle.kc_cli.specs.declared.telling.Kept.{Kept}
 
+-- these notes on calls that begin in this state have no more events than can be counted
+abbrev pub CanCount : State → List Note → Type 0
+CanCount m told = HasRoom (events_before m ++ events_in told)
+
 -- it keeps what this form is written of, for calls that begin in this state, of these notes on them
 abbrev pub Keeps : CustodyForm → State → List Note → Ledger → Type 0
 Keeps (Changes remarks) m told (kept.Changes events) = (remarks ≡ no_remarks) × (events.items ≡ events_in told)
 Keeps (Changes remarks) m told (kept.Notes wanted notes) = (wanted ≡ remarks) × (notes.items ≡ told)
-Keeps Summary m told (kept.Summary events attempts) = (events.items ≡ events_before m ++ events_in told) × (attempts.items ≡ attempts_in told)
+Keeps Summary m told (kept.Summary lives attempts) = AreGrown m.config.frames (events_before m ++ events_in told) lives × (attempts.items ≡ attempts_in told)
 Keeps Picture m told (kept.Picture events) = events.items ≡ events_before m ++ events_in told
 Keeps Picture m told (kept.VmPicture v before notes) = (before.items ≡ events_before m) × (notes.items ≡ told)
 Keeps Html m told (kept.Html notes) = notes.items ≡ told
 Keeps form m told ledger = ⊥
 
--- the events among what it keeps
+-- the events that it keeps, or that are among its notes
 abbrev pub events_kept : Ledger → List Event
 events_kept (kept.Changes events) = events.items
 events_kept (kept.Notes wanted notes) = events_in notes.items
-events_kept (kept.Summary events attempts) = events.items
+events_kept (kept.Summary lives attempts) = []
 events_kept (kept.Picture events) = events.items
 events_kept (kept.VmPicture v before notes) = before.items ++ events_in notes.items
 events_kept (kept.Html notes) = events_in notes.items
 
 -- the attempts at pages of VMs that it keeps beside events
 abbrev pub attempts_kept : Ledger → List Attempt
-attempts_kept (kept.Summary events attempts) = attempts.items
+attempts_kept (kept.Summary lives attempts) = attempts.items
 attempts_kept _ = []
+
+-- the events that a picture is of: the changes alone, if the machine's own accesses are not in the trace
+abbrev pub reported : Bool → List Event → List Event
+reported false told = told
+reported true told = map event.Change (changes_in told)
 
 -- the text that is given of what it keeps, by the numbers of calls and of those that were refused or rejected; of a picture's bytes only the foot
 abbrev pub IsGiven : Option ℕ → Heading → Configuration → List VolumeEntry → ℕ → ℕ → Ledger → List ℕ → Type 0
 IsGiven vm heading config volumes count refused (kept.Changes events) text = text ≡ custody_text_of heading config volumes count refused (selected vm (changes_in events.items))
 IsGiven vm heading config volumes count refused (kept.Notes wanted notes) text = text ≡ notes_text_of heading config volumes count refused (chosen vm wanted notes.items)
-IsGiven vm heading config volumes count refused (kept.Summary events attempts) text = text ≡ summary_text_of heading config volumes count refused attempts.items (selected_lives vm (lives (reported heading.is_unseen events.items)))
+IsGiven vm heading config volumes count refused (kept.Summary grown attempts) text = (frames : ℕ) (events : List Event) → AreGrown frames events grown → text ≡ summary_text_of heading config volumes count refused attempts.items (selected_lives vm (lives events))
 IsGiven vm heading config volumes count refused (kept.Picture events) text = HasFoot heading text
 IsGiven vm heading config volumes count refused (kept.VmPicture v before notes) text = HasFoot heading text
 IsGiven vm heading config volumes count refused (kept.Html notes) text = text ≡ html_text_of (notes_text_of heading config volumes count refused (chosen vm (page_remarks heading.is_unseen) notes.items))

@@ -1,9 +1,10 @@
 //! What is written of what was kept of a trace: every change, an object for each life of a VM, a picture, or a page for
 //! a browser.
-ghost use Rattle.std.specs.Prelude.{◌≡◌, ◌<◌, ◌+◌, ◌^◌, ◌++◌, ◌⊎◌, All, Some, filter, false, IfOk, IfErr, OnOk};
+ghost use Rattle.std.specs.Prelude.{◌≡◌, ◌<◌, ◌+◌, ◌^◌, ◌++◌, ◌⊎◌, ℕ, List, All, Some, filter, false, IfOk, IfErr, OnOk};
+ghost use Rattle.kc_types.specs.declared.custody.Event.{Event as AnEvent};
 ghost use Rattle.kc_model.specs.Events.{changes_in};
 ghost use Rattle.kc_model.specs.Lives.{lives, selected_lives};
-ghost use Rattle.kc_custody.specs.Within.{IsWithin};
+ghost use Rattle.kc_custody.specs.Grown.{AreGrown};
 ghost use Rattle.kc_custody.specs.Chosen.{chosen};
 ghost use Rattle.kc_remarks.specs.Remarks.{events_in};
 ghost use Rattle.kc_remarks.specs.Attempts.{AreInOrder};
@@ -13,12 +14,12 @@ ghost use Rattle.kc_vm_picture.specs.Marks.{marks};
 ghost use Rattle.kc_trace.specs.CustodyText.{AreInLine};
 ghost use Rattle.kc_trace.specs.SummaryText.{summary_text_of};
 ghost use Rattle.kc_faults.specs.Outcomes.{TellsSink};
-ghost use Rattle.kc_cli.specs.Custody.{names_trace, names_start, page_remarks, reported};
-ghost use Rattle.kc_cli.specs.Ledgers.{attempts_kept, events_kept, is_remark, GivesAccount, BeginsAccount};
+ghost use Rattle.kc_cli.specs.Custody.{names_trace, names_start, page_remarks};
+ghost use Rattle.kc_cli.specs.Ledgers.{reported, attempts_kept, events_kept, is_remark, GivesAccount, BeginsAccount};
 
 use crate::ledger::Ledger;
 use crate::lined::{View, give_lines, give_whole};
-use kc_custody::{choose, lives, select, select_lives};
+use kc_custody::{Lives, choose, select, select_lives};
 use kc_faults::TextFault;
 use kc_picture::{bars, picture};
 use kc_remarks::{Answered, Attempt, Note, Remarks};
@@ -123,23 +124,20 @@ fn reported(events: Vec<Event>, is_unseen: bool) -> Vec<Event>
     events
 }
 
-/// The summary of some events and attempts.
+/// The summary of lives and attempts.
 fn summary_of(
     alloc: Global,
     subject: &Subject,
-    events: Vec<Event>,
+    grown: Lives,
     attempts: &[Attempt],
     vm: Option<u32>,
 ) -> Result<Vec<u8>, Memory>
-    requires within { All (IsWithin subject.now.config.frames) events.items }
-    requires order { AreInOrder attempts.now }
-    ensures { IfOk result (λ text. text.items
+    requires { AreInOrder attempts.now }
+    ensures { IfOk result (λ text. (frames : ℕ) (events : List AnEvent) → AreGrown frames events grown → text.items
         ≡ summary_text_of subject.now.heading subject.now.config subject.now.volumes.items subject.now.answered.calls
-        subject.now.answered.denials.total attempts.now
-        (selected_lives vm (lives (reported subject.now.heading.is_unseen events.items)))) }
+        subject.now.answered.denials.total attempts.now (selected_lives vm (lives events))) }
 {
-    let events = reported(events, subject.heading.is_unseen);
-    let mut lives = lives(alloc, subject.config.frames(), events)?;
+    let mut lives = grown.into_lives(alloc)?;
     select_lives(&mut lives, vm);
     summary_text(
         alloc,
@@ -254,7 +252,6 @@ pub(crate) fn give_told<K: Sink>(
 ) -> Result<(), TextFault>
     requires out { K.failed out.old ≡ false }
     requires few { told.subject.answered.calls + 2 < 2 ^ 32 }
-    requires within { All (IsWithin told.subject.config.frames) (events_kept told.ledger) }
     requires changes { All (IsIn told.subject.config.frames) (changes_in (events_kept told.ledger)) }
     requires order { AreInOrder (attempts_kept told.ledger) }
     requires volumes { AreInLine told.subject.volumes.items }
@@ -273,8 +270,8 @@ pub(crate) fn give_told<K: Sink>(
             choose(&mut notes, vm, remarks);
             give_lines(alloc, &subject, notes, View::Text, out)
         },
-        Ledger::Summary(events, attempts) => {
-            let Ok(text) = summary_of(alloc, &subject, events, &attempts, vm) else {
+        Ledger::Summary(lives, attempts) => {
+            let Ok(text) = summary_of(alloc, &subject, lives, &attempts, vm) else {
                 return Err(TextFault::Memory);
             };
             give_whole(&text, out)

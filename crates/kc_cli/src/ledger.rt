@@ -6,24 +6,25 @@ ghost use Rattle.kc_model.specs.Next.{replies_from, state_after};
 ghost use Rattle.kc_remarks.specs.declared.remark.Note.{Note};
 ghost use Rattle.kc_remarks.specs.Remarks.{notes_from};
 ghost use Rattle.kc_remarks.specs.Denials.{is_denied, Counts};
-ghost use Rattle.kc_cli.specs.Ledgers.{Keeps};
+ghost use Rattle.kc_cli.specs.Ledgers.{CanCount, Keeps};
 
 use crate::account::CustodyForm;
 use kc_core::KCore;
-use kc_custody::{events_before, note_calls, summarize_calls, tell_calls};
+use kc_custody::{Lives, events_before, note_calls, summarize_calls, tell_calls};
 use kc_remarks::{Attempt, Denials, Note, Remarks};
 use kc_types::{Call, Event, Memory};
 use std::alloc::Global;
 
 /// What is kept to be written in a form: the notes on the calls if remarks are asked for, else their events, which take
-/// less time and memory, for a summary with the attempts at pages of VMs.
+/// less time and memory; for a summary no events, but the lives that they have in them so far, and the attempts at pages of
+/// VMs.
 #[derive(Drop)]
 pub(crate) enum Ledger {
     Changes(Vec<Event>),
     Notes(Remarks, Vec<Note>),
+    /// The lives in what is so before the first call, and in the calls' events.
+    Summary(Lives, Vec<Attempt>),
     /// With what is so before the first call, as events before those of the calls.
-    Summary(Vec<Event>, Vec<Attempt>),
-    /// With the same.
     Picture(Vec<Event>),
     /// For the picture of the VM in a slot: what is so before the first call, and notes, also for marks of what was
     /// refused and served.
@@ -50,8 +51,9 @@ impl Ledger {
             ) => Ok(Ledger::Changes(Vec::new(alloc))),
             CustodyForm::Changes(remarks) => Ok(Ledger::Notes(remarks, Vec::new(alloc))),
             CustodyForm::Summary => {
-                let before = events_before(alloc, core)?;
-                Ok(Ledger::Summary(before, Vec::new(alloc)))
+                let mut lives = Lives::none(alloc, core.config().frames())?;
+                lives.note_all(alloc, events_before(alloc, core)?)?;
+                Ok(Ledger::Summary(lives, Vec::new(alloc)))
             },
             CustodyForm::Picture => {
                 let before = events_before(alloc, core)?;
@@ -77,6 +79,7 @@ impl Ledger {
         requires lines { first + length calls.now < 2 ^ 32 }
         requires counts { denials.old.total + length calls.now < 2 ^ 32 }
         ensures kept { OnOk result ((form : CustodyForm) (start : State) (told : List Note)
+            → core.old.config ≡ start.config → CanCount start (told ++ notes_from first core.old calls.now)
             → Keeps form start told self.old
             → Keeps form start (told ++ notes_from first core.old calls.now) self.new) }
         ensures state { OnOk result (core.new ≡ state_after core.old calls.now) }
@@ -89,8 +92,8 @@ impl Ledger {
         match self {
             Ledger::Changes(events) => tell_calls(alloc, core, calls, first, events, denials),
             Ledger::Notes(_, notes) => note_calls(alloc, core, calls, first, notes, denials),
-            Ledger::Summary(events, attempts) => {
-                summarize_calls(alloc, core, calls, first, events, attempts, denials)
+            Ledger::Summary(lives, attempts) => {
+                summarize_calls(alloc, core, calls, first, lives, attempts, denials)
             },
             Ledger::Picture(events) => tell_calls(alloc, core, calls, first, events, denials),
             Ledger::VmPicture(_, _, notes) => note_calls(alloc, core, calls, first, notes, denials),

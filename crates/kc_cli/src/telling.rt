@@ -4,6 +4,7 @@ ghost use Rattle.std.specs.Io.KnownBytes.{IsAtEnd};
 ghost use Rattle.kc_types.specs.Limits.{call_limit};
 ghost use Rattle.kc_types.specs.declared.call.Call.{Call};
 ghost use Rattle.kc_model.specs.State.{State};
+ghost use Rattle.kc_model.specs.Lawful.{IsLawful};
 ghost use Rattle.kc_trace.specs.declared.fault.TraceFault.{TraceFault};
 ghost use Rattle.kc_trace.specs.Trace.{IsTrace, IsRefused};
 ghost use Rattle.kc_texts.specs.Ends.{ReadFailed};
@@ -109,7 +110,7 @@ impl Kept {
             × IfSome (T.left trace.old) (λ text. IsTrace text calls)
             × (length calls ≤ call_limit) × (self.new.line ≡ self.old.line + length calls)
             × (digest ≡ calls_digest is_named calls)
-            × ((form : CustodyForm) (start : State) (before : List Call)
+            × ((form : CustodyForm) (start : State) (before : List Call) → IsLawful start
             → HasKept form start before core.old self.old
             → HasKept form start (before ++ calls) core.new self.new)) }
         ensures ended { OnOk result (IsAtEnd (T.left trace.new)) }

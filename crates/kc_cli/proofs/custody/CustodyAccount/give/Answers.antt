@@ -20,13 +20,6 @@ told_of-told-requires-clause-line g c = let line = c.requires.told.3.kept.line i
 pub told_of-told-requires-clause-few : goal.told_of-told-requires-clause-few
 told_of-told-requires-clause-few g c = let counted = c.requires.told.3.counted in omega (arith, counted)
 
-pub give_told-requires-clause-within : goal.give_told-requires-clause-within
-give_told-requires-clause-within g c =
-    let h = c.requires.told.3 in
-    let calls = joined h.volumes in
-    let same = c.told_of-told.ensures.config ∙ ap config_of c.into_parts-config.ensures.state ∙ ap config_of c.wipe.ensures ∙ ap config_of h.kept.left ∙ config-after c.requires.told.1 calls in
-    rw (same, c.told_of-told.ensures.ledger) (kept_is_within c.requires.told.0.form c.requires.told.1 calls _ h.kept.ledger)
-
 pub give_told-requires-clause-changes : goal.give_told-requires-clause-changes
 give_told-requires-clause-changes g c =
     let h = c.requires.told.3 in

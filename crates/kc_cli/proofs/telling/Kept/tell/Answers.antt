@@ -14,7 +14,7 @@ loop-witness-init g c = record {
     omega arith,
     omega arith,
     c.in_ok-witness.ensures.seen,
-    λ form start before h. subst (λ (calls : List Call). HasKept form start calls c.args.core.now c.args.self.now) (sym (append-nil before)) h,
+    λ form start before is h. subst (λ (calls : List Call). HasKept form start calls c.args.core.now c.args.self.now) (sym (append-nil before)) h,
   );
   few = search rules;
   mark = c.requires.trace;
@@ -62,7 +62,7 @@ loop-witness-preserved g c =
         omega (arith, long, at),
         omega (arith, long, few, same, noted),
         (rw c.deref-in-loop-witness.ensures.value at c.note_all.ensures) c.args.is_named before.1 before.5,
-        λ form start first h. kept_after form start first before.1 calls c.loop-witness.core _ c.loop-witness.self _ (before.6 form start first h) ((rw c.deref.ensures.value at c.in-Ok.ensures.kept) form start)
+        λ form start first is h. kept_after form start first before.1 calls c.loop-witness.core _ c.loop-witness.self _ is (before.6 form start first is h) ((rw c.deref.ensures.value at c.in-Ok.ensures.kept) form start)
             (rw c.deref.ensures.value at c.in-Ok.ensures.state) (rw c.deref.ensures.value at c.in-Ok.ensures.denied) (omega (arith, same, noted)) (rw c.deref.ensures.value at c.in-Ok.ensures.counted) (omega arith) short,
       );
       few = c.in_ok-part.ensures.few;
@@ -84,6 +84,6 @@ returns-in-Ok-finish-clause-ok g c =
       more.1.few,
       omega (arith, long, at),
       c.digest_of.ensures c.args.is_named (before.1 ++ calls) ((rw c.deref-in-loop-witness.ensures.value at c.note_all.ensures) c.args.is_named before.1 before.5),
-      λ form start first h. kept_after form start first before.1 calls c.loop-witness.core _ c.loop-witness.self _ (before.6 form start first h) ((rw c.deref.ensures.value at c.in-Ok.ensures.kept) form start)
+      λ form start first is h. kept_after form start first before.1 calls c.loop-witness.core _ c.loop-witness.self _ is (before.6 form start first is h) ((rw c.deref.ensures.value at c.in-Ok.ensures.kept) form start)
           (rw c.deref.ensures.value at c.in-Ok.ensures.state) (rw c.deref.ensures.value at c.in-Ok.ensures.denied) (omega (arith, same, noted)) (rw c.deref.ensures.value at c.in-Ok.ensures.counted) (omega arith) short,
     )

@@ -2,6 +2,7 @@ use Rattle.std.proofs.Common.{◌≡◌, ◌≤◌, ◌+◌, ◌-◌, ◌++◌, 
 use Rattle.kc_types.specs.Limits.{byte_limit}
 use Rattle.kc_types.specs.declared.call.Call.{Call}
 use Rattle.kc_model.specs.State.{State}
+use Rattle.kc_model.specs.Lawful.{IsLawful}
 use Rattle.kc_cli.specs.declared.account.CustodyForm.{CustodyForm}
 use Rattle.kc_cli.specs.Ledgers.{HasKept, HasWitnessed}
 use Rattle.kc_texts.specs.Streamed.{HasRead}
@@ -12,7 +13,7 @@ abbrev pub invariant-loop-witness : goal.invariant-loop-witness
 invariant-loop-witness g l = record {
   read : (bytes : List ℕ) × (calls : List Call) × HasRead l.stream bytes calls (g.T.Source.left l.fn.trace) (g.T.Source.left l.trace)
       × (l.self.line ≡ l.fn.self.line + length calls) × (l.self.denials.total ≤ l.fn.self.denials.total + length calls) × HasWitnessed l.is_named l.witness calls
-      × ((form : CustodyForm) (start : State) (before : List Call) → HasKept form start before l.fn.core l.fn.self → HasKept form start (before ++ calls) l.core l.self);
+      × ((form : CustodyForm) (start : State) (before : List Call) → IsLawful start → HasKept form start before l.fn.core l.fn.self → HasKept form start (before ++ calls) l.core l.self);
   few : l.stream.total ≤ byte_limit;
   mark : g.T.Source.failed l.trace ≡ false;
 }
