@@ -91,9 +91,10 @@ pub summary_grows : (n : ℕ) (m : State) (calls : List Call) (old new : Lives) 
 summary_grows n m calls old new before after grown tried (Changes remarks) start told same room h = h
 summary_grows n m calls old new before after grown tried Summary start told same room h =
     let so_far = events_before start ++ events_in told in
-    let all = more_after (events_before start) n m calls told so_far (so_far ++ events_from n m calls) refl refl in
-    (subst (λ (told : List Event). AreGrown start.config.frames told new) all (grown start.config.frames so_far (subst (λ (c : Configuration). All (IsWithin c.frames) (events_from n m calls)) same (events-within n m calls)) (subst HasRoom (sym all) room) h.0),
-    tried ∙ ap (λ (xs : List Attempt). xs ++ attempts_in (notes_from n m calls)) h.1 ∙ sym (both told (notes_from n m calls)))
+    let all = more_after (events_before start) n m calls told so_far (so_far ++ events_from n m calls) refl refl in (
+      subst (λ (told : List Event). AreGrown start.config.frames told new) all (grown start.config.frames so_far (subst (λ (c : Configuration). All (IsWithin c.frames) (events_from n m calls)) same (events-within n m calls)) (subst HasRoom (sym all) room) h.0),
+      tried ∙ ap (λ (xs : List Attempt). xs ++ attempts_in (notes_from n m calls)) h.1 ∙ sym (both told (notes_from n m calls)),
+    )
 summary_grows n m calls old new before after grown tried Picture start told same room h = h
 summary_grows n m calls old new before after grown tried Html start told same room h = h
 
