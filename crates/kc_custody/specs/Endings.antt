@@ -12,10 +12,11 @@ pub record FrameEndings : Type 0 where
   pub lines : List ℕ
   pub pending : Bool
 
+-- its sharing did not end, and did not begin
 abbrev pub no_endings : FrameEndings
 no_endings = record { lines = []; pending = false }
 
--- no frame's sharing ended
+-- no frame's sharing ended or began
 abbrev pub AreNone : ℕ → List FrameEndings → Type 0
 AreNone frames endings = endings ≡ replicate frames no_endings
 
@@ -43,16 +44,19 @@ NumbersStretch told new number = begins_sharing told ≡ true → HasEnding new 
 abbrev pub line_of_ending : List FrameEndings → ℕ → ℕ → Option ℕ
 line_of_ending endings frame number = slice_get (slice_index_or endings frame no_endings).lines number
 
+-- the same of the frame with this number
 abbrev pub HasEndingOf : List FrameEndings → ℕ → ℕ → Type 0
 HasEndingOf endings frame number = HasEnding (slice_index_or endings frame no_endings) number
 
--- the same of all frames, by any event
+-- each ending of each frame that was there is there, and has come if it came before, or comes by this event
 pub record NotesEvent (told : Event) (old new : List FrameEndings) : Type 0 where
   pub count : length new ≡ length old
   pub each : (frame number : ℕ) → HasEndingOf old frame number → HasEndingOf new frame number × (line_of_ending new frame number ≡ option_or (line_of_ending old frame number) (end_of_sharing frame (told ∷ [])))
 
+-- the change is taken in, if there is such a frame
 abbrev pub NotesChanges : FrameChange → List FrameEndings → List FrameEndings → Type 0
 NotesChanges told old new = told.frame < length old → NotesEvent (event.Change (change.Frame told)) old new
 
+-- if a stretch begins with the change, this is the number of its ending among those of the frame, which is to come
 abbrev pub NumbersStretches : FrameChange → List FrameEndings → ℕ → Type 0
 NumbersStretches told new number = begins_sharing told ≡ true → HasEndingOf new told.frame number × (line_of_ending new told.frame number ≡ None)

@@ -14,7 +14,8 @@ use Rattle.kc_model.specs.Lives.{is_turn, is_owned_by, life_in, line_of_turn, im
 use Rattle.kc_custody.specs.declared.open_life.Stretch.{Stretch}
 use Rattle.kc_custody.specs.Endings.{FrameEndings, HasEndingOf, line_of_ending, NotesEvent, NumbersStretches}
 
--- what is said of a life: its lines and images, how many different frames it gained and which, counts, and the stretches begun
+-- what is said of a life: its lines and images, how many different frames it gained and, while it is open, which, counts, and
+-- the stretches begun
 pub record Growing : Type 0 where
   pub vm : ℕ
   pub registered : ℕ
@@ -35,9 +36,11 @@ pub record Growing : Type 0 where
 abbrev pub new_life : ℕ → ℕ → Growing
 new_life v line = record { vm = v; registered = line; active = None; dead = None; cleared = None; images = []; frames = 0; members = []; gained = 0; lost = 0; most = 0; reads = 0; writes = 0; shared = [] }
 
+-- whether the number is among these
 abbrev pub has_member : List ℕ → ℕ → Bool
 has_member xs f = list_any (eqb f) xs
 
+-- these and the number, each once
 abbrev pub with_member : List ℕ → ℕ → List ℕ
 with_member xs f = if has_member xs f then xs else xs ++ f ∷ []
 
@@ -47,6 +50,7 @@ first_images None None old new = new
 first_images (Some line) dead old new = old
 first_images None (Some line) old new = old
 
+-- the VM gains a frame
 abbrev pub gaining : ℕ → Growing → Growing
 gaining f life = record life {
   frames = length (with_member life.members f);
@@ -55,6 +59,7 @@ gaining f life = record life {
   most = max life.most (life.gained + 1 - life.lost);
 }
 
+-- it loses one
 abbrev pub losing : Growing → Growing
 losing life = record life { lost = life.lost + 1 }
 
@@ -64,6 +69,7 @@ owning false true f life = gaining f life
 owning true false f life = losing life
 owning _ _ f life = life
 
+-- the stretch that begins with the change of a frame, and has this ending
 abbrev pub stretch_from : FrameChange → ℕ → Stretch
 stretch_from told ending = record { frame = told.frame; gfn = told.after.gfn; from = told.line; ending = ending }
 
@@ -81,7 +87,7 @@ HasRoomFor life = (life.gained + 1 < 2 ^ 64) × (life.lost + 1 < 2 ^ 64)
 abbrev pub sharing_of : List FrameEndings → Stretch → Sharing
 sharing_of endings begun = record { frame = begun.frame; gfn = begun.gfn; from = begun.from; to = line_of_ending endings begun.frame begun.ending }
 
--- the life that is told
+-- the life that is reported, with the lines at which its stretches end
 abbrev pub finished : List FrameEndings → Growing → Life
 finished endings life = record {
   vm = life.vm;
@@ -110,6 +116,7 @@ pub record Start : Type 0 where
   pub line : ℕ
   pub more : List Event
 
+-- the life of this start is open after these events
 abbrev pub is_open_since : Start → Bool
 is_open_since start = is_open start.vm start.more
 
@@ -117,7 +124,7 @@ is_open_since start = is_open start.vm start.more
 abbrev pub life_since : Start → List Event
 life_since start = life_in start.vm start.more
 
--- with one event more
+-- the start with one event more after it
 abbrev pub with_event : Event → Start → Start
 with_event told start = record start { more = start.more ++ told ∷ [] }
 
@@ -174,7 +181,7 @@ pub record EndsBy (told : Event) (ending : ℕ) (old new : List FrameEndings) : 
   pub noted : NotesEvent told old new
   pub numbered : (changed : FrameChange) → told ≡ event.Change (change.Frame changed) → NumbersStretches changed new ending
 
--- an event of a slot is of this one
+-- an event of one slot is of this slot
 abbrev pub IsOf : ℕ → Event → Type 0
 IsOf v (event.Change (change.Frame told)) = Unit {0}
 IsOf v (event.Change (change.Phase told)) = told.vm ≡ v

@@ -23,10 +23,11 @@ abbrev pub starts : List Event → List Start
 starts [] = []
 starts (told ∷ more) = start_from told more ++ starts more
 
--- any start and any life, for places past the end
+-- what is read past the end of a list of starts
 abbrev pub no_start : Start
 no_start = record { vm = 0; line = 0; more = [] }
 
+-- what is read past the end of a list of lives
 abbrev pub no_life : Growing
 no_life = new_life 0 0
 

@@ -16,7 +16,6 @@
 mod before;
 mod chosen;
 mod endings;
-mod gathering;
 mod growing;
 mod look_ups;
 mod movable;
@@ -31,7 +30,6 @@ mod watching;
 
 pub use before::events_before;
 pub use chosen::choose;
-pub use gathering::lives;
 pub use growing::Lives;
 pub use look_ups::custody_at;
 pub use noting::{note_call, note_calls, summarize_call, summarize_calls};

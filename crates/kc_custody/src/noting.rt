@@ -64,8 +64,8 @@ pub fn note_calls(
     Ok(())
 }
 
-/// Makes a call, and adds what a summary is made of: lives take its events in, and the attempt that it is is added, if it is refused
-/// at a page of a VM; the call has this line in its trace. After `Memory`, if memory runs out, the call may be done, the attempt
+/// Makes a call, and adds what a summary is made of: its events, which lives take in, and the attempt, if the call is refused
+/// at a page of a VM. The call has this line in its trace. After `Memory`, if memory runs out, the call may be done, the attempt
 /// lacking, and the lives of no use.
 pub fn summarize_call(
     alloc: Global,
@@ -90,9 +90,9 @@ pub fn summarize_call(
     Ok(reply)
 }
 
-/// Makes some calls in order, of which the first has this line in the trace, adds their attempts, has lives take their events in, and counts those
-/// that are refused or rejected. After `Memory`, if memory runs out, some calls are done, and the lives
-/// are of no use.
+/// Makes some calls in order, of which the first has this line in the trace, adds their events to lives, and their attempts, and
+/// counts those that are refused or rejected. After `Memory`, if memory runs out, some calls are done, and the lives are of no
+/// use.
 pub fn summarize_calls(
     alloc: Global,
     core: &mut KCore,
