@@ -24,6 +24,16 @@ returns-in-Notes-clause-sink g c =
     let text = notes_text c.args.told.subject c.choose.new.notes.items _ c.choose.ensures in
     rw c.in-Notes.is (sink_more _ _ _ _ _ (λ begun. (_, begun.0, text, begun.1)) c.give_lines-in-Notes.ensures.sink)
 
+pub returns-in-Summary-clause-ok : goal.returns-in-Summary-clause-ok
+returns-in-Summary-clause-ok g c =
+    let text = rw c.deref.ensures.value at c.in-Ok.ensures in
+    rw c.in-Summary.is (on_ok_weaker c.give_whole.result (λ given. (_, text, rw c.deref-in-Summary.ensures.value at given)) c.give_whole.ensures.ok)
+
+pub returns-in-Summary-clause-sink : goal.returns-in-Summary-clause-sink
+returns-in-Summary-clause-sink g c =
+    let text = rw c.deref.ensures.value at c.in-Ok.ensures in
+    rw c.in-Summary.is (sink_more _ _ _ _ _ (λ begun. (_, begun.0, text, rw c.deref-in-Summary.ensures.value at begun.1)) c.give_whole.ensures.sink)
+
 pub picture_of-requires-clause-within : goal.picture_of-requires-clause-within
 picture_of-requires-clause-within g c =
     rw (c.deref-in-Picture.ensures.value, c.reported-events.ensures, changes_reported c.args.told.subject.heading.is_unseen c.in-Picture.events.items) (rw c.in-Picture.is at c.requires.changes)

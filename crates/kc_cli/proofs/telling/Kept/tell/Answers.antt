@@ -53,7 +53,7 @@ loop-witness-preserved g c =
     let few = before.4 in
     let same = ap length c.deref.ensures.value in
     let noted = c.in-Ok.ensures.few in
-    let short : c.loop-part.self.line + length c.in_ok-part.part.calls.items < 2 ^ 32 = let some = more.1.few in let room = c.requires.lines in omega (arith, some, long, at, room) in
+    let short : c.loop-witness.self.line + c.len.result < 2 ^ 32 = let some = more.1.few in let room = c.requires.lines in omega (arith, some, long, at, room) in
     record {
       read = (
         before.0 ++ more.0,
@@ -78,7 +78,7 @@ returns-in-Ok-finish-clause-ok g c =
     let at = before.3 in
     let same = ap length c.deref.ensures.value in
     let noted = c.in-Ok.ensures.few in
-    let short : c.loop-part.self.line + length c.in_ok-part.part.calls.items < 2 ^ 32 = let some = more.1.few in let room = c.requires.lines in omega (arith, some, long, at, room) in (
+    let short : c.loop-witness.self.line + c.len.result < 2 ^ 32 = let some = more.1.few in let room = c.requires.lines in omega (arith, some, long, at, room) in (
       before.1 ++ calls,
       c.in-Ok-finish.ensures.ok _ _ _ _ more.1 (c.in_ok-part.ensures.last c.if-part.true),
       more.1.few,
