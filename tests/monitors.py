@@ -9,7 +9,7 @@ import sys
 import time
 import typing
 
-from common import PROGRAM, TOP
+from common import PROGRAM, TOP, unwarned
 
 EXAMPLE = TOP / "examples" / "kvm"
 # How many seconds a run may take, and how many more until it has to have ended, on a busy machine.
@@ -170,7 +170,7 @@ class Trial:
             began = "--from", self.folder / "state"
             changes += map(json.loads, custody.stdout.splitlines())
             said += custody.stderr + dump.stderr + state.stderr
-        self.count(not said, "its trace is replayed", said[:200])
+        self.count(not unwarned(said), "its trace is replayed", said[:200])
         return dump.stdout, changes
 
     def audited(self, has_record=True):

@@ -5,6 +5,8 @@
  * they leave goes to the file after. At last texts that are too long have to be refused.
  *
  * usage: resuming FOLDER [CALLS] */
+/* for anonymous pages */
+#define _DEFAULT_SOURCE
 #include <kcore.h>
 #include <stdio.h>
 #include <stdlib.h>
