@@ -1,7 +1,7 @@
 use Rattle.std.proofs.Common.{Err, ap, refl}
 use Rattle.std.proofs.lemmas.Result.{err_from_is_err_and}
 use Rattle.kc_replay.specs.Replayer.{Replaying}
-use Rattle.kc_faults.proofs.Told.{texts_start, texts_trace}
+use Rattle.kc_faults.proofs.Told.{texts_ok, texts_start, texts_trace}
 use Rattle.kc_cli.proofs.Fed.{replayed}
 use Rattle.kc_cli.proofs.Replayed.{are_replayed, answered_so}
 use Rattle.kc_cli.proofs.replaying.replay_texts.Goals as goal
@@ -23,6 +23,9 @@ returns-in-Ok-finish-clause-answered g c =
     (are_replayed _ _ _ _ c.in_ok-core.core fed.calls.items fed.replies.items _ c.in_ok-core.ensures.ok
     (replayed _ _ c.in_ok-core.core c.in-Ok.replayer c.feed_source.new.replayer fed.calls.items fed.replies.items c.in-Ok-finish.core c.in_ok-core.ensures.lawful (ap (λ (r : Replaying). r.state) c.in-Ok.ensures.start) c.in-Ok-finish.ensures.core c.in-Ok-feed_source.ensures.ok))
     (rw c.deref.ensures.value at c.of-answered.ensures)
+
+pub returns-in-Ok-finish-clause-texts : goal.returns-in-Ok-finish-clause-texts
+returns-in-Ok-finish-clause-texts g c = texts_ok _ _ _ _ c.in_ok-core.core _ c.in_ok-core.ensures.ok
 
 pub returns-in-Err-clause-texts : goal.returns-in-Err-clause-texts
 returns-in-Err-clause-texts g c =
