@@ -4,7 +4,7 @@ use Rattle.std.proofs.lemmas.List.{length-map, length-replicate}
 use Rattle.sha2.specs.Sha256.{sha256}
 use Rattle.kc_types.specs.declared.call.Call.{Call}
 use Rattle.kc_types.specs.declared.call.Call.TheVariants.{GuestWrite}
-use Rattle.kc_types.specs.declared.version.Version.TheVariants.{Two}
+use Rattle.kc_trace.specs.declared.header.Header.TheVariants.{Two}
 use Rattle.kc_model.specs.State.{State}
 use Rattle.kc_model.specs.Lawful.{IsLawful}
 use Rattle.kc_model.specs.Custody.{first_line}

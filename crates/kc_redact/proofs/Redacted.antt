@@ -5,8 +5,8 @@ use Rattle.std.specs.Prelude.{if◌then◌else◌}
 use Rattle.std.specs.List.{flat_map}
 use Rattle.hex.specs.Hex.{encode_lower, encode_with}
 use Rattle.kc_types.specs.Bytes.{IsData}
-use Rattle.kc_types.specs.declared.version.Version.{Version}
-use Rattle.kc_types.specs.declared.version.Version.TheVariants.{One, Two}
+use Rattle.kc_trace.specs.declared.header.Header.{Header}
+use Rattle.kc_trace.specs.declared.header.Header.TheVariants.{One, Two}
 use Rattle.kc_types.specs.declared.call.Call.{Call}
 use Rattle.kc_types.specs.declared.call.Call.TheVariants.{HostWrite, GuestWrite}
 use Rattle.kc_model.specs.State.{State, frame_at}
@@ -51,29 +51,29 @@ blanked-is bytes is =
       each_byte = zeros-are_bytes (length bytes);
     }
 
-stands-too : (version : Version) (call : Call) → is_allowed_in version call ≡ true → is_allowed_in version (redacted_call call) ≡ true
+stands-too : (header : Header) (call : Call) → is_allowed_in header call ≡ true → is_allowed_in header (redacted_call call) ≡ true
 stands-too One (GuestWrite v c g off bytes) h = refl
 stands-too One _ h = h
 stands-too Two _ h = refl
 
-redacted-is : (version : Version) (call : Call) → IsCallOf version call → IsCallOf version (redacted_call call)
-redacted-is version (GuestWrite v c g off bytes) is = ((is.0.0, is.0.1, is.0.2, is.0.3, blanked-is bytes is.0.4), stands-too version (GuestWrite v c g off bytes) is.1)
-redacted-is version _ is = is
+redacted-is : (header : Header) (call : Call) → IsCallOf header call → IsCallOf header (redacted_call call)
+redacted-is header (GuestWrite v c g off bytes) is = ((is.0.0, is.0.1, is.0.2, is.0.3, blanked-is bytes is.0.4), stands-too header (GuestWrite v c g off bytes) is.1)
+redacted-is header _ is = is
 
-redacted-are : (version : Version) (calls : List Call) → AreCalls version calls → AreCalls version (redacted calls)
-redacted-are version [] are = tt
-redacted-are version (call ∷ calls) are = (redacted-is version call are.0, redacted-are version calls are.1)
+redacted-are : (header : Header) (calls : List Call) → AreCalls header calls → AreCalls header (redacted calls)
+redacted-are header [] are = tt
+redacted-are header (call ∷ calls) are = (redacted-is header call are.0, redacted-are header calls are.1)
 
-pub is_redaction : (text other : List ℕ) (calls : List Call) (read : IsTrace text calls) → other ≡ text_of read.version (redacted calls) → IsRedaction text other calls
+pub is_redaction : (text other : List ℕ) (calls : List Call) (read : IsTrace text calls) → other ≡ text_of read.header (redacted calls) → IsRedaction text other calls
 is_redaction text other calls read written = record {
-  version = read.version;
+  header = read.header;
   read = read;
   whole = read.whole;
   written = written;
   trace = record {
-    version = read.version;
+    header = read.header;
     whole = written;
-    each = redacted-are read.version calls read.each;
+    each = redacted-are read.header calls read.each;
     few = let few = read.few in omega (arith, few, length-map calls redacted_call);
   };
   events = λ m is. (told_alike m calls is).events;
@@ -87,18 +87,18 @@ data-kept : (b : Bool) (bytes : List ℕ) → IsData bytes → IsData (if b then
 data-kept true bytes is = is
 data-kept false bytes is = blanked-is bytes is
 
-host-is : (m : State) (version : Version) (call : Call) → IsCallOf version call → IsCallOf version (redacted_in all_frames m call)
-host-is m version (HostWrite f off bytes) is = ((is.0.0, is.0.1, data-kept (counts all_frames m f (frame_at m f).owner) bytes is.0.2), host-stands version is.1)
+host-is : (m : State) (header : Header) (call : Call) → IsCallOf header call → IsCallOf header (redacted_in all_frames m call)
+host-is m header (HostWrite f off bytes) is = ((is.0.0, is.0.1, data-kept (counts all_frames m f (frame_at m f).owner) bytes is.0.2), host-stands header is.1)
   where
-    host-stands : (v : Version) → is_allowed_in v (HostWrite f off bytes) ≡ true → is_allowed_in v (redacted_in all_frames m (HostWrite f off bytes)) ≡ true
+    host-stands : (v : Header) → is_allowed_in v (HostWrite f off bytes) ≡ true → is_allowed_in v (redacted_in all_frames m (HostWrite f off bytes)) ≡ true
     host-stands One h = refl
     host-stands Two h = refl
-host-is m version (GuestWrite v c g off bytes) is = redacted-is version (GuestWrite v c g off bytes) is
-host-is m version _ is = is
+host-is m header (GuestWrite v c g off bytes) is = redacted-is header (GuestWrite v c g off bytes) is
+host-is m header _ is = is
 
-host-are : (m : State) (version : Version) (calls : List Call) → AreCalls version calls → AreCalls version (redacted_from m calls)
-host-are m version [] are = tt
-host-are m version (call ∷ calls) are = (host-is m version call are.0, host-are (next m call).1 version calls are.1)
+host-are : (m : State) (header : Header) (calls : List Call) → AreCalls header calls → AreCalls header (redacted_from m calls)
+host-are m header [] are = tt
+host-are m header (call ∷ calls) are = (host-is m header call are.0, host-are (next m call).1 header calls are.1)
 
 pub host-number : (m : State) (calls : List Call) → length (redacted_from m calls) ≡ length calls
 host-number m [] = refl
@@ -108,16 +108,16 @@ host-number m (call ∷ calls) = ap suc (host-number (next m call).1 calls)
 told-from : (m n : State) (calls : List Call) → IsLawful m → IsLawful n → DifferInBytes all_frames m n → TellTheSame all_frames m n calls (redacted_from m calls)
 told-from m n calls is other differ = bytes_decide_nothing m calls is all_frames n (redacted_from m calls) other differ (wholly-differ m calls) (keeps-all calls)
 
-pub is_host_redaction : (m : State) (text other : List ℕ) (calls : List Call) → IsLawful m → (read : IsTrace text calls) → other ≡ text_of read.version (redacted_from m calls) → IsHostRedaction m text other calls
+pub is_host_redaction : (m : State) (text other : List ℕ) (calls : List Call) → IsLawful m → (read : IsTrace text calls) → other ≡ text_of read.header (redacted_from m calls) → IsHostRedaction m text other calls
 is_host_redaction m text other calls is read written = record {
-  version = read.version;
+  header = read.header;
   read = read;
   whole = read.whole;
   written = written;
   trace = record {
-    version = read.version;
+    header = read.header;
     whole = written;
-    each = host-are m read.version calls read.each;
+    each = host-are m read.header calls read.each;
     few = let few = read.few in omega (arith, few, host-number m calls);
   };
   events = λ n lawful differ. (told-from m n calls is lawful differ).events;
@@ -136,6 +136,6 @@ lines-then [] call = append-nil (redacted_line call)
 lines-then (first ∷ calls) call = ap (λ rest. redacted_line first ++ rest) (lines-then calls call) ∙ sym (append_assoc (redacted_line first) (lines_of (redacted calls)) (redacted_line call))
 
 -- a trace begins with its header
-pub header-taken : (version : Version) (rest : List ℕ) → take 14 (trace_header version ++ rest) ≡ trace_header version
+pub header-taken : (header : Header) (rest : List ℕ) → take 14 (trace_header header ++ rest) ≡ trace_header header
 header-taken One rest = refl
 header-taken Two rest = refl

@@ -2,7 +2,7 @@
 -- it still says.
 use Rattle.std.specs.Prelude.{ℕ, ◌≡◌, List, [], ◌∷◌, ◌++◌}
 use Rattle.kc_types.specs.declared.call.Call.{Call}
-use Rattle.kc_types.specs.declared.version.Version.{Version}
+use Rattle.kc_trace.specs.declared.header.Header.{Header}
 use Rattle.kc_model.specs.State.{State}
 use Rattle.kc_model.specs.Lawful.{IsLawful}
 use Rattle.kc_model.specs.Custody.{custody}
@@ -20,10 +20,10 @@ redacted_line call = line_of (redacted_call call) ++ 10 ∷ []
 -- the text is a trace, and the other text is that of its calls without these bytes, under the same header; from
 -- whatever state, both have the same events, the same custody, and the same notes on refusals and accesses
 pub record IsRedaction (text other : List ℕ) (calls : List Call) : Type 0 where
-  pub version : Version
+  pub header : Header
   pub read : IsTrace text calls
-  pub whole : text ≡ text_of version calls
-  pub written : other ≡ text_of version (redacted calls)
+  pub whole : text ≡ text_of header calls
+  pub written : other ≡ text_of header (redacted calls)
   pub trace : IsTrace other (redacted calls)
   pub events : (m : State) → IsLawful m → events m (redacted calls) ≡ events m calls
   pub custody : (m : State) → IsLawful m → custody m (redacted calls) ≡ custody m calls
@@ -34,10 +34,10 @@ pub record IsRedaction (text other : List ℕ) (calls : List Call) : Type 0 wher
 -- this state; from this state, and from every lawful one that differs from it only in bytes of active VMs' frames, the
 -- other text's calls have the events, the custody and the notes that the trace has from this state
 pub record IsHostRedaction (m : State) (text other : List ℕ) (calls : List Call) : Type 0 where
-  pub version : Version
+  pub header : Header
   pub read : IsTrace text calls
-  pub whole : text ≡ text_of version calls
-  pub written : other ≡ text_of version (redacted_from m calls)
+  pub whole : text ≡ text_of header calls
+  pub written : other ≡ text_of header (redacted_from m calls)
   pub trace : IsTrace other (redacted_from m calls)
   pub events : (n : State) → IsLawful n → DifferInBytes all_frames m n → events n (redacted_from m calls) ≡ events m calls
   pub custody : (n : State) → IsLawful n → DifferInBytes all_frames m n → custody n (redacted_from m calls) ≡ custody m calls

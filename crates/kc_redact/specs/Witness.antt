@@ -3,7 +3,7 @@ use Rattle.std.specs.Prelude.{ℕ, List}
 use Rattle.sha2.specs.Hashers.{Holds256}
 use Rattle.sha2.specs.declared.Sha256.{Sha256}
 use Rattle.kc_types.specs.declared.call.Call.{Call}
-use Rattle.kc_types.specs.declared.version.Version.TheVariants.{Two}
+use Rattle.kc_trace.specs.declared.header.Header.TheVariants.{Two}
 use Rattle.kc_trace.specs.Spelling.{text_of}
 use Rattle.kc_redact.specs.Redacted.{redacted}
 

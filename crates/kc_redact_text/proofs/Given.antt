@@ -20,11 +20,11 @@ use Rattle.kc_redact_text.specs.Reading.{IsHeadAndCalls}
 use Rattle.kc_redact_text.specs.Redacts.{Redacts, BeginsRedaction, IsHostRedacted}
 
 -- the header that was read, and the lines of the calls that were kept
-text_is : (core : Option State) (text head : List ℕ) (kept : List Call) (denials : Denials) (read : IsHeadAndCalls core text head kept denials) → head ++ lines_of kept ≡ text_of read.read.version (redacted_by core read.calls)
+text_is : (core : Option State) (text head : List ℕ) (kept : List Call) (denials : Denials) (read : IsHeadAndCalls core text head kept denials) → head ++ lines_of kept ≡ text_of read.read.header (redacted_by core read.calls)
 text_is core text head kept denials read =
-    let version = read.read.version in
-    let header : head ≡ trace_header version = sym read.header ∙ ap (take 14) read.read.whole ∙ header-taken version (lines_of read.calls) in
-    ap (λ front. front ++ lines_of kept) header ∙ ap (λ calls. trace_header version ++ lines_of calls) read.redacted
+    let header = read.read.header in
+    let front : head ≡ trace_header header = sym read.header ∙ ap (take 14) read.read.whole ∙ header-taken header (lines_of read.calls) in
+    ap (λ before. before ++ lines_of kept) front ∙ ap (λ calls. trace_header header ++ lines_of calls) read.redacted
 
 plainly : (text head : List ℕ) (kept : List Call) (denials : Denials) (read : IsHeadAndCalls None text head kept denials) → IsRedaction text (head ++ lines_of kept) read.calls
 plainly text head kept denials read = is_redaction text (head ++ lines_of kept) read.calls read.read (text_is None text head kept denials read)

@@ -8,8 +8,8 @@ use Rattle.std.proofs.Math.Seq.{take-append-add}
 use borrow.Rule.Slice.PartMut.{put_mid, post_of}
 use Rattle.kc_types.specs.Limits.{byte_limit}
 use Rattle.kc_types.specs.declared.call.Call.{Call}
-use Rattle.kc_types.specs.declared.version.Version.{Version}
-use Rattle.kc_types.specs.declared.version.Version.TheVariants.{One, Two}
+use Rattle.kc_trace.specs.declared.header.Header.{Header}
+use Rattle.kc_trace.specs.declared.header.Header.TheVariants.{One, Two}
 use Rattle.kc_trace.specs.declared.fault.TraceFault.{TraceFault}
 use Rattle.kc_trace.specs.declared.fault.TraceFault.TheVariants.{Memory}
 use Rattle.kc_trace.specs.Machine.{Fails, fed}
@@ -84,19 +84,19 @@ went_too_far core made before mid piece n failed left here now on consumed len p
 
 -- ---- the header
 
-header_len : (version : Version) → length (trace_header version) ≡ 14
+header_len : (header : Header) → length (trace_header header) ≡ 14
 header_len One = refl
 header_len Two = refl
 
 -- a trace has the bytes of a header, and begins with what was read first
 pub head_is : (text head here : List ℕ) (begun : ℕ) (calls : List Call) → text ≡ take begun head ++ here → begun ≤ 14 → (begun < 14 → here ≡ []) → length head ≡ 14 → IsTrace text calls → take 14 text ≡ head
 head_is text head here begun calls is within short len read =
-    let long : length text ≡ length (trace_header read.version) + length (lines_of calls) = ap length read.whole ∙ length-append (trace_header read.version) (lines_of calls) in
+    let long : length text ≡ length (trace_header read.header) + length (lines_of calls) = ap length read.whole ∙ length-append (trace_header read.header) (lines_of calls) in
     elim (cases_lt begun 14) [
       | inl less ↦
           let empty : length here ≡ 0 = ap length (short less) in
           let few : length text ≡ length (take begun head) + length here = ap length is ∙ length-append (take begun head) here in
-          absurd (omega (arith, less, long, few, empty, header_len read.version, length-take begun head))
+          absurd (omega (arith, less, long, few, empty, header_len read.header, length-take begun head))
       | inr more ↦
           let whole : begun ≡ 14 = omega (arith, within, more) in
           let all : take begun head ≡ head = take_all begun head (omega (arith, whole, len)) in

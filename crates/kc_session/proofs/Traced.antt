@@ -6,7 +6,7 @@ use Rattle.std.proofs.lemmas.Option.{slice_get-map}
 use Rattle.std.proofs.lemmas.List.{length-map}
 use Rattle.kc_types.specs.Limits.{call_limit}
 use Rattle.kc_types.specs.declared.call.Call.{Call}
-use Rattle.kc_types.specs.declared.version.Version.TheVariants.{Two}
+use Rattle.kc_trace.specs.declared.header.Header.TheVariants.{Two}
 use Rattle.kc_model.specs.Ranged.{IsRanged}
 use Rattle.kc_trace.specs.Spelling.{line_of, lines_of, trace_header}
 use Rattle.kc_trace.specs.Trace.{AreCalls, IsTrace}
@@ -32,7 +32,7 @@ same_length (entry ∷ entries) = ap (λ n. suc n) (same_length entries)
 
 pub is_trace : (log : Log) → AllByRecursion IsRanged (calls_of log.entries) → length log.entries ≤ call_limit → IsTrace (concat (trace_lines log)) (calls_of log.entries)
 is_trace log ranged short = record {
-  version = Two;
+  header = Two;
   whole = ap (λ rest. trace_header Two ++ rest) (joined log.entries);
   each = in_the_second (calls_of log.entries) ranged;
   few = subst (λ n. n ≤ call_limit) (sym (same_length log.entries)) short;

@@ -21,8 +21,10 @@ use kc_custody::{note_marks, tell_marks};
 use kc_live::{Entry, Journal, Ready};
 use kc_redact::push_redacted;
 use kc_state_text::{StateFault, read_state_alone};
-use kc_trace::{LONGEST_CALL, LONGEST_REPLY, call_of_line, push_call, push_header, push_reply};
-use kc_types::{Actor, CALL_LIMIT, Call, Config, FrameChange, Memory, Reply, Version, actor_of};
+use kc_trace::{
+    Header, LONGEST_CALL, LONGEST_REPLY, call_of_line, push_call, push_header, push_reply,
+};
+use kc_types::{Actor, CALL_LIMIT, Call, Config, FrameChange, Memory, Reply, actor_of};
 use std::alloc::{AllocError, Global};
 use std::marker::Model;
 
@@ -272,7 +274,7 @@ impl Session {
     {
         let mut told = Vec::with_capacity(self.alloc, LONGEST_CALL)?;
         if number == 0 {
-            push_header(&mut told, Version::Two);
+            push_header(&mut told, Header::Two);
             return Ok(Some(told));
         }
         let place = number - 1;

@@ -6,13 +6,13 @@ use Rattle.std.proofs.lemmas.List.{append-nil, nil_from_length}
 use Rattle.std.proofs.KnownBytes.{Consumes-nil, Consumes-trans}
 use Rattle.std.specs.Io.KnownBytes.{Consumes, IsAtEnd}
 use Rattle.kc_types.specs.Limits.{byte_limit, call_limit}
-use Rattle.kc_types.specs.declared.version.Version.{Version}
+use Rattle.kc_trace.specs.declared.header.Header.{Header}
 use Rattle.kc_types.specs.declared.call.Call.{Call}
 use Rattle.kc_texts.specs.Ends.{ReadFailed}
 use Rattle.kc_trace.specs.declared.fault.TraceFault.{TraceFault}
 use Rattle.kc_trace.specs.declared.fault.TraceFault.TheVariants.{NoHeader, BadLine, NoNewline, TooManyCalls, Memory}
 use Rattle.kc_trace.specs.Trace.{IsTrace, IsRefused}
-use Rattle.kc_trace.specs.Machine.{◌>>=◌, Progress, Fails, start, longer, version_in, begins_header, call_in, after_line, begun_by, begun, after_header, line_ended_by, line_ended, with_front, fed_byte, feed, fed, fed_after, ended, reading}
+use Rattle.kc_trace.specs.Machine.{◌>>=◌, Progress, Fails, start, longer, header_in, begins_header, call_in, after_line, begun_by, begun, after_header, line_ended_by, line_ended, with_front, fed_byte, feed, fed, fed_after, ended, reading}
 use Rattle.kc_trace.proofs.Runs.{feed_nothing, feed-append, and_then_feed}
 use Rattle.kc_trace.proofs.Traces.{Reads, reading_reads}
 use Rattle.kc_texts.specs.Streamed.{Streamed, answer, HasRead, GoesOn}
@@ -44,29 +44,29 @@ line_counts : (p : Progress) (found : Option Call) → p.calls < call_limit → 
 line_counts p None lt = tt
 line_counts p (Some call) lt = (refl, omega (arith, lt))
 
-begun_counts : (version : Option Version) (p : Progress) → p.calls ≤ call_limit → IfOk (begun_by version p) (Counts p)
+begun_counts : (header : Option Header) (p : Progress) → p.calls ≤ call_limit → IfOk (begun_by header p) (Counts p)
 begun_counts None p le = by_test (begins_header p.line)
   where
     by_test : (b : Bool) → IfOk (if b then Ok (p, []) else Err NoHeader) (Counts p)
     by_test true = (omega arith, le)
     by_test false = tt
-begun_counts (Some version) p le = by_test (nat_le call_limit p.calls)
+begun_counts (Some header) p le = by_test (nat_le call_limit p.calls)
   where
     by_test : (b : Bool) → IfOk (if b then Err TooManyCalls else Ok (p, [])) (Counts p)
     by_test true = tt
     by_test false = (omega arith, le)
 
-ended_counts : (version : Option Version) (p : Progress) → p.calls ≤ call_limit → IfOk (line_ended_by version p) (Counts p)
-ended_counts None p le = by_version (version_in p.line)
+ended_counts : (header : Option Header) (p : Progress) → p.calls ≤ call_limit → IfOk (line_ended_by header p) (Counts p)
+ended_counts None p le = by_header (header_in p.line)
   where
-    by_version : (found : Option Version) → IfOk (after_header p found) (Counts p)
-    by_version None = tt
-    by_version (Some version) = (omega arith, le)
-ended_counts (Some version) p le = by_test (nat_le call_limit p.calls) refl
+    by_header : (found : Option Header) → IfOk (after_header p found) (Counts p)
+    by_header None = tt
+    by_header (Some header) = (omega arith, le)
+ended_counts (Some header) p le = by_test (nat_le call_limit p.calls) refl
   where
-    by_test : (b : Bool) → nat_le call_limit p.calls ≡ b → IfOk (if b then Err TooManyCalls else after_line p (call_in version p.line)) (Counts p)
+    by_test : (b : Bool) → nat_le call_limit p.calls ≡ b → IfOk (if b then Err TooManyCalls else after_line p (call_in header p.line)) (Counts p)
     by_test true h = tt
-    by_test false h = line_counts p (call_in version p.line) (leb-false call_limit p.calls h)
+    by_test false h = line_counts p (call_in header p.line) (leb-false call_limit p.calls h)
 
 rest_counts : (p p1 : Progress) (new : List Call) (rest : Result (Progress × List Call) TraceFault) → Counts p (p1, new) → IfOk rest (Counts p1) → IfOk (rest >>= λ others. Ok (others.0, new ++ others.1)) (Counts p)
 rest_counts p p1 new (Err f) one more = tt
@@ -76,8 +76,8 @@ byte_counts : (byte : ℕ) (p : Progress) → p.calls ≤ call_limit → IfOk (f
 byte_counts byte p le = by_newline (byte == 10)
   where
     by_newline : (b : Bool) → IfOk (if b then line_ended (longer p []) else begun (longer p (byte ∷ []))) (Counts p)
-    by_newline true = ended_counts p.version (longer p []) le
-    by_newline false = begun_counts p.version (longer p (byte ∷ [])) le
+    by_newline true = ended_counts p.header (longer p []) le
+    by_newline false = begun_counts p.header (longer p (byte ∷ [])) le
 
 first_counts : (p : Progress) (bytes : List ℕ) (first : Result (Progress × List Call) TraceFault) → IfOk first (Counts p) → ((p1 : Progress) → p1.calls ≤ call_limit → IfOk (feed p1 bytes) (Counts p1)) → IfOk (and_then_feed bytes first) (Counts p)
 first_counts p bytes (Err f) one more = tt
@@ -150,14 +150,14 @@ all_read None now bytes p end = tt
 all_read (Some a) None bytes p end = absurd p
 all_read (Some a) (Some b) bytes p end = p ∙ ap (λ (t : List ℕ). bytes ++ t) end ∙ append-nil bytes
 
-reading_of : (text : List ℕ) (fault : Option TraceFault) (p : Progress) (calls : List Call) (r : Result (Unit {0}) TraceFault) → feed start text ≡ answer fault p calls → MatchOption fault (r ≡ ended p.version p.line) (λ f. r ≡ Err f) → reading text ≡ (r >>= λ e. Ok calls)
+reading_of : (text : List ℕ) (fault : Option TraceFault) (p : Progress) (calls : List Call) (r : Result (Unit {0}) TraceFault) → feed start text ≡ answer fault p calls → MatchOption fault (r ≡ ended p.header p.line) (λ f. r ≡ Err f) → reading text ≡ (r >>= λ e. Ok calls)
 unfolding reading
 reading_of text None p calls r h e = rw (h, e) refl
 reading_of text (Some f) p calls r h e = rw (h, e) refl
 
 -- the whole text is read
 finished : (stream : Streamed) (bytes : List ℕ) (calls : List Call) (first now : Option (List ℕ)) (result : Result (Unit {0}) TraceFault) → HasRead stream bytes calls first now → IsAtEnd now
-    → MatchOption stream.reader.fault (result ≡ ended stream.reader.progress.version stream.reader.progress.line) (λ f. result ≡ Err f) → IfSome first (λ text. reading text ≡ (result >>= λ e. Ok calls))
+    → MatchOption stream.reader.fault (result ≡ ended stream.reader.progress.header stream.reader.progress.line) (λ f. result ≡ Err f) → IfSome first (λ text. reading text ≡ (result >>= λ e. Ok calls))
 finished stream bytes calls None now result h end e = tt
 finished stream bytes calls (Some text) now result h end e =
     let same : text ≡ bytes = all_read (Some text) now bytes h.consumed end in
@@ -172,12 +172,12 @@ read_is_refused : (known : Option (List ℕ)) (fault : TraceFault) → IfSome kn
 read_is_refused None fault h = tt
 read_is_refused (Some text) fault h = let e : Reads text (Err fault) = rw h at (reading_reads text) in e
 
-pub ends_a_trace : (stream : Streamed) (result : Result (Unit {0}) TraceFault) → MatchOption stream.reader.fault (result ≡ ended stream.reader.progress.version stream.reader.progress.line) (λ f. result ≡ Err f)
+pub ends_a_trace : (stream : Streamed) (result : Result (Unit {0}) TraceFault) → MatchOption stream.reader.fault (result ≡ ended stream.reader.progress.header stream.reader.progress.line) (λ f. result ≡ Err f)
     → OnOk result ((bytes : List ℕ) (calls : List Call) (first now : Option (List ℕ)) → HasRead stream bytes calls first now → IsAtEnd now → IfSome first (λ text. IsTrace text calls))
 ends_a_trace stream (Ok u) e = λ bytes calls first now h end. read_is_trace first calls (finished stream bytes calls first now (Ok u) h end e)
 ends_a_trace stream (Err f) e = tt
 
-pub ends_refused : (stream : Streamed) (result : Result (Unit {0}) TraceFault) (fault : TraceFault) → MatchOption stream.reader.fault (result ≡ ended stream.reader.progress.version stream.reader.progress.line) (λ f. result ≡ Err f) → result ≡ Err fault
+pub ends_refused : (stream : Streamed) (result : Result (Unit {0}) TraceFault) (fault : TraceFault) → MatchOption stream.reader.fault (result ≡ ended stream.reader.progress.header stream.reader.progress.line) (λ f. result ≡ Err f) → result ≡ Err fault
     → (bytes : List ℕ) (calls : List Call) (first now : Option (List ℕ)) → HasRead stream bytes calls first now → IsAtEnd now → IfSome first (λ text. IsRefused text fault)
 ends_refused stream result fault e is bytes calls first now h end = read_is_refused first fault (rw is at (finished stream bytes calls first now result h end e))
 

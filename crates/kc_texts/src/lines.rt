@@ -11,7 +11,7 @@ ghost use Rattle.kc_texts.specs.Written.{AppendsBeginning, longest_placed};
 use crate::line::Line;
 use crate::placed::{LONGEST_PLACED, Placed, push_placed};
 use crate::source::{Failed, PIECE, Sink};
-use kc_trace::{LONGEST_ANSWER, LONGEST_CALL, VolumeEntry, push_answer, push_header, version_of};
+use kc_trace::{LONGEST_ANSWER, LONGEST_CALL, VolumeEntry, header_of, push_answer, push_header};
 use kc_types::{Call, Memory, Reply};
 use std::alloc::Global;
 
@@ -185,7 +185,7 @@ pub fn give_trace<K: Sink>(out: &mut K, mut piece: Vec<u8>, calls: Vec<Call>) ->
     ensures begun { OnErr result (AppendsBeginning (K.taken out.old) (K.taken out.new) (trace_of calls.items)) }
     ensures mark { K.failed out.new ≡ is_err result }
 {
-    push_header(&mut piece, version_of(&calls));
+    push_header(&mut piece, header_of(&calls));
     give_lines(out, piece, calls)
 }
 

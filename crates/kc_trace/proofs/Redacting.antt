@@ -3,8 +3,8 @@ use Rattle.std.proofs.Common.{◌≡◌, ℕ, Bool, true, false, cond, List, [],
 use Rattle.std.specs.Prelude.{codes, option_map, option_and_then}
 use Rattle.std.specs.Str.{bytes_eq}
 use Rattle.std.proofs.lemmas.List.{map-append}
-use Rattle.kc_types.specs.declared.version.Version.{Version}
-use Rattle.kc_types.specs.declared.version.Version.TheVariants.{One, Two}
+use Rattle.kc_trace.specs.declared.header.Header.{Header}
+use Rattle.kc_trace.specs.declared.header.Header.TheVariants.{One, Two}
 use Rattle.kc_types.specs.declared.call.Call.{Call}
 use Rattle.kc_types.specs.declared.call.Call.TheVariants.{Take, Give, HostFault, HostRead, HostWrite, RegisterVm, RegisterVcpu, SetBoot, Remap, Verify, Map, GuestWrite, Grant, Revoke, GrantRange, RevokeRange, Drop, Clear}
 use Rattle.kc_model.specs.Redaction.{redacted_call, redacted}
@@ -84,15 +84,15 @@ host_words_stay last a b = then_stays a _ (λ x. then_stays b _ (λ y. host_writ
 
 -- ---- lines
 
-allowed_too : (version : Version) (call : Call) → is_allowed_in version (redacted_call call) ≡ is_allowed_in version call
+allowed_too : (header : Header) (call : Call) → is_allowed_in header (redacted_call call) ≡ is_allowed_in header call
 allowed_too One (GuestWrite a b c d bytes) = refl
 allowed_too One _ = refl
 allowed_too Two call = refl
 
-pub standing_by : (guests : GuestData) (version : Version) (found : Option Call) → standing version (call_by guests found) ≡ call_by guests (standing version found)
-standing_by Read version found = refl
-standing_by Blanked version None = refl
-standing_by Blanked version (Some call) = ap (λ b. cond b (Some (redacted_call call)) None) (allowed_too version call) ∙ of (is_allowed_in version call)
+pub standing_by : (guests : GuestData) (header : Header) (found : Option Call) → standing header (call_by guests found) ≡ call_by guests (standing header found)
+standing_by Read header found = refl
+standing_by Blanked header None = refl
+standing_by Blanked header (Some call) = ap (λ b. cond b (Some (redacted_call call)) None) (allowed_too header call) ∙ of (is_allowed_in header call)
   where
     of : (b : Bool) → cond b (Some (redacted_call call)) None ≡ option_map redacted_call (cond b (Some call) None)
     of true = refl

@@ -6,14 +6,14 @@ use Rattle.std.specs.Str.{bytes_eq}
 use Rattle.std.proofs.lemmas.Bool.{and_parts, and_from, not-true, le-leb, lt-leb, leb-false, cases_lt, cases_Bool, or_cases, or_right, false_from_ne_true}
 use Rattle.std.proofs.lemmas.List.{append-nil, drop_all}
 use Rattle.std.proofs.lemmas.Slice.Eq.{bytes_eq-Decides}
-use Rattle.kc_types.specs.declared.version.Version.{Version}
-use Rattle.kc_types.specs.declared.version.Version.TheVariants.{One, Two}
+use Rattle.kc_trace.specs.declared.header.Header.{Header}
+use Rattle.kc_trace.specs.declared.header.Header.TheVariants.{One, Two}
 use Rattle.kc_types.specs.declared.call.Call.{Call}
 use Rattle.kc_types.specs.Limits.{line_limit}
 use Rattle.kc_trace.specs.declared.fault.TraceFault.{TraceFault}
 use Rattle.kc_trace.specs.declared.fault.TraceFault.TheVariants.{NoHeader, BadLine, NoNewline, TooManyCalls, Memory}
 use Rattle.kc_trace.specs.Spelling.{header_line}
-use Rattle.kc_trace.specs.Machine.{◌>>=◌, Fails, Progress, kept, longer_line, longer, version_in, begins_header, begun, after_header, line_ended, with_front, fed_byte, feed, feed_each}
+use Rattle.kc_trace.specs.Machine.{◌>>=◌, Fails, Progress, kept, longer_line, longer, header_in, begins_header, begun, after_header, line_ended, with_front, fed_byte, feed, feed_each}
 use Rattle.kc_lines.specs.Lines.{IsOneLine}
 use Rattle.kc_lines.proofs.Newlines.{tail_is}
 
@@ -94,8 +94,8 @@ begins_back (Some line) more h = by_length (nat_le (length (line ++ more)) line_
       | inr two ↦ or_right (starts_with ◌==◌ (header_line One) line) (starts_with ◌==◌ (header_line Two) line) (starts_back (header_line Two) line more two)
     ]
 
-pub version_of_line : (v : Version) (line : List ℕ) → version_in (Some line) ≡ Some v → line ≡ header_line v
-version_of_line v line = by_tests (bytes_eq line (header_line One)) (bytes_eq line (header_line Two)) refl refl
+pub header_of_line : (v : Header) (line : List ℕ) → header_in (Some line) ≡ Some v → line ≡ header_line v
+header_of_line v line = by_tests (bytes_eq line (header_line One)) (bytes_eq line (header_line Two)) refl refl
   where
     by_tests : (one two : Bool) → bytes_eq line (header_line One) ≡ one → bytes_eq line (header_line Two) ≡ two → cond one (Some One) (cond two (Some Two) None) ≡ Some v → line ≡ header_line v
     by_tests true two h k e = let same : One ≡ v = cc in subst (λ v. line ≡ header_line v) same ((bytes_eq-Decides line (header_line One)).0 h)
@@ -103,11 +103,11 @@ version_of_line v line = by_tests (bytes_eq line (header_line One)) (bytes_eq li
     by_tests false false h k e = absurd cc
 
 -- a header begins with its own line
-told_begins : (v : Version) (line : Option (List ℕ)) → version_in line ≡ Some v → begins_header line ≡ true
+told_begins : (v : Header) (line : Option (List ℕ)) → header_in line ≡ Some v → begins_header line ≡ true
 told_begins v None e = absurd cc
-told_begins v (Some line) e = rw (version_of_line v line e) (own v)
+told_begins v (Some line) e = rw (header_of_line v line e) (own v)
   where
-    own : (v : Version) → begins_header (Some (header_line v)) ≡ true
+    own : (v : Header) → begins_header (Some (header_line v)) ≡ true
     own One = refl
     own Two = refl
 
@@ -116,21 +116,21 @@ abbrev BegunCases : Progress → Type 0
 BegunCases p = (begun p ≡ Ok (p, [])) ⊎ ((f : TraceFault) × (begun p ≡ Err f) × ((more : List ℕ) → begun (longer p more) ≡ Err f) × ((more : List ℕ) → line_ended (longer p more) ≡ Err f))
 
 begun_cases : (p : Progress) → BegunCases p
-begun_cases p = by_version p.version refl
+begun_cases p = by_header p.header refl
   where
-    no_version : (more : List ℕ) → begins_header p.line ≡ false → (found : Option Version) → version_in (longer_line p.line more) ≡ found → after_header (longer p more) found ≡ Err NoHeader
-    no_version more refused None e = refl
-    no_version more refused (Some v) e = let yes = begins_back p.line more (told_begins v (longer_line p.line more) e) in cc
+    no_header : (more : List ℕ) → begins_header p.line ≡ false → (found : Option Header) → header_in (longer_line p.line more) ≡ found → after_header (longer p more) found ≡ Err NoHeader
+    no_header more refused None e = refl
+    no_header more refused (Some v) e = let yes = begins_back p.line more (told_begins v (longer_line p.line more) e) in cc
 
     still : (more : List ℕ) → begins_header p.line ≡ false → begins_header (longer_line p.line more) ≡ false
     still more refused = false_from_ne_true (begins_header (longer_line p.line more)) (λ yes. let back = begins_back p.line more yes in cc)
 
-    by_version : (version : Option Version) → p.version ≡ version → BegunCases p
-    by_version None is = elim (cases_Bool (begins_header p.line)) [
+    by_header : (header : Option Header) → p.header ≡ header → BegunCases p
+    by_header None is = elim (cases_Bool (begins_header p.line)) [
       | inl begins ↦ inl (rw (is, begins) refl)
-      | inr refused ↦ inr (NoHeader, rw (is, refused) refl, (λ more. rw (is, still more refused) refl), λ more. rw is (no_version more refused (version_in (longer_line p.line more)) refl))
+      | inr refused ↦ inr (NoHeader, rw (is, refused) refl, (λ more. rw (is, still more refused) refl), λ more. rw is (no_header more refused (header_in (longer_line p.line more)) refl))
     ]
-    by_version (Some v) is = elim (cases_lt p.calls 65536) [
+    by_header (Some v) is = elim (cases_lt p.calls 65536) [
       | inl lt ↦ inl (rw (is, lt-leb 65536 p.calls lt) refl)
       | inr le ↦ inr (TooManyCalls, rw (is, le-leb 65536 p.calls le) refl, (λ more. rw (is, le-leb 65536 p.calls le) refl), λ more. rw (is, le-leb 65536 p.calls le) refl)
     ]

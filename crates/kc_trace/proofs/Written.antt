@@ -2,10 +2,10 @@
 use Rattle.std.proofs.Common.{◌≡◌, false, List, [], ◌∷◌, ◌++◌, refl, inl, inr}
 use Rattle.std.specs.List.{AllByRecursion, list_any}
 use Rattle.std.proofs.lemmas.Bool.{cases_Bool, or_parts}
-use Rattle.kc_types.specs.declared.version.Version.TheVariants.{One, Two}
+use Rattle.kc_trace.specs.declared.header.Header.TheVariants.{One, Two}
 use Rattle.kc_types.specs.declared.call.Call.{Call}
 use Rattle.kc_model.specs.Ranged.{IsRanged}
-use Rattle.kc_trace.specs.Spelling.{is_range_call, version_of}
+use Rattle.kc_trace.specs.Spelling.{is_range_call, header_of}
 use Rattle.kc_trace.specs.Trace.{AreCalls}
 
 pub ranged_push : (calls : List Call) (call : Call) → AllByRecursion IsRanged calls → IsRanged call → AllByRecursion IsRanged (calls ++ call ∷ [])
@@ -22,8 +22,8 @@ in_the_first (call ∷ calls) none all =
     let parts = or_parts (is_range_call call) (list_any is_range_call calls) none in
     ((all.0, rw parts.0 refl), in_the_first calls parts.1 all.1)
 
-pub are_calls : (calls : List Call) → AllByRecursion IsRanged calls → AreCalls (version_of calls) calls
-unfolding version_of
+pub are_calls : (calls : List Call) → AllByRecursion IsRanged calls → AreCalls (header_of calls) calls
+unfolding header_of
 are_calls calls all =
     elim (cases_Bool (list_any is_range_call calls)) [
       | inl new ↦ rw new (in_the_second calls all)

@@ -2,8 +2,8 @@
 use Rattle.std.specs.Prelude.{◌+◌, ◌==◌, ◌||◌, Bool, false, nat_le, ℕ, List, [], ◌∷◌, ◌++◌, length, Option, Some, None, if◌then◌else◌, Result, Ok, Err, ◌≡◌}
 use Rattle.std.specs.List.{starts_with}
 use Rattle.std.specs.Str.{bytes_eq}
-use Rattle.kc_types.specs.declared.version.Version.{Version}
-use Rattle.kc_types.specs.declared.version.Version.TheVariants.{One, Two}
+use Rattle.kc_trace.specs.declared.header.Header.{Header}
+use Rattle.kc_trace.specs.declared.header.Header.TheVariants.{One, Two}
 use Rattle.kc_types.specs.declared.call.Call.{Call}
 use Rattle.kc_trace.specs.declared.fault.TraceFault.{TraceFault}
 use Rattle.kc_trace.specs.declared.fault.TraceFault.TheVariants.{NoHeader, BadLine, NoNewline, TooManyCalls, Memory}
@@ -30,16 +30,16 @@ abbrev pub Gives : {X Y : Type 0} → (X → Y) → Result X TraceFault → Resu
 Gives view (Ok x) read = read ≡ Ok (view x)
 Gives view (Err e) read = Fails e read
 
--- how far a trace has been read: the version in its header, once that was read, how many calls there were, and the line
+-- how far a trace has been read: its header, once that was read, how many calls there were, and the line
 -- begun, or nothing if it is longer than any call
 pub record Progress : Type 0 where
-  pub version : Option Version
+  pub header : Option Header
   pub calls : ℕ
   pub line : Option (List ℕ)
 
 -- before the header
 abbrev pub start : Progress
-start = record { version = None; calls = 0; line = Some [] }
+start = record { header = None; calls = 0; line = Some [] }
 
 -- a line, or nothing if it is longer than any call
 abbrev pub kept : List ℕ → Option (List ℕ)
@@ -54,20 +54,20 @@ longer_line (Some line) bytes = kept (line ++ bytes)
 abbrev pub longer : Progress → List ℕ → Progress
 longer progress bytes = record progress { line = longer_line progress.line bytes }
 
--- the version whose header a line is
-abbrev pub version_in : Option (List ℕ) → Option Version
-version_in None = None
-version_in (Some line) = if bytes_eq line (header_line One) then Some One else if bytes_eq line (header_line Two) then Some Two else None
+-- the header that a line is
+abbrev pub header_in : Option (List ℕ) → Option Header
+header_in None = None
+header_in (Some line) = if bytes_eq line (header_line One) then Some One else if bytes_eq line (header_line Two) then Some Two else None
 
 -- whether a header begins with the line
 abbrev pub begins_header : Option (List ℕ) → Bool
 begins_header None = false
 begins_header (Some line) = starts_with ◌==◌ (header_line One) line || starts_with ◌==◌ (header_line Two) line
 
--- the call, if a text of this version may have it
-abbrev pub standing : Version → Option Call → Option Call
-standing version None = None
-standing version (Some call) = if is_allowed_in version call then Some call else None
+-- the call, if a trace with this header may have it
+abbrev pub standing : Header → Option Call → Option Call
+standing header None = None
+standing header (Some call) = if is_allowed_in header call then Some call else None
 
 -- the call that a line is, if it is one
 abbrev pub call_of_kept : Option (List ℕ) → Option Call
@@ -75,8 +75,8 @@ call_of_kept None = None
 call_of_kept (Some line) = call_of line
 
 -- the same, if it may be there
-abbrev pub call_in : Version → Option (List ℕ) → Option Call
-call_in version line = standing version (call_of_kept line)
+abbrev pub call_in : Header → Option (List ℕ) → Option Call
+call_in header line = standing header (call_of_kept line)
 
 -- after the newline of a line that is this call, or is not a call
 abbrev pub after_line : Progress → Option Call → Result (Progress × List Call) TraceFault
@@ -84,25 +84,25 @@ after_line progress None = Err (BadLine (progress.calls + 2))
 after_line progress (Some call) = Ok (record progress { calls = progress.calls + 1; line = Some [] }, call ∷ [])
 
 -- a line that has begun like this and not ended: no header begins so, or there are as many calls as may be
-abbrev pub begun_by : Option Version → Progress → Result (Progress × List Call) TraceFault
+abbrev pub begun_by : Option Header → Progress → Result (Progress × List Call) TraceFault
 begun_by None progress = if begins_header progress.line then Ok (progress, []) else Err NoHeader
-begun_by (Some version) progress = if nat_le call_limit progress.calls then Err TooManyCalls else Ok (progress, [])
+begun_by (Some header) progress = if nat_le call_limit progress.calls then Err TooManyCalls else Ok (progress, [])
 
 abbrev pub begun : Progress → Result (Progress × List Call) TraceFault
-begun progress = begun_by progress.version progress
+begun progress = begun_by progress.header progress
 
--- after a header of this version, or a line that is not one
-abbrev pub after_header : Progress → Option Version → Result (Progress × List Call) TraceFault
+-- after this header, or a line that is not one
+abbrev pub after_header : Progress → Option Header → Result (Progress × List Call) TraceFault
 after_header progress None = Err NoHeader
-after_header progress (Some version) = Ok (record progress { version = Some version; line = Some [] }, [])
+after_header progress (Some header) = Ok (record progress { header = Some header; line = Some [] }, [])
 
 -- after the newline of the line begun: the header's, or a call's
-abbrev pub line_ended_by : Option Version → Progress → Result (Progress × List Call) TraceFault
-line_ended_by None progress = after_header progress (version_in progress.line)
-line_ended_by (Some version) progress = if nat_le call_limit progress.calls then Err TooManyCalls else after_line progress (call_in version progress.line)
+abbrev pub line_ended_by : Option Header → Progress → Result (Progress × List Call) TraceFault
+line_ended_by None progress = after_header progress (header_in progress.line)
+line_ended_by (Some header) progress = if nat_le call_limit progress.calls then Err TooManyCalls else after_line progress (call_in header progress.line)
 
 abbrev pub line_ended : Progress → Result (Progress × List Call) TraceFault
-line_ended progress = line_ended_by progress.version progress
+line_ended progress = line_ended_by progress.header progress
 
 -- how far it is after one more byte, and the call whose line it ends
 abbrev pub fed_byte : Progress → ℕ → Result (Progress × List Call) TraceFault
@@ -128,15 +128,15 @@ nothing_begun (Some []) = Ok tt
 nothing_begun (Some (byte ∷ bytes)) = Err NoNewline
 
 -- whether the text may end there
-abbrev pub ended : Option Version → Option (List ℕ) → Result (Unit {0}) TraceFault
+abbrev pub ended : Option Header → Option (List ℕ) → Result (Unit {0}) TraceFault
 ended None line = Err NoHeader
-ended (Some version) line = nothing_begun line
+ended (Some header) line = nothing_begun line
 
 -- what a whole text is read as
 unfoldable pub reading : List ℕ → Result (List Call) TraceFault
 reading text = do
   all ← feed start text
-  end ← ended all.0.version all.0.line
+  end ← ended all.0.header all.0.line
   Ok all.1
 
 -- a reader: how far it has read, and the fault that it met

@@ -4,8 +4,8 @@ use Rattle.std.specs.List.{list_any, flat_map, join_with_byte}
 use Rattle.std.specs.Fmt.{decimal}
 use Rattle.hex.specs.Hex.{encode_lower}
 use Rattle.kc_types.specs.Limits.{line_limit}
-use Rattle.kc_types.specs.declared.version.Version.{Version}
-use Rattle.kc_types.specs.declared.version.Version.TheVariants.{One, Two}
+use Rattle.kc_trace.specs.declared.header.Header.{Header}
+use Rattle.kc_trace.specs.declared.header.Header.TheVariants.{One, Two}
 use Rattle.kc_types.specs.declared.call.Call.{Call}
 use Rattle.kc_types.specs.declared.call.Call.TheVariants.{Take, Give, HostFault, HostRead, HostWrite, RegisterVm, RegisterVcpu, SetBoot, Remap, Verify, Map, GuestRead, GuestWrite, Grant, Revoke, GrantRange, RevokeRange, Drop, Clear}
 
@@ -43,34 +43,34 @@ longest_call = line_limit + 1
 abbrev pub lines_of : List Call → List ℕ
 lines_of calls = flat_map (λ call. line_of call ++ 10 ∷ []) calls
 
--- whether only texts of the second version may have the call
+-- whether only traces with the second header may have the call
 abbrev pub is_range_call : Call → Bool
 is_range_call (GrantRange vm vcpu gfn count) = true
 is_range_call (RevokeRange vm vcpu gfn count) = true
 is_range_call _ = false
 
--- whether a text of this version may have the call
-abbrev pub is_allowed_in : Version → Call → Bool
+-- whether a trace with this header may have the call
+abbrev pub is_allowed_in : Header → Call → Bool
 is_allowed_in One call = not (is_range_call call)
 is_allowed_in Two call = true
 
 -- the first line of each trace, without its newline
-abbrev pub header_line : Version → List ℕ
+abbrev pub header_line : Header → List ℕ
 header_line One = codes "kcore-trace 1"
 header_line Two = codes "kcore-trace 2"
 
 -- the same with its newline
-abbrev pub trace_header : Version → List ℕ
-trace_header version = header_line version ++ 10 ∷ []
+abbrev pub trace_header : Header → List ℕ
+trace_header header = header_line header ++ 10 ∷ []
 
--- the text of some calls, with the header of a version
-abbrev pub text_of : Version → List Call → List ℕ
-text_of version calls = trace_header version ++ lines_of calls
+-- the text of some calls after a header
+abbrev pub text_of : Header → List Call → List ℕ
+text_of header calls = trace_header header ++ lines_of calls
 
--- the first version whose texts may have all of these calls
-unfoldable pub version_of : List Call → Version
-version_of calls = if list_any is_range_call calls then Two else One
+-- the first header that may have all of these calls after it
+unfoldable pub header_of : List Call → Header
+header_of calls = if list_any is_range_call calls then Two else One
 
 -- the text that is written for a list of calls
 abbrev pub trace_of : List Call → List ℕ
-trace_of calls = text_of (version_of calls) calls
+trace_of calls = text_of (header_of calls) calls

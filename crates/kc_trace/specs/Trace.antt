@@ -2,7 +2,7 @@
 use Rattle.std.specs.Prelude.{◌≡◌, ◌+◌, ◌<◌, ◌≤◌, true, ℕ, List, ◌∷◌, ◌++◌, length}
 use Rattle.std.specs.List.{AllByRecursion}
 use Rattle.kc_types.specs.Limits.{call_limit}
-use Rattle.kc_types.specs.declared.version.Version.{Version}
+use Rattle.kc_trace.specs.declared.header.Header.{Header}
 use Rattle.kc_types.specs.declared.call.Call.{Call}
 use Rattle.kc_model.specs.Ranged.{IsRanged}
 use Rattle.kc_lines.specs.Lines.{IsOneLine}
@@ -10,36 +10,36 @@ use Rattle.kc_trace.specs.declared.fault.TraceFault.{TraceFault}
 use Rattle.kc_trace.specs.declared.fault.TraceFault.TheVariants.{NoHeader, BadLine, NoNewline, TooManyCalls, Memory}
 use Rattle.kc_trace.specs.Spelling.{line_of, lines_of, trace_header, text_of, is_allowed_in}
 
--- a call that a trace of this version may have: its numbers and bytes are in range
-abbrev pub IsCallOf : Version → Call → Type 0
-IsCallOf version call = IsRanged call × (is_allowed_in version call ≡ true)
+-- a call that a trace with this header may have: its numbers and bytes are in range
+abbrev pub IsCallOf : Header → Call → Type 0
+IsCallOf header call = IsRanged call × (is_allowed_in header call ≡ true)
 
-abbrev pub AreCalls : Version → List Call → Type 0
-AreCalls version calls = AllByRecursion (IsCallOf version) calls
+abbrev pub AreCalls : Header → List Call → Type 0
+AreCalls header calls = AllByRecursion (IsCallOf header) calls
 
 -- what follows this many calls is not another call, for this reason
-abbrev pub StopsAt : Version → ℕ → List ℕ → TraceFault → Type 0
-StopsAt version before rest TooManyCalls = (before ≡ call_limit) × (0 < length rest)
-StopsAt version before rest NoNewline = (before < call_limit) × (0 < length rest) × IsOneLine rest
-StopsAt version before rest (BadLine number) = (before < call_limit) × (number ≡ before + 2)
-    × ((line : List ℕ) × (after : List ℕ) × (rest ≡ line ++ 10 ∷ after) × IsOneLine line × ((call : Call) → IsCallOf version call → line ≡ line_of call → ⊥))
-StopsAt version before rest NoHeader = ⊥
-StopsAt version before rest Memory = ⊥
+abbrev pub StopsAt : Header → ℕ → List ℕ → TraceFault → Type 0
+StopsAt header before rest TooManyCalls = (before ≡ call_limit) × (0 < length rest)
+StopsAt header before rest NoNewline = (before < call_limit) × (0 < length rest) × IsOneLine rest
+StopsAt header before rest (BadLine number) = (before < call_limit) × (number ≡ before + 2)
+    × ((line : List ℕ) × (after : List ℕ) × (rest ≡ line ++ 10 ∷ after) × IsOneLine line × ((call : Call) → IsCallOf header call → line ≡ line_of call → ⊥))
+StopsAt header before rest NoHeader = ⊥
+StopsAt header before rest Memory = ⊥
 
 -- the text is this list of calls
 pub record IsTrace (text : List ℕ) (calls : List Call) : Type 0 where
-  pub version : Version
-  pub whole : text ≡ text_of version calls
-  pub each : AreCalls version calls
+  pub header : Header
+  pub whole : text ≡ text_of header calls
+  pub each : AreCalls header calls
   pub few : length calls ≤ call_limit
 
 -- after its header and some calls the text has no further call, for this reason
 abbrev pub Stops : List ℕ → TraceFault → Type 0
-Stops text fault = (version : Version) × (calls : List Call) × (rest : List ℕ) × (text ≡ trace_header version ++ (lines_of calls ++ rest)) × AreCalls version calls × StopsAt version (length calls) rest fault
+Stops text fault = (header : Header) × (calls : List Call) × (rest : List ℕ) × (text ≡ trace_header header ++ (lines_of calls ++ rest)) × AreCalls header calls × StopsAt header (length calls) rest fault
 
 -- the text is not a trace, and this is the first reason
 abbrev pub IsRefused : List ℕ → TraceFault → Type 0
-IsRefused text NoHeader = (version : Version) (rest : List ℕ) → text ≡ trace_header version ++ rest → ⊥
+IsRefused text NoHeader = (header : Header) (rest : List ℕ) → text ≡ trace_header header ++ rest → ⊥
 IsRefused text (BadLine number) = Stops text (BadLine number)
 IsRefused text NoNewline = Stops text NoNewline
 IsRefused text TooManyCalls = Stops text TooManyCalls

@@ -7,12 +7,14 @@
 //!   `src/reply_writer.rt`, `src/answer_writer.rt` (`specs/AnswerText.antt`), `src/custody_writer.rt`
 //!   (`specs/CustodyText.antt`), `src/remark_writer.rt` (`specs/RemarkText.antt`), `src/summary_writer.rt`
 //!   (`specs/SummaryText.antt`)
+//! - the headers of traces: `src/header.rt`
 //! - the volumes of a chain, and which one a line is in: `src/volume_writer.rt`
 #![tactic(auto)]
 
 mod answer_writer;
 mod custody_writer;
 mod fault;
+mod header;
 pub mod laws;
 mod line;
 mod reader;
@@ -28,10 +30,11 @@ pub use custody_writer::{
     push_custody_header,
 };
 pub use fault::TraceFault;
+pub use header::Header;
 pub use line::call_of_line;
 pub use reader::{TraceReader, read_trace};
 pub use remark_writer::{call_name, push_access, push_denied};
 pub use reply_writer::{LONGEST_REPLY, push_reply, write_replies};
 pub use summary_writer::summary_text;
 pub use volume_writer::{LONGEST_PLACE, VolumeEntry, push_place, push_volumes, volume_of};
-pub use writer::{LONGEST_CALL, push_call, push_header, version_of, write_trace};
+pub use writer::{LONGEST_CALL, header_of, push_call, push_header, write_trace};

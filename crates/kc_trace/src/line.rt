@@ -7,8 +7,9 @@ ghost use Rattle.kc_trace.specs.Spelling.{is_range_call, is_allowed_in};
 ghost use Rattle.kc_trace.specs.Redacting.{data_by, call_by};
 ghost use Rattle.kc_trace.specs.Reading.{one_word, with_one_number, with_two_numbers, with_three_numbers, with_four_numbers, read_guest_access, call_of};
 
+use crate::header::Header;
 use kc_lines::{read_blanked, read_data, read_number, split_number, split_word};
-use kc_types::{Call, Data, Version};
+use kc_types::{Call, Data};
 use std::alloc::{AllocError, Global};
 
 /// What becomes of the bytes that a virtual processor writes: they are read, or they are only checked, and zeros take
@@ -19,20 +20,20 @@ pub(crate) enum GuestData {
     Blanked,
 }
 
-/// Whether only texts of the second version may have the call.
+/// Whether only traces with the second header may have the call.
 pub fn is_range_call(call: &Call) -> bool
     ensures { result ≡ is_range_call call.now }
 {
     matches!(call, Call::GrantRange { .. } | Call::RevokeRange { .. })
 }
 
-/// Whether a text of this version may have the call.
-pub fn is_allowed_in(version: Version, call: &Call) -> bool
-    ensures { result ≡ is_allowed_in version call.now }
+/// Whether a trace with this header may have the call.
+pub fn is_allowed_in(header: Header, call: &Call) -> bool
+    ensures { result ≡ is_allowed_in header call.now }
 {
-    match version {
-        Version::One => !is_range_call(call),
-        Version::Two => true,
+    match header {
+        Header::One => !is_range_call(call),
+        Header::Two => true,
     }
 }
 

@@ -5,24 +5,25 @@ ghost use Rattle.kc_types.specs.Limits.{call_limit};
 ghost use Rattle.kc_types.specs.declared.call.Call.{Call};
 ghost use Rattle.kc_trace.specs.Trace.{IsTrace, IsRefused};
 ghost use Rattle.kc_trace.specs.Redacting.{call_by, redacted_read, read_by};
-ghost use Rattle.kc_trace.specs.Machine.{Gives, Fails, start, longer, version_in, begins_header, begun, line_ended_by, line_ended, with_front, feed, fed, ended, reading, standing, call_of_kept, call_in, kept};
+ghost use Rattle.kc_trace.specs.Machine.{Gives, Fails, start, longer, header_in, begins_header, begun, line_ended_by, line_ended, with_front, feed, fed, ended, reading, standing, call_of_kept, call_in, kept};
 
 use crate::fault::TraceFault;
+use crate::header::Header;
 use crate::line::{GuestData, is_allowed_in, read_call};
 use arrayvec::ArrayVec;
 use kc_lines::split_line;
-use kc_types::{CALL_LIMIT, Call, LINE_LIMIT, Version};
+use kc_types::{CALL_LIMIT, Call, LINE_LIMIT};
 use std::alloc::{AllocError, Global};
 use std::marker::Model;
 
-/// The version whose header a line is.
-fn version_in(line: &[u8]) -> Option<Version>
-    ensures { result ≡ version_in (Some line.now) }
+/// The header that a line is.
+fn header_in(line: &[u8]) -> Option<Header>
+    ensures { result ≡ header_in (Some line.now) }
 {
     if line == b"kcore-trace 1".as_slice() {
-        Some(Version::One)
+        Some(Header::One)
     } else if line == b"kcore-trace 2".as_slice() {
-        Some(Version::Two)
+        Some(Header::Two)
     } else {
         None
     }
@@ -35,12 +36,12 @@ fn begins_header(line: &[u8]) -> bool
     b"kcore-trace 1".starts_with(line) || b"kcore-trace 2".starts_with(line)
 }
 
-/// The call, if a text of this version may have it.
-fn standing(version: Version, call: Option<Call>) -> Option<Call>
-    ensures { result ≡ standing version call }
+/// The call, if a trace with this header may have it.
+fn standing(header: Header, call: Option<Call>) -> Option<Call>
+    ensures { result ≡ standing header call }
 {
     match call {
-        Some(call) => if is_allowed_in(version, &call) {
+        Some(call) => if is_allowed_in(header, &call) {
             Some(call)
         } else {
             None
@@ -64,11 +65,11 @@ fn room_for(bytes: usize) -> usize {
     (bytes / 8).min(CALL_LIMIT)
 }
 
-/// How far a trace has been read: the version in its header, once that was read, how many calls there were, and the
+/// How far a trace has been read: its header, once that was read, how many calls there were, and the
 /// line begun.
 #[derive(Drop)]
 struct Progress {
-    version: Option<Version>,
+    header: Option<Header>,
     calls: u32,
     line: ArrayVec<u8, LINE_LIMIT>,
     is_too_long: bool,
@@ -81,7 +82,7 @@ impl Model for Progress {
 
     ghost Value = { Seen };
 
-    ghost view = { λ p. record { version = p.version; calls = p.calls; line = if p.is_too_long then None else Some p.line.items } };
+    ghost view = { λ p. record { header = p.header; calls = p.calls; line = if p.is_too_long then None else Some p.line.items } };
 
     ghost invariant = { λ p. p.calls ≤ call_limit };
 }
@@ -91,7 +92,7 @@ impl Progress {
         ensures { result ≡ start }
     {
         Progress {
-            version: None,
+            header: None,
             calls: 0,
             line: ArrayVec::new(),
             is_too_long: false,
@@ -105,7 +106,7 @@ impl Progress {
         let mut line = ArrayVec::new();
         line.try_extend_from_slice(self.line.as_slice()).unwrap();
         Progress {
-            version: self.version,
+            header: self.header,
             calls: self.calls,
             line,
             is_too_long: self.is_too_long,
@@ -137,7 +138,7 @@ impl Progress {
         ensures { MatchResult result (λ nothing. begun (longer self.old bytes.now) ≡ Ok (self.new, [])) (λ fault. Fails fault (begun (longer self.old bytes.now))) }
     {
         self.push_each(bytes);
-        match self.version {
+        match self.header {
             None => if self.is_too_long || !begins_header(self.line.as_slice()) {
                 Err(TraceFault::NoHeader)
             } else {
@@ -159,35 +160,35 @@ impl Progress {
         if self.is_too_long {
             return Err(TraceFault::NoHeader);
         }
-        let Some(version) = version_in(self.line.as_slice()) else {
+        let Some(header) = header_in(self.line.as_slice()) else {
             return Err(TraceFault::NoHeader);
         };
-        self.version = Some(version);
+        self.header = Some(header);
         self.begin_line();
         Ok(())
     }
 
-    /// Reads a line as a call of a trace of this version, given its last bytes. It is read in place, unless it began in
+    /// Reads a line as a call of a trace with this header, given its last bytes. It is read in place, unless it began in
     /// an earlier piece.
     #[tactic(auto, using(crate::proofs::Redacting::standing_by))]
     fn call(
         &mut self,
         alloc: Global,
         guests: GuestData,
-        version: Version,
+        header: Header,
         last: &[u8],
     ) -> Result<Option<Call>, AllocError>
-        ensures call { IfOk result (λ call. call ≡ call_by guests (call_in version (longer self.old last.now).line)) }
+        ensures call { IfOk result (λ call. call ≡ call_by guests (call_in header (longer self.old last.now).line)) }
         ensures others { self.new ≡ record self.old { line = self.new.line } }
     {
         if self.line.is_empty() && !self.is_too_long {
-            return Ok(standing(version, call_of_whole(alloc, guests, last)?));
+            return Ok(standing(header, call_of_whole(alloc, guests, last)?));
         }
         self.push_each(last);
         if self.is_too_long {
             return Ok(None);
         }
-        Ok(standing(version, read_call(alloc, guests, self.line.as_slice())?))
+        Ok(standing(header, read_call(alloc, guests, self.line.as_slice())?))
     }
 
     /// Takes the last bytes of a line, and gives the call that it is; the header is not a call.
@@ -199,14 +200,14 @@ impl Progress {
     ) -> Result<Option<Call>, TraceFault>
         ensures { MatchResult result (λ call. read_by guests (line_ended (longer self.old last.now)) ≡ Ok (self.new, option_to_list call)) (λ fault. Fails fault (read_by guests (line_ended (longer self.old last.now)))) }
     {
-        let Some(version) = self.version else {
+        let Some(header) = self.header else {
             self.end_header(last)?;
             return Ok(None);
         };
         if self.calls >= CALL_LIMIT as u32 {
             return Err(TraceFault::TooManyCalls);
         }
-        let Some(call) = self.call(alloc, guests, version, last)? else {
+        let Some(call) = self.call(alloc, guests, header, last)? else {
             return Err(TraceFault::BadLine(self.calls + 2));
         };
         self.calls += 1;
@@ -256,9 +257,9 @@ impl Progress {
 
     /// Whether the text may end here.
     fn end(&self) -> Result<(), TraceFault>
-        ensures { result ≡ ended self.now.version self.now.line }
+        ensures { result ≡ ended self.now.header self.now.line }
     {
-        if self.version.is_none() {
+        if self.header.is_none() {
             return Err(TraceFault::NoHeader);
         }
         if self.is_too_long || !self.line.is_empty() {
@@ -378,7 +379,7 @@ impl TraceReader {
     /// Whether the text may end here. If not, the fault is the one met before, else `NoHeader` within the header and
     /// `NoNewline` within a line.
     pub fn finish(self) -> Result<(), TraceFault>
-        ensures fault { MatchOption self.fault (result ≡ ended self.progress.version self.progress.line) (λ fault. result ≡ Err fault) }
+        ensures fault { MatchOption self.fault (result ≡ ended self.progress.header self.progress.line) (λ fault. result ≡ Err fault) }
         ensures told { result ≢ Err TraceFault.Memory }
     {
         match self.fault {

@@ -14,9 +14,9 @@ pub returns-then-not-self-clause-call : goal.returns-then-not-self-clause-call
 returns-then-not-self-clause-call c =
     let last = c.args.last.now in
     let guests = c.args.guests in
-    let version = c.args.version in
+    let header = c.args.header in
     let line = c.self.inside.line.items in
     let seen : longer_line c.args.self.now.line last ≡ longer_line (Some line) last =
     ap (λ (p : Progress). longer_line p.line last) (sym c.self.view_is) ∙ ap (λ too_long. longer_line (cond too_long None (Some line)) last) c.if-not-self.true in
     let same = seen ∙ whole line last (eqb-true _ _ (sym c.is_empty.ensures ∙ c.if-is_empty.true)) in
-    c.standing.ensures ∙ ap (standing version) c.in_ok-call_of_whole.ensures ∙ standing_by guests version (call_of_kept (kept last)) ∙ ap (λ read. call_by guests (call_in version read)) (sym same)
+    c.standing.ensures ∙ ap (standing header) c.in_ok-call_of_whole.ensures ∙ standing_by guests header (call_of_kept (kept last)) ∙ ap (λ read. call_by guests (call_in header read)) (sym same)
