@@ -274,7 +274,7 @@ impl Session {
     {
         let mut told = Vec::with_capacity(self.alloc, LONGEST_CALL)?;
         if number == 0 {
-            push_header(&mut told, Header::Two);
+            push_header(&mut told, &Header::Two);
             return Ok(Some(told));
         }
         let place = number - 1;

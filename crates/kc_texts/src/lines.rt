@@ -185,7 +185,7 @@ pub fn give_trace<K: Sink>(out: &mut K, mut piece: Vec<u8>, calls: Vec<Call>) ->
     ensures begun { OnErr result (AppendsBeginning (K.taken out.old) (K.taken out.new) (trace_of calls.items)) }
     ensures mark { K.failed out.new ≡ is_err result }
 {
-    push_header(&mut piece, header_of(&calls));
+    push_header(&mut piece, &header_of(&calls));
     give_lines(out, piece, calls)
 }
 

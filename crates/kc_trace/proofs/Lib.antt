@@ -1,3 +1,5 @@
+pub mod HeadWords
+pub mod HeadStages
 pub mod Lines
 pub mod Spelled
 pub mod Cuts

@@ -4,7 +4,7 @@ use Rattle.std.specs.Prelude.{codes, option_map, option_and_then}
 use Rattle.std.specs.Str.{bytes_eq}
 use Rattle.std.proofs.lemmas.List.{map-append}
 use Rattle.kc_trace.specs.declared.header.Header.{Header}
-use Rattle.kc_trace.specs.declared.header.Header.TheVariants.{One, Two}
+use Rattle.kc_trace.specs.declared.header.Header.TheVariants.{One, Two, Three}
 use Rattle.kc_types.specs.declared.call.Call.{Call}
 use Rattle.kc_types.specs.declared.call.Call.TheVariants.{Take, Give, HostFault, HostRead, HostWrite, RegisterVm, RegisterVcpu, SetBoot, Remap, Verify, Map, GuestWrite, Grant, Revoke, GrantRange, RevokeRange, Drop, Clear}
 use Rattle.kc_model.specs.Redaction.{redacted_call, redacted}
@@ -88,6 +88,7 @@ allowed_too : (header : Header) (call : Call) → is_allowed_in header (redacted
 allowed_too One (GuestWrite a b c d bytes) = refl
 allowed_too One _ = refl
 allowed_too Two call = refl
+allowed_too (Three head) call = refl
 
 pub standing_by : (guests : GuestData) (header : Header) (found : Option Call) → standing header (call_by guests found) ≡ call_by guests (standing header found)
 standing_by Read header found = refl

@@ -1,6 +1,6 @@
 -- Reading byte after byte, as a loop does line after line.
 use Rattle.std.proofs.Common.{◌≡◌, ◌⊎◌, inl, inr, ℕ, ◌<◌, ◌-◌, Bool, true, false, cond, List, [], ◌∷◌, ◌++◌, length, take, drop, Option, Some, None, Result, Ok, Err, refl, sym, ap, subst, ◌∙◌, append_assoc, length-append, arith}
-use Rattle.std.specs.Prelude.{◌==◌, not, nat_le}
+use Rattle.std.specs.Prelude.{◌==◌, ◌||◌, not, nat_le, codes}
 use Rattle.std.specs.List.{concat, list_all, starts_with}
 use Rattle.std.specs.Str.{bytes_eq}
 use Rattle.std.proofs.lemmas.Bool.{and_parts, and_from, not-true, le-leb, lt-leb, leb-false, cases_lt, cases_Bool, or_cases, or_right, false_from_ne_true}
@@ -8,12 +8,16 @@ use Rattle.std.proofs.lemmas.List.{append-nil, drop_all}
 use Rattle.std.proofs.lemmas.Slice.Eq.{bytes_eq-Decides}
 use Rattle.kc_trace.specs.declared.header.Header.{Header}
 use Rattle.kc_trace.specs.declared.header.Header.TheVariants.{One, Two}
+use Rattle.kc_trace.specs.declared.head_reader.HeadSoFar.{HeadSoFar}
+use Rattle.kc_trace.specs.declared.head_reader.HeadSoFar.TheVariants.{Nothing, FirstLine, Machine}
+use Rattle.kc_trace.specs.declared.head_reader.NextLine.{NextLine}
+use Rattle.kc_trace.specs.declared.head_reader.NextLine.TheVariants.{More, Whole}
 use Rattle.kc_types.specs.declared.call.Call.{Call}
 use Rattle.kc_types.specs.Limits.{line_limit}
 use Rattle.kc_trace.specs.declared.fault.TraceFault.{TraceFault}
 use Rattle.kc_trace.specs.declared.fault.TraceFault.TheVariants.{NoHeader, BadLine, NoNewline, TooManyCalls, Memory}
-use Rattle.kc_trace.specs.Spelling.{header_line}
-use Rattle.kc_trace.specs.Machine.{◌>>=◌, Fails, Progress, kept, longer_line, longer, header_in, begins_header, begun, after_header, line_ended, with_front, fed_byte, feed, feed_each}
+use Rattle.kc_trace.specs.HeadReading.{first_line_read}
+use Rattle.kc_trace.specs.Machine.{◌>>=◌, Fails, Progress, kept, longer_line, longer, next_of_line, begins_first_line, begun, after_header, line_ended_by, line_ended, with_front, fed_byte, feed, feed_each}
 use Rattle.kc_lines.specs.Lines.{IsOneLine}
 use Rattle.kc_lines.proofs.Newlines.{tail_is}
 
@@ -83,33 +87,47 @@ starts_back header [] more h = refl
 starts_back [] (x ∷ line) more h = cc
 starts_back (b ∷ header) (x ∷ line) more h = let parts = and_parts (x == b) _ h in and_from (x == b) _ parts.0 (starts_back header line more parts.1)
 
-begins_back : (line : Option (List ℕ)) (more : List ℕ) → begins_header (longer_line line more) ≡ true → begins_header line ≡ true
+-- a line that the first lines of headers begin with still is one if its end is cut off
+begins_back : (line : Option (List ℕ)) (more : List ℕ) → begins_first_line (longer_line line more) ≡ true → begins_first_line line ≡ true
 begins_back None more h = h
 begins_back (Some line) more h = by_length (nat_le (length (line ++ more)) line_limit) h
   where
-    by_length : (b : Bool) → begins_header (cond b (Some (line ++ more)) None) ≡ true → begins_header (Some line) ≡ true
+    one : List ℕ
+    one = codes "kcore-trace 1"
+
+    two : List ℕ
+    two = codes "kcore-trace 2"
+
+    three : List ℕ
+    three = codes "kcore-trace 3"
+
+    by_length : (b : Bool) → begins_first_line (cond b (Some (line ++ more)) None) ≡ true → begins_first_line (Some line) ≡ true
     by_length false h = absurd cc
-    by_length true h = elim (or_cases (starts_with ◌==◌ (header_line One) (line ++ more)) (starts_with ◌==◌ (header_line Two) (line ++ more)) h) [
-      | inl one ↦ rw (starts_back (header_line One) line more one) refl
-      | inr two ↦ or_right (starts_with ◌==◌ (header_line One) line) (starts_with ◌==◌ (header_line Two) line) (starts_back (header_line Two) line more two)
+    by_length true h = elim (or_cases (starts_with ◌==◌ one (line ++ more) || starts_with ◌==◌ two (line ++ more)) (starts_with ◌==◌ three (line ++ more)) h) [
+      | inl first ↦ elim (or_cases (starts_with ◌==◌ one (line ++ more)) (starts_with ◌==◌ two (line ++ more)) first) [
+        | inl e ↦ rw (starts_back one line more e) refl
+        | inr e ↦ let back = starts_back two line more e in rw (back, or_right (starts_with ◌==◌ one line) true refl) refl
+      ]
+      | inr e ↦ or_right (starts_with ◌==◌ one line || starts_with ◌==◌ two line) (starts_with ◌==◌ three line) (starts_back three line more e)
     ]
 
-pub header_of_line : (v : Header) (line : List ℕ) → header_in (Some line) ≡ Some v → line ≡ header_line v
-header_of_line v line = by_tests (bytes_eq line (header_line One)) (bytes_eq line (header_line Two)) refl refl
+-- a line that is read as the first of a header begins one
+first_begins : (line : List ℕ) (next : NextLine) → first_line_read line ≡ Some next → begins_first_line (Some line) ≡ true
+first_begins line next = by_tests (bytes_eq line (codes "kcore-trace 1")) (bytes_eq line (codes "kcore-trace 2")) (bytes_eq line (codes "kcore-trace 3")) refl refl refl
   where
-    by_tests : (one two : Bool) → bytes_eq line (header_line One) ≡ one → bytes_eq line (header_line Two) ≡ two → cond one (Some One) (cond two (Some Two) None) ≡ Some v → line ≡ header_line v
-    by_tests true two h k e = let same : One ≡ v = cc in subst (λ v. line ≡ header_line v) same ((bytes_eq-Decides line (header_line One)).0 h)
-    by_tests false true h k e = let same : Two ≡ v = cc in subst (λ v. line ≡ header_line v) same ((bytes_eq-Decides line (header_line Two)).0 k)
-    by_tests false false h k e = absurd cc
+    own : (text : List ℕ) → bytes_eq line text ≡ true → begins_first_line (Some text) ≡ true → begins_first_line (Some line) ≡ true
+    own text same begins = subst (λ l. begins_first_line (Some l) ≡ true) (sym ((bytes_eq-Decides line text).0 same)) begins
 
--- a header begins with its own line
-told_begins : (v : Header) (line : Option (List ℕ)) → header_in line ≡ Some v → begins_header line ≡ true
-told_begins v None e = absurd cc
-told_begins v (Some line) e = rw (header_of_line v line e) (own v)
-  where
-    own : (v : Header) → begins_header (Some (header_line v)) ≡ true
-    own One = refl
-    own Two = refl
+    by_tests : (one two three : Bool) → bytes_eq line (codes "kcore-trace 1") ≡ one → bytes_eq line (codes "kcore-trace 2") ≡ two → bytes_eq line (codes "kcore-trace 3") ≡ three
+        → cond one (Some (Whole One)) (cond two (Some (Whole Two)) (cond three (Some (More FirstLine)) None)) ≡ Some next → begins_first_line (Some line) ≡ true
+    by_tests true two three h1 h2 h3 e = own (codes "kcore-trace 1") h1 refl
+    by_tests false true three h1 h2 h3 e = own (codes "kcore-trace 2") h2 refl
+    by_tests false false true h1 h2 h3 e = own (codes "kcore-trace 3") h3 refl
+    by_tests false false false h1 h2 h3 e = absurd cc
+
+line_begins : (line : Option (List ℕ)) (next : NextLine) → next_of_line Nothing line ≡ Some next → begins_first_line line ≡ true
+line_begins None next e = absurd cc
+line_begins (Some line) next e = first_begins line next e
 
 -- a line that has begun like this, or one that no further bytes make valid
 abbrev BegunCases : Progress → Type 0
@@ -118,18 +136,25 @@ BegunCases p = (begun p ≡ Ok (p, [])) ⊎ ((f : TraceFault) × (begun p ≡ Er
 begun_cases : (p : Progress) → BegunCases p
 begun_cases p = by_header p.header refl
   where
-    no_header : (more : List ℕ) → begins_header p.line ≡ false → (found : Option Header) → header_in (longer_line p.line more) ≡ found → after_header (longer p more) found ≡ Err NoHeader
-    no_header more refused None e = refl
-    no_header more refused (Some v) e = let yes = begins_back p.line more (told_begins v (longer_line p.line more) e) in cc
+    not_read : (more : List ℕ) → p.head ≡ Nothing → begins_first_line p.line ≡ false → (found : Option NextLine) → next_of_line Nothing (longer_line p.line more) ≡ found → after_header (longer p more) found ≡ Err NoHeader
+    not_read more is refused None e = rw is refl
+    not_read more is refused (Some next) e = let yes = begins_back p.line more (line_begins (longer_line p.line more) next e) in absurd cc
 
-    still : (more : List ℕ) → begins_header p.line ≡ false → begins_header (longer_line p.line more) ≡ false
-    still more refused = false_from_ne_true (begins_header (longer_line p.line more)) (λ yes. let back = begins_back p.line more yes in cc)
+    still : (more : List ℕ) → begins_first_line p.line ≡ false → begins_first_line (longer_line p.line more) ≡ false
+    still more refused = false_from_ne_true (begins_first_line (longer_line p.line more)) (λ yes. let back = begins_back p.line more yes in cc)
+
+    by_head : (head : HeadSoFar) → p.header ≡ None → p.head ≡ head → BegunCases p
+    by_head Nothing none is = elim (cases_Bool (begins_first_line p.line)) [
+      | inl begins ↦ inl (rw (none, is, begins) refl)
+      | inr refused ↦ inr (NoHeader, rw (none, is, refused) refl, (λ more. rw (none, is, still more refused) refl), λ more.
+          ap (λ header. line_ended_by header (longer p more)) none ∙ ap (λ head. after_header (longer p more) (next_of_line head (longer_line p.line more))) is
+          ∙ not_read more is refused (next_of_line Nothing (longer_line p.line more)) refl)
+    ]
+    by_head FirstLine none is = inl (rw (none, is) refl)
+    by_head (Machine machine) none is = inl (rw (none, is) refl)
 
     by_header : (header : Option Header) → p.header ≡ header → BegunCases p
-    by_header None is = elim (cases_Bool (begins_header p.line)) [
-      | inl begins ↦ inl (rw (is, begins) refl)
-      | inr refused ↦ inr (NoHeader, rw (is, refused) refl, (λ more. rw (is, still more refused) refl), λ more. rw is (no_header more refused (header_in (longer_line p.line more)) refl))
-    ]
+    by_header None is = by_head p.head is refl
     by_header (Some v) is = elim (cases_lt p.calls 65536) [
       | inl lt ↦ inl (rw (is, lt-leb 65536 p.calls lt) refl)
       | inr le ↦ inr (TooManyCalls, rw (is, le-leb 65536 p.calls le) refl, (λ more. rw (is, le-leb 65536 p.calls le) refl), λ more. rw (is, le-leb 65536 p.calls le) refl)

@@ -1,3 +1,5 @@
+pub mod Header
+pub mod HeadReading
 pub mod Spelling
 pub mod Reading
 pub mod Machine

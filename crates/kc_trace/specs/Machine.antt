@@ -1,14 +1,19 @@
--- Reading a trace line by line; the first line is its header.
-use Rattle.std.specs.Prelude.{◌+◌, ◌==◌, ◌||◌, Bool, false, nat_le, ℕ, List, [], ◌∷◌, ◌++◌, length, Option, Some, None, if◌then◌else◌, Result, Ok, Err, ◌≡◌}
+-- Reading a trace line by line; the first lines are its header.
+use Rattle.std.specs.Prelude.{◌+◌, ◌==◌, ◌||◌, not, codes, Bool, false, nat_le, ℕ, List, [], ◌∷◌, ◌++◌, length, Option, Some, None, if◌then◌else◌, Result, Ok, Err, ◌≡◌}
 use Rattle.std.specs.List.{starts_with}
 use Rattle.std.specs.Str.{bytes_eq}
 use Rattle.kc_trace.specs.declared.header.Header.{Header}
-use Rattle.kc_trace.specs.declared.header.Header.TheVariants.{One, Two}
+use Rattle.kc_trace.specs.declared.head_reader.HeadSoFar.{HeadSoFar}
+use Rattle.kc_trace.specs.declared.head_reader.HeadSoFar.TheVariants.{Nothing}
+use Rattle.kc_trace.specs.declared.head_reader.NextLine.{NextLine}
+use Rattle.kc_trace.specs.declared.head_reader.NextLine.TheVariants.{More, Whole}
 use Rattle.kc_types.specs.declared.call.Call.{Call}
 use Rattle.kc_trace.specs.declared.fault.TraceFault.{TraceFault}
 use Rattle.kc_trace.specs.declared.fault.TraceFault.TheVariants.{NoHeader, BadLine, NoNewline, TooManyCalls, Memory}
 use Rattle.kc_types.specs.Limits.{call_limit, line_limit}
-use Rattle.kc_trace.specs.Spelling.{header_line, is_allowed_in}
+use Rattle.kc_trace.specs.Header.{first_call_line}
+use Rattle.kc_trace.specs.HeadReading.{next_line, next_number, is_nothing}
+use Rattle.kc_trace.specs.Spelling.{is_allowed_in}
 use Rattle.kc_trace.specs.Reading.{call_of}
 
 -- what `?` is in code
@@ -30,16 +35,17 @@ abbrev pub Gives : {X Y : Type 0} → (X → Y) → Result X TraceFault → Resu
 Gives view (Ok x) read = read ≡ Ok (view x)
 Gives view (Err e) read = Fails e read
 
--- how far a trace has been read: its header, once that was read, how many calls there were, and the line
--- begun, or nothing if it is longer than any call
+-- how far a trace has been read: its header, once all of that was read, and what was read of it before; how many calls
+-- there were, and the line begun, or nothing if it is longer than any call
 pub record Progress : Type 0 where
   pub header : Option Header
+  pub head : HeadSoFar
   pub calls : ℕ
   pub line : Option (List ℕ)
 
 -- before the header
 abbrev pub start : Progress
-start = record { header = None; calls = 0; line = Some [] }
+start = record { header = None; head = Nothing; calls = 0; line = Some [] }
 
 -- a line, or nothing if it is longer than any call
 abbrev pub kept : List ℕ → Option (List ℕ)
@@ -54,15 +60,21 @@ longer_line (Some line) bytes = kept (line ++ bytes)
 abbrev pub longer : Progress → List ℕ → Progress
 longer progress bytes = record progress { line = longer_line progress.line bytes }
 
--- the header that a line is
-abbrev pub header_in : Option (List ℕ) → Option Header
-header_in None = None
-header_in (Some line) = if bytes_eq line (header_line One) then Some One else if bytes_eq line (header_line Two) then Some Two else None
+-- what a line makes of a header, if it may come there
+abbrev pub next_of_line : HeadSoFar → Option (List ℕ) → Option NextLine
+next_of_line head None = None
+next_of_line head (Some line) = next_line head line
 
--- whether a header begins with the line
-abbrev pub begins_header : Option (List ℕ) → Bool
-begins_header None = false
-begins_header (Some line) = starts_with ◌==◌ (header_line One) line || starts_with ◌==◌ (header_line Two) line
+-- whether the first line of a header begins with the line
+abbrev pub begins_first_line : Option (List ℕ) → Bool
+begins_first_line None = false
+begins_first_line (Some line) =
+    starts_with ◌==◌ (codes "kcore-trace 1") line || starts_with ◌==◌ (codes "kcore-trace 2") line || starts_with ◌==◌ (codes "kcore-trace 3") line
+
+-- whether a line that has begun like this may come after what was read of a header: a line after the first is judged
+-- when it has ended
+abbrev pub may_begin : HeadSoFar → Option (List ℕ) → Bool
+may_begin head line = not (is_nothing head) || begins_first_line line
 
 -- the call, if a trace with this header may have it
 abbrev pub standing : Header → Option Call → Option Call
@@ -79,27 +91,32 @@ abbrev pub call_in : Header → Option (List ℕ) → Option Call
 call_in header line = standing header (call_of_kept line)
 
 -- after the newline of a line that is this call, or is not a call
-abbrev pub after_line : Progress → Option Call → Result (Progress × List Call) TraceFault
-after_line progress None = Err (BadLine (progress.calls + 2))
-after_line progress (Some call) = Ok (record progress { calls = progress.calls + 1; line = Some [] }, call ∷ [])
+abbrev pub after_line : Header → Progress → Option Call → Result (Progress × List Call) TraceFault
+after_line header progress None = Err (BadLine (progress.calls + first_call_line header))
+after_line header progress (Some call) = Ok (record progress { calls = progress.calls + 1; line = Some [] }, call ∷ [])
 
 -- a line that has begun like this and not ended: no header begins so, or there are as many calls as may be
 abbrev pub begun_by : Option Header → Progress → Result (Progress × List Call) TraceFault
-begun_by None progress = if begins_header progress.line then Ok (progress, []) else Err NoHeader
+begun_by None progress = if may_begin progress.head progress.line then Ok (progress, []) else Err NoHeader
 begun_by (Some header) progress = if nat_le call_limit progress.calls then Err TooManyCalls else Ok (progress, [])
 
 abbrev pub begun : Progress → Result (Progress × List Call) TraceFault
 begun progress = begun_by progress.header progress
 
--- after this header, or a line that is not one
-abbrev pub after_header : Progress → Option Header → Result (Progress × List Call) TraceFault
-after_header progress None = Err NoHeader
-after_header progress (Some header) = Ok (record progress { header = Some header; line = Some [] }, [])
+-- what is wrong with a line that may not come there
+abbrev pub head_fault : HeadSoFar → TraceFault
+head_fault head = if is_nothing head then NoHeader else BadLine (next_number head)
 
--- after the newline of the line begun: the header's, or a call's
+-- after the newline of a line of the header, or of one that may not come there
+abbrev pub after_header : Progress → Option NextLine → Result (Progress × List Call) TraceFault
+after_header progress None = Err (head_fault progress.head)
+after_header progress (Some (More head)) = Ok (record progress { head = head; line = Some [] }, [])
+after_header progress (Some (Whole header)) = Ok (record progress { header = Some header; head = Nothing; line = Some [] }, [])
+
+-- after the newline of the line begun: one of the header, or a call's
 abbrev pub line_ended_by : Option Header → Progress → Result (Progress × List Call) TraceFault
-line_ended_by None progress = after_header progress (header_in progress.line)
-line_ended_by (Some header) progress = if nat_le call_limit progress.calls then Err TooManyCalls else after_line progress (call_in header progress.line)
+line_ended_by None progress = after_header progress (next_of_line progress.head progress.line)
+line_ended_by (Some header) progress = if nat_le call_limit progress.calls then Err TooManyCalls else after_line header progress (call_in header progress.line)
 
 abbrev pub line_ended : Progress → Result (Progress × List Call) TraceFault
 line_ended progress = line_ended_by progress.header progress

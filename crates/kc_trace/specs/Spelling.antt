@@ -5,7 +5,8 @@ use Rattle.std.specs.Fmt.{decimal}
 use Rattle.hex.specs.Hex.{encode_lower}
 use Rattle.kc_types.specs.Limits.{line_limit}
 use Rattle.kc_trace.specs.declared.header.Header.{Header}
-use Rattle.kc_trace.specs.declared.header.Header.TheVariants.{One, Two}
+use Rattle.kc_trace.specs.declared.header.Header.TheVariants.{One, Two, Three}
+use Rattle.kc_trace.specs.Header.{trace_header}
 use Rattle.kc_types.specs.declared.call.Call.{Call}
 use Rattle.kc_types.specs.declared.call.Call.TheVariants.{Take, Give, HostFault, HostRead, HostWrite, RegisterVm, RegisterVcpu, SetBoot, Remap, Verify, Map, GuestRead, GuestWrite, Grant, Revoke, GrantRange, RevokeRange, Drop, Clear}
 
@@ -43,7 +44,7 @@ longest_call = line_limit + 1
 abbrev pub lines_of : List Call → List ℕ
 lines_of calls = flat_map (λ call. line_of call ++ 10 ∷ []) calls
 
--- whether only traces with the second header may have the call
+-- whether traces with the first header may not have the call
 abbrev pub is_range_call : Call → Bool
 is_range_call (GrantRange vm vcpu gfn count) = true
 is_range_call (RevokeRange vm vcpu gfn count) = true
@@ -53,15 +54,7 @@ is_range_call _ = false
 abbrev pub is_allowed_in : Header → Call → Bool
 is_allowed_in One call = not (is_range_call call)
 is_allowed_in Two call = true
-
--- the first line of each trace, without its newline
-abbrev pub header_line : Header → List ℕ
-header_line One = codes "kcore-trace 1"
-header_line Two = codes "kcore-trace 2"
-
--- the same with its newline
-abbrev pub trace_header : Header → List ℕ
-trace_header header = header_line header ++ 10 ∷ []
+is_allowed_in (Three head) call = true
 
 -- the text of some calls after a header
 abbrev pub text_of : Header → List Call → List ℕ

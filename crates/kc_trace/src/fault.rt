@@ -3,6 +3,7 @@ ghost use Rattle.std.specs.Prelude.{◌≡◌, ◌≤◌, length};
 ghost use Rattle.kc_trace.specs.Faults.{trace_fault_words};
 ghost use Rattle.kc_trace.specs.declared.fault.TraceFault.TheVariants.{Memory};
 
+use kc_types::Memory as NoMemory;
 use std::alloc::{AllocError, AllocFailed};
 use std::error::Error;
 use std::fmt;
@@ -62,6 +63,14 @@ impl<T: Drop> From<AllocFailed<T>> for TraceFault {
     ghost from_gives = { λ _ fault. fault ≡ Memory };
 
     fn from(_refused: AllocFailed<T>) -> TraceFault {
+        TraceFault::Memory
+    }
+}
+
+impl From<NoMemory> for TraceFault {
+    ghost from_gives = { λ _ fault. fault ≡ Memory };
+
+    fn from(_refused: NoMemory) -> TraceFault {
         TraceFault::Memory
     }
 }

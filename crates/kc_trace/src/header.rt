@@ -1,10 +1,86 @@
-//! The headers of traces.
+//! The headers of traces, and what one of header 3 says: which machine its calls are made on, and where in a history
+//! they come.
+ghost use Rattle.std.specs.Prelude.{◌≡◌, ◌≤◌, length, IfOk};
+ghost use Rattle.kc_types.specs.Limits.{digest_limit};
+ghost use Rattle.kc_trace.specs.Header.{first_call_line};
+
+use kc_types::{Config, Memory};
+use std::alloc::Global;
+
+/// How many digests a configuration approves.
+pub(crate) fn approved_count(config: &Config) -> u32
+    ensures value { result ≡ length config.now.approved }
+    ensures few { result ≤ digest_limit }
+{
+    // (what is returned of the frames says that a configuration keeps its limits)
+    let _frames = config.frames();
+    config.approved().len() as u32
+}
+
+/// Where in a history a trace comes: which of its volumes it is.
+#[derive(Clone, Copy, Debug, PartialEq, Eq)]
+pub enum Position {
+    /// The first volume.
+    First,
+    /// A later volume: its number, from 2 on, and the SHA-256 digest (FIPS 180-4) of the redacted text of the volume
+    /// before it.
+    Later { number: u32, after: [u8; 32] },
+}
+
+/// What the head of a trace says.
+#[derive(Debug, Drop, PartialEq)]
+pub struct Head {
+    /// The machine that the calls are made on.
+    pub config: Config,
+    pub position: Position,
+}
+
+impl Head {
+    /// Makes a copy; `Memory` if memory runs out.
+    pub fn copy(&self) -> Result<Head, Memory>
+        // No clause can rule out that memory runs out: a test reads a trace in pieces.
+        ensures { IfOk result (λ made. made ≡ self.now) }
+    {
+        Ok(Head {
+            config: self.config.copy()?,
+            position: self.position,
+        })
+    }
+}
 
 /// The header of a trace, which says which calls may come in it.
-#[derive(Clone, Copy, Debug, PartialEq, Eq)]
+#[derive(Debug, Drop, PartialEq)]
 pub enum Header {
     /// `kcore-trace 1`: all calls but those on ranges of guest frames.
     One,
     /// `kcore-trace 2`: all calls.
     Two,
+    /// `kcore-trace 3` and a head: all calls.
+    Three(Head),
+}
+
+impl Header {
+    /// Makes a copy; `Memory` if memory runs out.
+    pub fn copy(&self) -> Result<Header, Memory>
+        // No clause can rule out that memory runs out: a test reads a trace in pieces.
+        ensures { IfOk result (λ made. made ≡ self.now) }
+    {
+        match self {
+            Header::One => Ok(Header::One),
+            Header::Two => Ok(Header::Two),
+            Header::Three(head) => Ok(Header::Three(head.copy()?)),
+        }
+    }
+
+    /// The number of the line of the first call, counted from 1: 2, or 4 more than digests are approved.
+    pub fn first_call_line(&self) -> u32
+        ensures value { result ≡ first_call_line self.now }
+        ensures few { result ≤ 68 }
+    {
+        match self {
+            Header::One => 2,
+            Header::Two => 2,
+            Header::Three(head) => 4 + approved_count(&head.config),
+        }
+    }
 }

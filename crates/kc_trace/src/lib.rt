@@ -14,7 +14,9 @@
 mod answer_writer;
 mod custody_writer;
 mod fault;
+mod head_reader;
 mod header;
+mod header_writer;
 pub mod laws;
 mod line;
 mod reader;
@@ -30,11 +32,12 @@ pub use custody_writer::{
     push_custody_header,
 };
 pub use fault::TraceFault;
-pub use header::Header;
+pub use header::{Head, Header, Position};
+pub use header_writer::push_header;
 pub use line::call_of_line;
 pub use reader::{TraceReader, read_trace};
 pub use remark_writer::{call_name, push_access, push_denied};
 pub use reply_writer::{LONGEST_REPLY, push_reply, write_replies};
 pub use summary_writer::summary_text;
 pub use volume_writer::{LONGEST_PLACE, VolumeEntry, push_place, push_volumes, volume_of};
-pub use writer::{LONGEST_CALL, header_of, push_call, push_header, write_trace};
+pub use writer::{LONGEST_CALL, header_of, push_call, write_trace};

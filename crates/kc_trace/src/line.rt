@@ -20,7 +20,7 @@ pub(crate) enum GuestData {
     Blanked,
 }
 
-/// Whether only traces with the second header may have the call.
+/// Whether traces with the first header may not have the call.
 pub fn is_range_call(call: &Call) -> bool
     ensures { result ≡ is_range_call call.now }
 {
@@ -28,12 +28,13 @@ pub fn is_range_call(call: &Call) -> bool
 }
 
 /// Whether a trace with this header may have the call.
-pub fn is_allowed_in(header: Header, call: &Call) -> bool
-    ensures { result ≡ is_allowed_in header call.now }
+pub fn is_allowed_in(header: &Header, call: &Call) -> bool
+    ensures { result ≡ is_allowed_in header.now call.now }
 {
     match header {
         Header::One => !is_range_call(call),
         Header::Two => true,
+        Header::Three(_) => true,
     }
 }
 

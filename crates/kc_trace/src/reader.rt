@@ -1,44 +1,37 @@
 //! Reading a trace, whole or in pieces.
-ghost use Rattle.std.specs.Prelude.{◌≡◌, ◌≢◌, ◌⊎◌, ◌+◌, ◌<◌, List, [], length, Some, None, Ok, Err, IfOk, IfErr, OnOk, MatchOption, MatchResult};
+ghost use Rattle.std.specs.Prelude.{◌≡◌, ◌≢◌, ◌⊎◌, ◌+◌, ◌<◌, ◌≤◌, List, [], length, Some, None, Ok, Err, IfOk, IfErr, OnOk, MatchOption, MatchResult};
 ghost use Rattle.std.specs.Option.{option_to_list};
 ghost use Rattle.kc_types.specs.Limits.{call_limit};
 ghost use Rattle.kc_types.specs.declared.call.Call.{Call};
+ghost use Rattle.kc_trace.specs.declared.header.Header.{Header};
+ghost use Rattle.kc_trace.specs.Header.{first_call_line};
 ghost use Rattle.kc_trace.specs.Trace.{IsTrace, IsRefused};
 ghost use Rattle.kc_trace.specs.Redacting.{call_by, redacted_read, read_by};
-ghost use Rattle.kc_trace.specs.Machine.{Gives, Fails, start, longer, header_in, begins_header, begun, line_ended_by, line_ended, with_front, feed, fed, ended, reading, standing, call_of_kept, call_in, kept};
+ghost use Rattle.kc_trace.specs.Machine.{Gives, Fails, start, longer, begins_first_line, begun, line_ended_by, line_ended, with_front, feed, fed, ended, reading, standing, call_of_kept, call_in, kept};
 
 use crate::fault::TraceFault;
+use crate::head_reader::{HeadSoFar, NextLine};
 use crate::header::Header;
 use crate::line::{GuestData, is_allowed_in, read_call};
 use arrayvec::ArrayVec;
 use kc_lines::split_line;
-use kc_types::{CALL_LIMIT, Call, LINE_LIMIT};
+use kc_types::{CALL_LIMIT, Call, LINE_LIMIT, Memory};
 use std::alloc::{AllocError, Global};
 use std::marker::Model;
+use std::mem;
 
-/// The header that a line is.
-fn header_in(line: &[u8]) -> Option<Header>
-    ensures { result ≡ header_in (Some line.now) }
+/// Whether the first line of a header begins with a line.
+fn begins_first_line(line: &[u8]) -> bool
+    ensures { result ≡ begins_first_line (Some line.now) }
 {
-    if line == b"kcore-trace 1".as_slice() {
-        Some(Header::One)
-    } else if line == b"kcore-trace 2".as_slice() {
-        Some(Header::Two)
-    } else {
-        None
-    }
-}
-
-/// Whether a header begins with a line.
-fn begins_header(line: &[u8]) -> bool
-    ensures { result ≡ begins_header (Some line.now) }
-{
-    b"kcore-trace 1".starts_with(line) || b"kcore-trace 2".starts_with(line)
+    b"kcore-trace 1".starts_with(line)
+        || b"kcore-trace 2".starts_with(line)
+        || b"kcore-trace 3".starts_with(line)
 }
 
 /// The call, if a trace with this header may have it.
-fn standing(header: Header, call: Option<Call>) -> Option<Call>
-    ensures { result ≡ standing header call }
+fn standing(header: &Header, call: Option<Call>) -> Option<Call>
+    ensures { result ≡ standing header.now call }
 {
     match call {
         Some(call) => if is_allowed_in(header, &call) {
@@ -65,11 +58,12 @@ fn room_for(bytes: usize) -> usize {
     (bytes / 8).min(CALL_LIMIT)
 }
 
-/// How far a trace has been read: its header, once that was read, how many calls there were, and the
-/// line begun.
+/// How far a trace has been read: its header, once all of that was read, and what was read of it before; how many
+/// calls there were, and the line begun.
 #[derive(Drop)]
 struct Progress {
     header: Option<Header>,
+    head: HeadSoFar,
     calls: u32,
     line: ArrayVec<u8, LINE_LIMIT>,
     is_too_long: bool,
@@ -82,7 +76,7 @@ impl Model for Progress {
 
     ghost Value = { Seen };
 
-    ghost view = { λ p. record { header = p.header; calls = p.calls; line = if p.is_too_long then None else Some p.line.items } };
+    ghost view = { λ p. record { header = p.header; head = p.head; calls = p.calls; line = if p.is_too_long then None else Some p.line.items } };
 
     ghost invariant = { λ p. p.calls ≤ call_limit };
 }
@@ -93,6 +87,7 @@ impl Progress {
     {
         Progress {
             header: None,
+            head: HeadSoFar::Nothing,
             calls: 0,
             line: ArrayVec::new(),
             is_too_long: false,
@@ -100,17 +95,22 @@ impl Progress {
     }
 
     /// Makes a copy, so that the original stays as it was if memory runs out.
-    fn copy(&self) -> Progress
-        ensures { result ≡ self.now }
+    fn copy(&self) -> Result<Progress, Memory>
+        ensures { IfOk result (λ made. made ≡ self.now) }
     {
+        let header = match &self.header {
+            Some(header) => Some(header.copy()?),
+            None => None,
+        };
         let mut line = ArrayVec::new();
         line.try_extend_from_slice(self.line.as_slice()).unwrap();
-        Progress {
-            header: self.header,
+        Ok(Progress {
+            header,
+            head: self.head.copy()?,
             calls: self.calls,
             line,
             is_too_long: self.is_too_long,
-        }
+        })
     }
 
     /// Appends bytes to the line.
@@ -138,8 +138,9 @@ impl Progress {
         ensures { MatchResult result (λ nothing. begun (longer self.old bytes.now) ≡ Ok (self.new, [])) (λ fault. Fails fault (begun (longer self.old bytes.now))) }
     {
         self.push_each(bytes);
-        match self.header {
-            None => if self.is_too_long || !begins_header(self.line.as_slice()) {
+        match &self.header {
+            None => if self.head.is_nothing()
+                && (self.is_too_long || !begins_first_line(self.line.as_slice())) {
                 Err(TraceFault::NoHeader)
             } else {
                 Ok(())
@@ -152,46 +153,74 @@ impl Progress {
         }
     }
 
-    /// Takes the last bytes of the header; `NoHeader` if it is not one.
-    fn end_header(&mut self, last: &[u8]) -> Result<(), TraceFault>
+    /// Takes the last bytes of a line of the header; a fault if it may not come there.
+    fn end_header(&mut self, alloc: Global, last: &[u8]) -> Result<(), TraceFault>
         ensures { MatchResult result (λ nothing. line_ended_by None (longer self.old last.now) ≡ Ok (self.new, [])) (λ fault. Fails fault (line_ended_by None (longer self.old last.now))) }
     {
         self.push_each(last);
-        if self.is_too_long {
-            return Err(TraceFault::NoHeader);
-        }
-        let Some(header) = header_in(self.line.as_slice()) else {
-            return Err(TraceFault::NoHeader);
+        let number = self.head.next_number();
+        let head = mem::replace(&mut self.head, HeadSoFar::Nothing);
+        let is_first = head.is_nothing();
+        let next = if self.is_too_long {
+            None
+        } else {
+            head.next_line(alloc, self.line.as_slice())?
         };
-        self.header = Some(header);
+        match next {
+            Some(NextLine::More(head)) => self.head = head,
+            Some(NextLine::Whole(header)) => self.header = Some(header),
+            None => return Err(if is_first { TraceFault::NoHeader } else { TraceFault::BadLine(number) }),
+        }
         self.begin_line();
         Ok(())
     }
 
-    /// Reads a line as a call of a trace with this header, given its last bytes. It is read in place, unless it began in
-    /// an earlier piece.
+    /// The call, if a trace with the header that was read may have it.
+    fn standing(&self, call: Option<Call>) -> Option<Call>
+        ensures { (header : Header) → self.now.header ≡ Some header → result ≡ standing header call }
+    {
+        match &self.header {
+            Some(header) => standing(header, call),
+            None => None,
+        }
+    }
+
+    /// The number of the line of the first call, counted from 1.
+    fn first_call_line(&self) -> u32
+        ensures value { (header : Header) → self.now.header ≡ Some header → result ≡ first_call_line header }
+        ensures few { result ≤ 68 }
+    {
+        match &self.header {
+            Some(header) => header.first_call_line(),
+            None => 1,
+        }
+    }
+
+    /// Reads a line as a call, given its last bytes. It is read in place, unless it began in an earlier piece.
     #[tactic(auto, using(crate::proofs::Redacting::standing_by))]
     fn call(
         &mut self,
         alloc: Global,
         guests: GuestData,
-        header: Header,
         last: &[u8],
     ) -> Result<Option<Call>, AllocError>
-        ensures call { IfOk result (λ call. call ≡ call_by guests (call_in header (longer self.old last.now).line)) }
+        ensures call { (header : Header) → self.old.header ≡ Some header
+            → IfOk result (λ call. call ≡ call_by guests (call_in header (longer self.old last.now).line)) }
         ensures others { self.new ≡ record self.old { line = self.new.line } }
     {
         if self.line.is_empty() && !self.is_too_long {
-            return Ok(standing(header, call_of_whole(alloc, guests, last)?));
+            let call = call_of_whole(alloc, guests, last)?;
+            return Ok(self.standing(call));
         }
         self.push_each(last);
         if self.is_too_long {
             return Ok(None);
         }
-        Ok(standing(header, read_call(alloc, guests, self.line.as_slice())?))
+        let call = read_call(alloc, guests, self.line.as_slice())?;
+        Ok(self.standing(call))
     }
 
-    /// Takes the last bytes of a line, and gives the call that it is; the header is not a call.
+    /// Takes the last bytes of a line, and gives the call that it is; a line of the header is not a call.
     fn end_line(
         &mut self,
         alloc: Global,
@@ -200,15 +229,15 @@ impl Progress {
     ) -> Result<Option<Call>, TraceFault>
         ensures { MatchResult result (λ call. read_by guests (line_ended (longer self.old last.now)) ≡ Ok (self.new, option_to_list call)) (λ fault. Fails fault (read_by guests (line_ended (longer self.old last.now)))) }
     {
-        let Some(header) = self.header else {
-            self.end_header(last)?;
+        if self.header.is_none() {
+            self.end_header(alloc, last)?;
             return Ok(None);
-        };
+        }
         if self.calls >= CALL_LIMIT as u32 {
             return Err(TraceFault::TooManyCalls);
         }
-        let Some(call) = self.call(alloc, guests, header, last)? else {
-            return Err(TraceFault::BadLine(self.calls + 2));
+        let Some(call) = self.call(alloc, guests, last)? else {
+            return Err(TraceFault::BadLine(self.calls + self.first_call_line()));
         };
         self.calls += 1;
         self.begin_line();
@@ -361,7 +390,7 @@ impl TraceReader {
         if let Some(fault) = self.fault {
             return Err(fault);
         }
-        match self.progress.copy().feed(alloc, guests, piece) {
+        match self.progress.copy()?.feed(alloc, guests, piece) {
             Ok((progress, calls)) => {
                 self.progress = progress;
                 Ok(calls)

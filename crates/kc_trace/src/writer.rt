@@ -8,9 +8,10 @@ ghost use Rattle.kc_types.specs.Bytes.{IsData};
 ghost use Rattle.kc_model.specs.Ranged.{IsRanged};
 ghost use Rattle.kc_types.specs.Limits.{line_limit};
 ghost use Rattle.kc_trace.specs.Trace.{IsTrace};
-ghost use Rattle.kc_trace.specs.Spelling.{is_range_call, header_of, trace_header, line_of, longest_call, trace_of};
+ghost use Rattle.kc_trace.specs.Spelling.{is_range_call, header_of, line_of, longest_call, trace_of};
 
 use crate::header::Header;
+use crate::header_writer::push_header;
 use crate::line::is_range_call;
 use kc_lines::{push_bytes, push_digits, push_number};
 use kc_types::{Call, Data, LINE_LIMIT, Memory};
@@ -172,18 +173,6 @@ pub fn header_of(calls: &[Call]) -> Header
     }
 }
 
-/// Appends this header of a trace and its newline, for which there is room.
-pub fn push_header(text: &mut Vec<u8>, header: Header)
-    requires { vec_len text.old + 14 ≤ vec_capacity text.old }
-    ensures line { text.new.items ≡ text.old.items ++ trace_header header }
-    ensures capacity { vec_capacity text.old ≤ vec_capacity text.new }
-{
-    match header {
-        Header::One => push_bytes(text, b"kcore-trace 1\n"),
-        Header::Two => push_bytes(text, b"kcore-trace 2\n"),
-    }
-}
-
 /// Makes the text of at most 65,536 calls: the first header that may have them all after it, and a line
 /// for each call. Each line ends with a newline. `read_trace` reads it as these calls.
 pub fn write_trace(alloc: Global, calls: &[Call]) -> Result<Vec<u8>, Memory>
@@ -193,7 +182,7 @@ pub fn write_trace(alloc: Global, calls: &[Call]) -> Result<Vec<u8>, Memory>
     ensures read { IfOk result (λ text. IsTrace text.items calls.now) }
 {
     let mut text = Vec::with_capacity(alloc, LONGEST_CALL)?;
-    push_header(&mut text, header_of(calls));
+    push_header(&mut text, &header_of(calls));
     for call in calls {
         text.reserve(LONGEST_CALL)?;
         push_call(&mut text, call);
