@@ -20,7 +20,7 @@ use Rattle.kc_trace.specs.declared.head_reader.HeadSoFar.{HeadSoFar}
 use Rattle.kc_trace.specs.declared.head_reader.HeadSoFar.TheVariants.{Nothing, FirstLine, Machine}
 use Rattle.kc_trace.specs.declared.head_reader.NextLine.{NextLine}
 use Rattle.kc_trace.specs.declared.head_reader.NextLine.TheVariants.{More, Whole}
-use Rattle.kc_trace.specs.Header.{Begun, IsHead, IsHeader, machine_line, approved_line, position_line, head_lines, header_lines}
+use Rattle.kc_trace.specs.Header.{Begun, IsPosition, IsHead, IsHeader, machine_line, approved_line, position_line, head_lines, header_lines}
 use Rattle.kc_trace.specs.HeadReading.{words_in, machine_in, approved_in, position_in, approving, first_line_read, machine_line_read, next_line, next_number}
 use Rattle.kc_trace.proofs.HeadWords.{IsBegun, emptied, machine_spelled, approved_spelled, position_spelled, machine_again, approved_again, position_again}
 
@@ -237,6 +237,23 @@ same_awaited config other one two is other_is few_one few_two e =
     awaited_of None = 0
     awaited_of (Some begun) = begun.awaited
 
+-- a header that begins so has as many lines as its machine awaits digests, and three more
+pub many_lines : (begun : Begun) (header : Header) (rest : List (List ℕ)) → IsBegun begun → IsHeader header → header_lines header ≡ lines_so_far (Machine begun) ++ rest → length (header_lines header) ≡ begun.awaited + 3
+many_lines begun header rest is header_is e =
+    let second = second_line (machine_line begun.config begun.awaited) header (map approved_line begun.config.approved ++ rest) header_is e in
+    let head = second.0 in
+    let lines = second.2 in
+    let first : machine_line head.config (length head.config.approved) ≡ machine_line begun.config begun.awaited = cc in
+    let many : length head.config.approved ≡ begun.awaited = same_awaited head.config begun.config (length head.config.approved) begun.awaited second.1.config is.config second.1.config.few_digests is.few first in
+    let size : length (header_lines header) ≡ suc (length (head_lines head)) = ap length (e ∙ ap (λ ls. codes "kcore-trace 3" ∷ ls) (sym lines)) in
+    omega (arith, size, many, length-append (map approved_line head.config.approved) (position_line head.position ∷ []), length-map head.config.approved approved_line)
+
+read_digest_line : (line digest : List ℕ) → IsDigest digest → approved_line digest ≡ line → approved_in (words_in line) ≡ Some digest
+read_digest_line line digest is same = ap (λ l. approved_in (words_in l)) (sym same) ∙ approved_again digest is
+
+read_position_line : (line : List ℕ) (position : Position) → IsPosition position → position_line position ≡ line → position_in (words_in line) ≡ Some position
+read_position_line line position is same = ap (λ l. position_in (words_in l)) (sym same) ∙ position_again position is
+
 accepts_more : (begun : Begun) (line : List ℕ) (header : Header) (more : List (List ℕ)) → IsBegun begun → IsHeader header → header_lines header ≡ lines_so_far (Machine begun) ++ line ∷ more → (next : NextLine) × (machine_line_read begun line ≡ Some next)
 accepts_more begun line header more is header_is e =
     let approved = begun.config.approved in
@@ -250,11 +267,11 @@ accepts_more begun line header more is header_is e =
     elim (cases_lt (length approved) begun.awaited) [
       | inl lt ↦
           let digest = next_digest head.config.approved approved line (position_line head.position) more second.1.digests (omega (arith, lt, many)) rest in
-          let read : approved_in (words_in line) ≡ Some digest.0 = ap (λ l. approved_in (words_in l)) (sym digest.2) ∙ approved_again digest.0 digest.1 in
+          let read = read_digest_line line digest.0 digest.1 digest.2 in
           (More (Machine (approving begun digest.0)), rw (lt-leb begun.awaited (length approved) lt, read) refl)
       | inr le ↦
           let last = next_last head.config.approved approved line (position_line head.position) more (omega (arith, le, many, within)) rest in
-          let read : position_in (words_in line) ≡ Some head.position = ap (λ l. position_in (words_in l)) (sym last) ∙ position_again head.position second.1.position in
+          let read = read_position_line line head.position second.1.position last in
           (Whole (Three (record { config = begun.config; position = head.position })), rw (le-leb begun.awaited (length approved) le, read) refl)
     ]
 

@@ -1,5 +1,7 @@
 pub mod HeadWords
 pub mod HeadStages
+pub mod Outcomes
+pub mod Headers
 pub mod Lines
 pub mod Spelled
 pub mod Cuts

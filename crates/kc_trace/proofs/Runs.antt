@@ -1,5 +1,5 @@
 -- Reading byte after byte, as a loop does line after line.
-use Rattle.std.proofs.Common.{◌≡◌, ◌⊎◌, inl, inr, ℕ, ◌<◌, ◌-◌, Bool, true, false, cond, List, [], ◌∷◌, ◌++◌, length, take, drop, Option, Some, None, Result, Ok, Err, refl, sym, ap, subst, ◌∙◌, append_assoc, length-append, arith}
+use Rattle.std.proofs.Common.{◌≡◌, ◌⊎◌, inl, inr, ℕ, ◌<◌, ◌-◌, ◌+◌, Bool, true, false, cond, List, [], ◌∷◌, ◌++◌, length, take, drop, Option, Some, None, Result, Ok, Err, refl, sym, ap, subst, ◌∙◌, append_assoc, length-append, arith}
 use Rattle.std.specs.Prelude.{◌==◌, ◌||◌, not, nat_le, codes}
 use Rattle.std.specs.List.{concat, list_all, starts_with}
 use Rattle.std.specs.Str.{bytes_eq}
@@ -17,13 +17,13 @@ use Rattle.kc_types.specs.Limits.{line_limit}
 use Rattle.kc_trace.specs.declared.fault.TraceFault.{TraceFault}
 use Rattle.kc_trace.specs.declared.fault.TraceFault.TheVariants.{NoHeader, BadLine, NoNewline, TooManyCalls, Memory}
 use Rattle.kc_trace.specs.HeadReading.{first_line_read}
-use Rattle.kc_trace.specs.Machine.{◌>>=◌, Fails, Progress, kept, longer_line, longer, next_of_line, begins_first_line, begun, after_header, line_ended_by, line_ended, with_front, fed_byte, feed, feed_each}
+use Rattle.kc_trace.specs.Machine.{◌>>=◌, Fails, Progress, kept, longer_line, longer, next_of_line, begins_first_line, begun, begun_by, call_in, after_line, after_header, line_ended_by, line_ended, with_front, fed_byte, feed, feed_each}
 use Rattle.kc_lines.specs.Lines.{IsOneLine}
 use Rattle.kc_lines.proofs.Newlines.{tail_is}
 
 -- ---- two pieces
 
-front_nothing : (read : Result (Progress × List Call) TraceFault) → with_front [] read ≡ read
+pub front_nothing : (read : Result (Progress × List Call) TraceFault) → with_front [] read ≡ read
 front_nothing (Ok x) = refl
 front_nothing (Err f) = refl
 
@@ -204,3 +204,35 @@ fails_then Memory read then h = tt
 
 pub nothing_after : (xs : List ℕ) → take (length xs - length xs) (drop (length xs) xs) ≡ []
 nothing_after xs = tail_is (length xs) xs ∙ drop_all (length xs) xs (omega arith)
+
+-- ---- the header stays
+
+then_header : (rest : List ℕ) (read : Result (Progress × List Call) TraceFault) (v : Header) (all : Progress × List Call)
+    → ((p : Progress) (calls : List Call) → read ≡ Ok (p, calls) → p.header ≡ Some v)
+    → ((p : Progress) → p.header ≡ Some v → (all : Progress × List Call) → feed p rest ≡ Ok all → all.0.header ≡ Some v)
+    → and_then_feed rest read ≡ Ok all → all.0.header ≡ Some v
+then_header rest (Err f) v all first later e = absurd cc
+then_header rest (Ok x) v all first later e = by_rest (feed x.0 rest) refl e
+  where
+    by_rest : (read : Result (Progress × List Call) TraceFault) → feed x.0 rest ≡ read → with_front x.1 read ≡ Ok all → all.0.header ≡ Some v
+    by_rest (Err f) is e = absurd cc
+    by_rest (Ok y) is e =
+        let same : (y.0, x.1 ++ y.1) ≡ all = cc in
+        subst (λ (a : Progress × List Call). a.0.header ≡ Some v) same (later x.0 (first x.0 x.1 refl) y is)
+
+byte_header : (p q : Progress) (byte : ℕ) (calls : List Call) (v : Header) → p.header ≡ Some v → fed_byte p byte ≡ Ok (q, calls) → q.header ≡ Some v
+byte_header p q byte calls v is e = by_test (byte == 10) (nat_le 65536 p.calls) (call_in v (longer p []).line) (ap (λ h. cond (byte == 10) (line_ended_by h (longer p [])) (begun_by h (longer p (byte ∷ [])))) (sym is) ∙ e)
+  where
+    by_test : (newline full : Bool) (found : Option Call)
+        → cond newline (cond full (Err TooManyCalls) (after_line v (longer p []) found)) (cond full (Err TooManyCalls) (Ok (longer p (byte ∷ []), []))) ≡ Ok (q, calls) → q.header ≡ Some v
+    by_test true true found e = absurd cc
+    by_test true false None e = absurd cc
+    by_test true false (Some call) e = let same : ◌≡◌ {A = Progress × List Call} (record (longer p []) { calls = p.calls + 1; line = Some [] }, call ∷ []) (q, calls) = cc in ap (λ (x : Progress × List Call). x.0.header) (sym same) ∙ is
+    by_test false true found e = absurd cc
+    by_test false false found e = let same : ◌≡◌ {A = Progress × List Call} (longer p (byte ∷ []), []) (q, calls) = cc in ap (λ (x : Progress × List Call). x.0.header) (sym same) ∙ is
+
+-- once it was read, it is that of what is read from there on
+pub header_stays : (bytes : List ℕ) (p : Progress) (v : Header) (all : Progress × List Call) → p.header ≡ Some v → feed p bytes ≡ Ok all → all.0.header ≡ Some v
+unfolding feed
+header_stays [] p v all is e = let same : (p, []) ≡ all = cc in subst (λ (a : Progress × List Call). a.0.header ≡ Some v) same is
+header_stays (byte ∷ bytes) p v all is e = then_header bytes (fed_byte p byte) v all (λ q calls h. byte_header p q byte calls v is h) (λ q header all h. header_stays bytes q v all header h) e

@@ -144,10 +144,10 @@ nothing_begun None = Err NoNewline
 nothing_begun (Some []) = Ok tt
 nothing_begun (Some (byte ∷ bytes)) = Err NoNewline
 
--- whether the text may end there
-abbrev pub ended : Option Header → Option (List ℕ) → Result (Unit {0}) TraceFault
+-- the header, if the text may end there
+abbrev pub ended : Option Header → Option (List ℕ) → Result Header TraceFault
 ended None line = Err NoHeader
-ended (Some header) line = nothing_begun line
+ended (Some header) line = nothing_begun line >>= λ end. Ok header
 
 -- what a whole text is read as
 unfoldable pub reading : List ℕ → Result (List Call) TraceFault

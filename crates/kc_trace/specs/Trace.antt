@@ -47,15 +47,16 @@ abbrev pub Stops : List ℕ → TraceFault → Type 0
 Stops text fault =
     (header : Header) × (calls : List Call) × (rest : List ℕ) × IsHeader header × (text ≡ trace_header header ++ (lines_of calls ++ rest)) × AreCalls header calls × StopsAt header (length calls) rest fault
 
--- a header begins with these lines
-abbrev pub BeginsHeader : List (List ℕ) → Type 0
-BeginsHeader lines = (header : Header) × (more : List (List ℕ)) × IsHeader header × (header_lines header ≡ lines ++ more)
+-- a header has this line after these
+abbrev pub GoesOnWith : List (List ℕ) → List ℕ → Type 0
+GoesOnWith lines line = (header : Header) × (more : List (List ℕ)) × IsHeader header × (header_lines header ≡ lines ++ line ∷ more)
 
--- after some lines of a header the text has one that no header has there; this is its number, counted from 1
+-- after some lines of a header, which has another one then, the text has a line that no header has there; this is its
+-- number, counted from 1
 abbrev pub StopsInHeader : List ℕ → ℕ → Type 0
 StopsInHeader text number =
-    (lines : List (List ℕ)) × (line : List ℕ) × (after : List ℕ) × (0 < length lines) × BeginsHeader lines × (text ≡ ended_lines lines ++ (line ++ 10 ∷ after)) × IsOneLine line
-    × (BeginsHeader (lines ++ line ∷ []) → ⊥) × (number ≡ length lines + 1)
+    (lines : List (List ℕ)) × (line : List ℕ) × (after : List ℕ) × (0 < length lines) × ((next : List ℕ) × GoesOnWith lines next) × (text ≡ ended_lines lines ++ (line ++ 10 ∷ after)) × IsOneLine line
+    × (GoesOnWith lines line → ⊥) × (number ≡ length lines + 1)
 
 -- the text does not begin with a whole header, and has no line that no header has there after another one
 pub record LacksHeader (text : List ℕ) : Type 0 where

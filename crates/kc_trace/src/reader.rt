@@ -1,5 +1,5 @@
 //! Reading a trace, whole or in pieces.
-ghost use Rattle.std.specs.Prelude.{◌≡◌, ◌≢◌, ◌⊎◌, ◌+◌, ◌<◌, ◌≤◌, List, [], length, Some, None, Ok, Err, IfOk, IfErr, OnOk, MatchOption, MatchResult};
+ghost use Rattle.std.specs.Prelude.{◌≡◌, ◌≢◌, ◌⊎◌, ◌+◌, ◌<◌, ◌≤◌, List, [], length, Some, None, Ok, Err, IfOk, IfErr, OnOk, MatchOption, MatchResult, option_map};
 ghost use Rattle.std.specs.Option.{option_to_list};
 ghost use Rattle.kc_types.specs.Limits.{call_limit};
 ghost use Rattle.kc_types.specs.declared.call.Call.{Call};
@@ -284,17 +284,23 @@ impl Progress {
         Ok((self, calls))
     }
 
-    /// Whether the text may end here.
-    fn end(&self) -> Result<(), TraceFault>
-        ensures { result ≡ ended self.now.header self.now.line }
+    /// The header, if the text may end here.
+    fn end(self) -> Result<Header, TraceFault>
+        ensures { result ≡ ended self.header self.line }
     {
-        if self.header.is_none() {
+        let Progress {
+            header,
+            line,
+            is_too_long,
+            ..
+        } = self;
+        let Some(header) = header else {
             return Err(TraceFault::NoHeader);
-        }
-        if self.is_too_long || !self.line.is_empty() {
+        };
+        if is_too_long || !line.is_empty() {
             return Err(TraceFault::NoNewline);
         }
-        Ok(())
+        Ok(header)
     }
 }
 
@@ -352,6 +358,13 @@ impl TraceReader {
         }
     }
 
+    /// The header, once all of it was read without a fault.
+    pub fn header(&self) -> Option<&Header>
+        ensures { option_map (λ header. header.now) result ≡ self.now.progress.header }
+    {
+        self.progress.header.as_ref()
+    }
+
     /// Reads the calls whose lines this piece ends, in order. A fault comes with the piece whose bytes decide it,
     /// without any call of that piece, and then again with each further piece. After `Memory` the reader is as it was,
     /// so the piece may be fed again. Pieces should not be too small, since the line begun is copied for each.
@@ -405,9 +418,9 @@ impl TraceReader {
         }
     }
 
-    /// Whether the text may end here. If not, the fault is the one met before, else `NoHeader` within the header and
-    /// `NoNewline` within a line.
-    pub fn finish(self) -> Result<(), TraceFault>
+    /// Returns the header, if the text may end here. If not, the fault is the one met before, else `NoHeader` within the
+    /// header and `NoNewline` within a line after it.
+    pub fn finish(self) -> Result<Header, TraceFault>
         ensures fault { MatchOption self.fault (result ≡ ended self.progress.header self.progress.line) (λ fault. result ≡ Err fault) }
         ensures told { result ≢ Err TraceFault.Memory }
     {

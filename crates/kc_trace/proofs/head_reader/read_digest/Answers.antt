@@ -1,5 +1,4 @@
 use Rattle.std.proofs.Common.{sym}
-use Rattle.kc_trace.proofs.HeadStages.{goes_on}
 use Rattle.kc_trace.proofs.HeadWords.{digest_read}
 use Rattle.kc_trace.proofs.head_reader.read_digest.Goals as goal
 

@@ -1,7 +1,7 @@
 use Rattle.std.proofs.Common.{◌≡◌, take, rules}
 use Rattle.std.proofs.lemmas.List.{take_all}
 use Rattle.kc_trace.specs.Spelling.{header_of}
-use Rattle.kc_trace.proofs.Written.{are_calls}
+use Rattle.kc_trace.proofs.Written.{are_calls, valid_header}
 use Rattle.kc_trace.proofs.writer.write_trace.Goals as goal
 
 pub returns-clause-read : goal.returns-clause-read
@@ -9,6 +9,7 @@ returns-clause-read c =
     let all : take c.loop-call.call-index c.args.calls.now ≡ c.args.calls.now = take_all c.loop-call.call-index c.args.calls.now (search rules) in
     record {
       header = header_of c.args.calls.now;
+      valid = valid_header c.args.calls.now;
       whole = rw all at c.loop-call.invariant.text;
       each = are_calls c.args.calls.now (rw all at c.loop-call.invariant.ranged);
       few = c.requires;
