@@ -6,7 +6,7 @@ use Rattle.std.specs.List.{flat_map}
 use Rattle.hex.specs.Hex.{encode_lower, encode_with}
 use Rattle.kc_types.specs.Bytes.{IsData}
 use Rattle.kc_trace.specs.declared.header.Header.{Header}
-use Rattle.kc_trace.specs.declared.header.Header.TheVariants.{One, Two}
+use Rattle.kc_trace.specs.declared.header.Header.TheVariants.{One, Two, Three}
 use Rattle.kc_types.specs.declared.call.Call.{Call}
 use Rattle.kc_types.specs.declared.call.Call.TheVariants.{HostWrite, GuestWrite}
 use Rattle.kc_model.specs.State.{State, frame_at}
@@ -17,7 +17,7 @@ use Rattle.kc_model.proofs.States.ZeroPage.{zeros-are_bytes}
 use Rattle.kc_model.proofs.Redaction.Traces.{bytes_decide_nothing}
 use Rattle.kc_model.proofs.Redaction.Blank.{told_alike, keeps-all, wholly-differ}
 use Rattle.kc_remarks.proofs.Unread.{unread, notes_redacted}
-use Rattle.kc_trace.specs.Spelling.{lines_of, trace_header, text_of, is_allowed_in}
+use Rattle.kc_trace.specs.Spelling.{lines_of, text_of, is_allowed_in}
 use Rattle.kc_trace.specs.Trace.{IsCallOf, AreCalls, IsTrace}
 use Rattle.kc_redact.specs.Redacted.{blanked, redacted_call, redacted_line, redacted, redacted_in, redacted_from, all_frames, DifferInBytes, IsRedaction, IsHostRedaction}
 
@@ -55,6 +55,7 @@ stands-too : (header : Header) (call : Call) → is_allowed_in header call ≡ t
 stands-too One (GuestWrite v c g off bytes) h = refl
 stands-too One _ h = h
 stands-too Two _ h = refl
+stands-too (Three head) _ h = refl
 
 redacted-is : (header : Header) (call : Call) → IsCallOf header call → IsCallOf header (redacted_call call)
 redacted-is header (GuestWrite v c g off bytes) is = ((is.0.0, is.0.1, is.0.2, is.0.3, blanked-is bytes is.0.4), stands-too header (GuestWrite v c g off bytes) is.1)
@@ -64,18 +65,21 @@ redacted-are : (header : Header) (calls : List Call) → AreCalls header calls �
 redacted-are header [] are = tt
 redacted-are header (call ∷ calls) are = (redacted-is header call are.0, redacted-are header calls are.1)
 
-pub is_redaction : (text other : List ℕ) (calls : List Call) (read : IsTrace text calls) → other ≡ text_of read.header (redacted calls) → IsRedaction text other calls
+pub is_redaction : (text other : List ℕ) (calls : List Call) (read : IsTrace text calls) → other ≡ text_of read.0 (redacted calls) → IsRedaction text other calls
 is_redaction text other calls read written = record {
-  header = read.header;
+  header = read.0;
   read = read;
-  whole = read.whole;
+  whole = read.1.whole;
   written = written;
-  trace = record {
-    header = read.header;
-    whole = written;
-    each = redacted-are read.header calls read.each;
-    few = let few = read.few in omega (arith, few, length-map calls redacted_call);
-  };
+  trace = (
+    read.0,
+    record {
+      valid = read.1.valid;
+      whole = written;
+      each = redacted-are read.0 calls read.1.each;
+      few = let few = read.1.few in omega (arith, few, length-map calls redacted_call);
+    },
+  );
   events = λ m is. (told_alike m calls is).events;
   custody = λ m is. (told_alike m calls is).custody;
   notes = λ m is. (notes_redacted m calls is).same;
@@ -93,6 +97,7 @@ host-is m header (HostWrite f off bytes) is = ((is.0.0, is.0.1, data-kept (count
     host-stands : (v : Header) → is_allowed_in v (HostWrite f off bytes) ≡ true → is_allowed_in v (redacted_in all_frames m (HostWrite f off bytes)) ≡ true
     host-stands One h = refl
     host-stands Two h = refl
+    host-stands (Three head) h = refl
 host-is m header (GuestWrite v c g off bytes) is = redacted-is header (GuestWrite v c g off bytes) is
 host-is m header _ is = is
 
@@ -108,18 +113,21 @@ host-number m (call ∷ calls) = ap suc (host-number (next m call).1 calls)
 told-from : (m n : State) (calls : List Call) → IsLawful m → IsLawful n → DifferInBytes all_frames m n → TellTheSame all_frames m n calls (redacted_from m calls)
 told-from m n calls is other differ = bytes_decide_nothing m calls is all_frames n (redacted_from m calls) other differ (wholly-differ m calls) (keeps-all calls)
 
-pub is_host_redaction : (m : State) (text other : List ℕ) (calls : List Call) → IsLawful m → (read : IsTrace text calls) → other ≡ text_of read.header (redacted_from m calls) → IsHostRedaction m text other calls
+pub is_host_redaction : (m : State) (text other : List ℕ) (calls : List Call) → IsLawful m → (read : IsTrace text calls) → other ≡ text_of read.0 (redacted_from m calls) → IsHostRedaction m text other calls
 is_host_redaction m text other calls is read written = record {
-  header = read.header;
+  header = read.0;
   read = read;
-  whole = read.whole;
+  whole = read.1.whole;
   written = written;
-  trace = record {
-    header = read.header;
-    whole = written;
-    each = host-are m read.header calls read.each;
-    few = let few = read.few in omega (arith, few, host-number m calls);
-  };
+  trace = (
+    read.0,
+    record {
+      valid = read.1.valid;
+      whole = written;
+      each = host-are m read.0 calls read.1.each;
+      few = let few = read.1.few in omega (arith, few, host-number m calls);
+    },
+  );
   events = λ n lawful differ. (told-from m n calls is lawful differ).events;
   custody = λ n lawful differ. (told-from m n calls is lawful differ).custody;
   notes = λ n lawful differ. unread m calls is all_frames n (redacted_from m calls) lawful differ (wholly-differ m calls) (keeps-all calls);
@@ -134,8 +142,3 @@ lines-redacted (call ∷ calls) = ap (λ rest. redacted_line call ++ rest) (line
 pub lines-then : (calls : List Call) (call : Call) → lines_of (redacted (calls ++ call ∷ [])) ≡ lines_of (redacted calls) ++ redacted_line call
 lines-then [] call = append-nil (redacted_line call)
 lines-then (first ∷ calls) call = ap (λ rest. redacted_line first ++ rest) (lines-then calls call) ∙ sym (append_assoc (redacted_line first) (lines_of (redacted calls)) (redacted_line call))
-
--- a trace begins with its header
-pub header-taken : (header : Header) (rest : List ℕ) → take 14 (trace_header header ++ rest) ≡ trace_header header
-header-taken One rest = refl
-header-taken Two rest = refl

@@ -8,7 +8,8 @@ use Rattle.kc_types.specs.Limits.{call_limit}
 use Rattle.kc_types.specs.declared.call.Call.{Call}
 use Rattle.kc_trace.specs.declared.header.Header.TheVariants.{Two}
 use Rattle.kc_model.specs.Ranged.{IsRanged}
-use Rattle.kc_trace.specs.Spelling.{line_of, lines_of, trace_header}
+use Rattle.kc_trace.specs.Header.{trace_header}
+use Rattle.kc_trace.specs.Spelling.{line_of, lines_of}
 use Rattle.kc_trace.specs.Trace.{AreCalls, IsTrace}
 use Rattle.kc_live.specs.declared.receipt.Entry.{Entry}
 use Rattle.kc_live.specs.Book.{Log, calls_of}
@@ -31,12 +32,15 @@ same_length [] = refl
 same_length (entry ∷ entries) = ap (λ n. suc n) (same_length entries)
 
 pub is_trace : (log : Log) → AllByRecursion IsRanged (calls_of log.entries) → length log.entries ≤ call_limit → IsTrace (concat (trace_lines log)) (calls_of log.entries)
-is_trace log ranged short = record {
-  header = Two;
-  whole = ap (λ rest. trace_header Two ++ rest) (joined log.entries);
-  each = in_the_second (calls_of log.entries) ranged;
-  few = subst (λ n. n ≤ call_limit) (sym (same_length log.entries)) short;
-}
+is_trace log ranged short = (
+  Two,
+  record {
+    valid = tt;
+    whole = ap (λ rest. trace_header Two ++ rest) (joined log.entries);
+    each = in_the_second (calls_of log.entries) ranged;
+    few = subst (λ n. n ≤ call_limit) (sym (same_length log.entries)) short;
+  },
+)
 
 pub with_one_more : (entries : List Entry) (entry : Entry) → AllByRecursion IsRanged (calls_of entries) → IsRanged entry.call → AllByRecursion IsRanged (calls_of (entries ++ entry ∷ []))
 with_one_more [] entry all one = (one, tt)

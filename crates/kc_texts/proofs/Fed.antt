@@ -7,14 +7,16 @@ use Rattle.std.proofs.KnownBytes.{Consumes-nil, Consumes-trans}
 use Rattle.std.specs.Io.KnownBytes.{Consumes, IsAtEnd}
 use Rattle.kc_types.specs.Limits.{byte_limit, call_limit}
 use Rattle.kc_trace.specs.declared.header.Header.{Header}
+use Rattle.kc_trace.specs.declared.head_reader.NextLine.{NextLine}
+use Rattle.kc_trace.specs.declared.head_reader.NextLine.TheVariants.{More, Whole}
 use Rattle.kc_types.specs.declared.call.Call.{Call}
 use Rattle.kc_texts.specs.Ends.{ReadFailed}
 use Rattle.kc_trace.specs.declared.fault.TraceFault.{TraceFault}
 use Rattle.kc_trace.specs.declared.fault.TraceFault.TheVariants.{NoHeader, BadLine, NoNewline, TooManyCalls, Memory}
-use Rattle.kc_trace.specs.Trace.{IsTrace, IsRefused}
-use Rattle.kc_trace.specs.Machine.{◌>>=◌, Progress, Fails, start, longer, header_in, begins_header, call_in, after_line, begun_by, begun, after_header, line_ended_by, line_ended, with_front, fed_byte, feed, fed, fed_after, ended, reading}
+use Rattle.kc_trace.specs.Trace.{IsTraceUnder, IsRefused}
+use Rattle.kc_trace.specs.Machine.{◌>>=◌, Progress, Fails, start, longer, next_of_line, may_begin, call_in, after_line, begun_by, begun, after_header, line_ended_by, line_ended, with_front, fed_byte, feed, fed, fed_after, nothing_begun, ended, reading}
 use Rattle.kc_trace.proofs.Runs.{feed_nothing, feed-append, and_then_feed}
-use Rattle.kc_trace.proofs.Traces.{Reads, reading_reads}
+use Rattle.kc_trace.proofs.Traces.{Reads, reading_reads, read_under}
 use Rattle.kc_texts.specs.Streamed.{Streamed, answer, HasRead, GoesOn}
 
 fed_ok : (fault : Option TraceFault) (p q : Progress) (bytes piece : List ℕ) (calls more : List Call) → feed start bytes ≡ answer fault p calls → fed_after fault p piece ≡ Ok (q, more) → feed start (bytes ++ piece) ≡ Ok (q, calls ++ more)
@@ -40,12 +42,12 @@ fails_is Memory read other h = absurd (other refl)
 abbrev Counts : Progress → Progress × List Call → Type 0
 Counts p read = (read.0.calls ≡ p.calls + length read.1) × (read.0.calls ≤ call_limit)
 
-line_counts : (p : Progress) (found : Option Call) → p.calls < call_limit → IfOk (after_line p found) (Counts p)
-line_counts p None lt = tt
-line_counts p (Some call) lt = (refl, omega (arith, lt))
+line_counts : (header : Header) (p : Progress) (found : Option Call) → p.calls < call_limit → IfOk (after_line header p found) (Counts p)
+line_counts header p None lt = tt
+line_counts header p (Some call) lt = (refl, omega (arith, lt))
 
 begun_counts : (header : Option Header) (p : Progress) → p.calls ≤ call_limit → IfOk (begun_by header p) (Counts p)
-begun_counts None p le = by_test (begins_header p.line)
+begun_counts None p le = by_test (may_begin p.head p.line)
   where
     by_test : (b : Bool) → IfOk (if b then Ok (p, []) else Err NoHeader) (Counts p)
     by_test true = (omega arith, le)
@@ -57,16 +59,17 @@ begun_counts (Some header) p le = by_test (nat_le call_limit p.calls)
     by_test false = (omega arith, le)
 
 ended_counts : (header : Option Header) (p : Progress) → p.calls ≤ call_limit → IfOk (line_ended_by header p) (Counts p)
-ended_counts None p le = by_header (header_in p.line)
+ended_counts None p le = by_next (next_of_line p.head p.line)
   where
-    by_header : (found : Option Header) → IfOk (after_header p found) (Counts p)
-    by_header None = tt
-    by_header (Some header) = (omega arith, le)
+    by_next : (found : Option NextLine) → IfOk (after_header p found) (Counts p)
+    by_next None = tt
+    by_next (Some (More head)) = (omega arith, le)
+    by_next (Some (Whole header)) = (omega arith, le)
 ended_counts (Some header) p le = by_test (nat_le call_limit p.calls) refl
   where
-    by_test : (b : Bool) → nat_le call_limit p.calls ≡ b → IfOk (if b then Err TooManyCalls else after_line p (call_in header p.line)) (Counts p)
+    by_test : (b : Bool) → nat_le call_limit p.calls ≡ b → IfOk (if b then Err TooManyCalls else after_line header p (call_in header p.line)) (Counts p)
     by_test true h = tt
-    by_test false h = line_counts p (call_in header p.line) (leb-false call_limit p.calls h)
+    by_test false h = line_counts header p (call_in header p.line) (leb-false call_limit p.calls h)
 
 rest_counts : (p p1 : Progress) (new : List Call) (rest : Result (Progress × List Call) TraceFault) → Counts p (p1, new) → IfOk rest (Counts p1) → IfOk (rest >>= λ others. Ok (others.0, new ++ others.1)) (Counts p)
 rest_counts p p1 new (Err f) one more = tt
@@ -150,36 +153,55 @@ all_read None now bytes p end = tt
 all_read (Some a) None bytes p end = absurd p
 all_read (Some a) (Some b) bytes p end = p ∙ ap (λ (t : List ℕ). bytes ++ t) end ∙ append-nil bytes
 
-reading_of : (text : List ℕ) (fault : Option TraceFault) (p : Progress) (calls : List Call) (r : Result (Unit {0}) TraceFault) → feed start text ≡ answer fault p calls → MatchOption fault (r ≡ ended p.header p.line) (λ f. r ≡ Err f) → reading text ≡ (r >>= λ e. Ok calls)
+reading_of : (text : List ℕ) (fault : Option TraceFault) (p : Progress) (calls : List Call) (r : Result Header TraceFault) → feed start text ≡ answer fault p calls → MatchOption fault (r ≡ ended p.header p.line) (λ f. r ≡ Err f) → reading text ≡ (r >>= λ e. Ok calls)
 unfolding reading
 reading_of text None p calls r h e = rw (h, e) refl
 reading_of text (Some f) p calls r h e = rw (h, e) refl
 
--- the whole text is read
-finished : (stream : Streamed) (bytes : List ℕ) (calls : List Call) (first now : Option (List ℕ)) (result : Result (Unit {0}) TraceFault) → HasRead stream bytes calls first now → IsAtEnd now
-    → MatchOption stream.reader.fault (result ≡ ended stream.reader.progress.header stream.reader.progress.line) (λ f. result ≡ Err f) → IfSome first (λ text. reading text ≡ (result >>= λ e. Ok calls))
-finished stream bytes calls None now result h end e = tt
-finished stream bytes calls (Some text) now result h end e =
-    let same : text ≡ bytes = all_read (Some text) now bytes h.consumed end in
-    rw same (reading_of bytes stream.reader.fault stream.reader.progress calls result h.so_far e)
+-- a reader ends so
+abbrev Finishes : Streamed → Result Header TraceFault → Type 0
+Finishes stream result = MatchOption stream.reader.fault (result ≡ ended stream.reader.progress.header stream.reader.progress.line) (λ f. result ≡ Err f)
 
--- what was read is the trace, or there is none for this reason
-read_is_trace : (known : Option (List ℕ)) (calls : List Call) → IfSome known (λ text. reading text ≡ Ok calls) → IfSome known (λ text. IsTrace text calls)
-read_is_trace None calls h = tt
-read_is_trace (Some text) calls h = let e : Reads text (Ok calls) = rw h at (reading_reads text) in e
+header_is : (found : Option Header) (line : Option (List ℕ)) (header : Header) → Ok header ≡ ended found line → (found ≡ Some header) × (ended (Some header) line ≡ Ok header)
+header_is None line header e = absurd cc
+header_is (Some other) line header e = by_end (nothing_begun line) e
+  where
+    by_end : (end : Result (Unit {0}) TraceFault) → Ok header ≡ (end >>= λ u. Ok other) → (Some other ≡ Some header) × ((end >>= λ u. Ok header) ≡ Ok header)
+    by_end (Ok u) e = (cc, refl)
+    by_end (Err f) e = absurd cc
 
-read_is_refused : (known : Option (List ℕ)) (fault : TraceFault) → IfSome known (λ text. reading text ≡ Err fault) → IfSome known (λ text. IsRefused text fault)
-read_is_refused None fault h = tt
-read_is_refused (Some text) fault h = let e : Reads text (Err fault) = rw h at (reading_reads text) in e
+-- what was read is the trace under the header that was read
+under : (text : List ℕ) (fault : Option TraceFault) (p : Progress) (calls : List Call) (header : Header) → feed start text ≡ answer fault p calls → MatchOption fault (Ok header ≡ ended p.header p.line) (λ f. Ok header ≡ Err f) → IsTraceUnder header text calls
+under text None p calls header h e = let is = header_is p.header p.line header e in read_under text header (p, calls) h is.0 is.1
+under text (Some f) p calls header h e = absurd cc
 
-pub ends_a_trace : (stream : Streamed) (result : Result (Unit {0}) TraceFault) → MatchOption stream.reader.fault (result ≡ ended stream.reader.progress.header stream.reader.progress.line) (λ f. result ≡ Err f)
-    → OnOk result ((bytes : List ℕ) (calls : List Call) (first now : Option (List ℕ)) → HasRead stream bytes calls first now → IsAtEnd now → IfSome first (λ text. IsTrace text calls))
-ends_a_trace stream (Ok u) e = λ bytes calls first now h end. read_is_trace first calls (finished stream bytes calls first now (Ok u) h end e)
+pub ends_a_trace : (stream : Streamed) (result : Result Header TraceFault) → Finishes stream result
+    → IfOk result (λ header. (bytes : List ℕ) (calls : List Call) (first now : Option (List ℕ)) → HasRead stream bytes calls first now → IsAtEnd now → IfSome first (λ text. IsTraceUnder header text calls))
+ends_a_trace stream (Ok header) e = λ bytes calls first now h end. by_first bytes calls first now h end
+  where
+    by_first : (bytes : List ℕ) (calls : List Call) (first now : Option (List ℕ)) → HasRead stream bytes calls first now → IsAtEnd now → IfSome first (λ text. IsTraceUnder header text calls)
+    by_first bytes calls None now h end = tt
+    by_first bytes calls (Some text) now h end =
+        let same : text ≡ bytes = all_read (Some text) now bytes h.consumed end in
+        rw same (under bytes stream.reader.fault stream.reader.progress calls header h.so_far e)
 ends_a_trace stream (Err f) e = tt
 
-pub ends_refused : (stream : Streamed) (result : Result (Unit {0}) TraceFault) (fault : TraceFault) → MatchOption stream.reader.fault (result ≡ ended stream.reader.progress.header stream.reader.progress.line) (λ f. result ≡ Err f) → result ≡ Err fault
+pub ends_with : (stream : Streamed) (result : Result Header TraceFault) → Finishes stream result → IfOk result (λ header. stream.reader.progress.header ≡ Some header)
+ends_with stream (Ok header) e = by_fault stream.reader.fault e
+  where
+    by_fault : (fault : Option TraceFault) → MatchOption fault (Ok header ≡ ended stream.reader.progress.header stream.reader.progress.line) (λ f. Ok header ≡ Err f) → stream.reader.progress.header ≡ Some header
+    by_fault None e = (header_is stream.reader.progress.header stream.reader.progress.line header e).0
+    by_fault (Some f) e = absurd cc
+ends_with stream (Err f) e = tt
+
+pub ends_refused : (stream : Streamed) (result : Result Header TraceFault) (fault : TraceFault) → Finishes stream result → result ≡ Err fault
     → (bytes : List ℕ) (calls : List Call) (first now : Option (List ℕ)) → HasRead stream bytes calls first now → IsAtEnd now → IfSome first (λ text. IsRefused text fault)
-ends_refused stream result fault e is bytes calls first now h end = read_is_refused first fault (rw is at (finished stream bytes calls first now result h end e))
+ends_refused stream result fault e is bytes calls None now h end = tt
+ends_refused stream result fault e is bytes calls (Some text) now h end =
+    let same : text ≡ bytes = all_read (Some text) now bytes h.consumed end in
+    let read : reading bytes ≡ Err fault = rw is at (reading_of bytes stream.reader.fault stream.reader.progress calls result h.so_far e) in
+    let refused : Reads bytes (Err fault) = rw read at (reading_reads bytes) in
+    rw same refused
 
 pub in_front : (stream : Streamed) (first : Option (List ℕ)) → stream.reader ≡ record { progress = start; fault = None } → stream.total ≡ 0 → HasRead stream [] [] first first
 in_front stream first reader none = record { so_far = rw reader (feed_nothing start); consumed = Consumes-nil first; many = omega (arith, none); few = omega arith }

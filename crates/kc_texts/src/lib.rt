@@ -26,5 +26,5 @@ pub use mem::Mem;
 pub use placed::Placed;
 pub use source::{Failed, PIECE, Sink, Source};
 pub use standard::Std;
-pub use stream::{CallStream, NextCalls, StreamFault, read_calls};
+pub use stream::{CallStream, NextCalls, StreamFault, Trace, read_whole_trace};
 pub use whole::{ReadFault, read_secret, read_whole};

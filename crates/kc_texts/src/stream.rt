@@ -1,16 +1,16 @@
 //! A trace, read from a source in pieces.
-ghost use Rattle.std.specs.Prelude.{◌≡◌, ◌≢◌, ◌<◌, ◌≤◌, ◌++◌, ℕ, [], List, length, Option, IfOk, OnOk, IfSome, Err, true, false};
+ghost use Rattle.std.specs.Prelude.{◌≡◌, ◌≢◌, ◌<◌, ◌≤◌, ◌++◌, ℕ, [], List, length, Option, IfOk, OnOk, IfSome, Err, true, false, option_map, Some};
 ghost use Rattle.std.specs.Io.KnownBytes.{IsAtEnd};
 ghost use Rattle.kc_types.specs.Limits.{byte_limit, call_limit};
 ghost use Rattle.kc_types.specs.declared.call.Call.{Call};
 ghost use Rattle.kc_trace.specs.declared.fault.TraceFault.{TraceFault};
-ghost use Rattle.kc_trace.specs.Trace.{IsTrace, IsRefused};
+ghost use Rattle.kc_trace.specs.Trace.{IsTraceUnder, IsRefused};
 ghost use Rattle.kc_texts.specs.Ends.{ReadFailed};
 ghost use Rattle.kc_texts.specs.Streamed.{HasRead, GoesOn};
 
 use crate::source::{Failed, PIECE, Source};
 use crate::whole::ReadFault;
-use kc_trace::{TraceFault, TraceReader};
+use kc_trace::{Header, TraceFault, TraceReader};
 use kc_types::{BYTE_LIMIT, Call};
 use std::alloc::{AllocError, Global};
 use std::marker::Model;
@@ -158,10 +158,18 @@ impl CallStream {
         })
     }
 
-    /// Whether what was read is a trace, once the source has no more bytes.
-    pub fn finish(self) -> Result<(), TraceFault>
-        ensures ok { OnOk result ((bytes : List ℕ) (calls : List Call) (first now : Option (List ℕ))
-            → HasRead self bytes calls first now → IsAtEnd now → IfSome first (λ text. IsTrace text calls)) }
+    /// The header of the trace, once all of it was read without a fault.
+    pub fn header(&self) -> Option<&Header>
+        ensures { option_map (λ header. header.now) result ≡ self.now.reader.progress.header }
+    {
+        self.reader.header()
+    }
+
+    /// Returns the header, if what was read is a trace, once the source has no more bytes.
+    pub fn finish(self) -> Result<Header, TraceFault>
+        ensures ok { IfOk result (λ header. (bytes : List ℕ) (calls : List Call) (first now : Option (List ℕ))
+            → HasRead self bytes calls first now → IsAtEnd now → IfSome first (λ text. IsTraceUnder header text calls)) }
+        ensures header { IfOk result (λ header. self.reader.progress.header ≡ Some header) }
         ensures trace { (fault : TraceFault) → result ≡ Err fault
             → (bytes : List ℕ) (calls : List Call) (first now : Option (List ℕ))
             → HasRead self bytes calls first now → IsAtEnd now → IfSome first (λ text. IsRefused text fault) }
@@ -172,11 +180,19 @@ impl CallStream {
     }
 }
 
-/// Reads the calls of the trace that a source has left. It is read to its end even if the trace is refused.
-pub fn read_calls<T: Source>(alloc: Global, source: &mut T) -> Result<Vec<Call>, StreamFault>
+/// A trace that was read.
+#[derive(Drop)]
+pub struct Trace {
+    pub header: Header,
+    pub calls: Vec<Call>,
+}
+
+/// Reads the trace that a source has left. It is read to its end even if the trace is refused.
+pub fn read_whole_trace<T: Source>(alloc: Global, source: &mut T) -> Result<Trace, StreamFault>
     requires { T.failed source.old ≡ false }
-    ensures ok { IfOk result (λ calls. IfSome (T.left source.old) (λ text. IsTrace text calls.items)) }
-    ensures short { IfOk result (λ calls. length calls.items ≤ call_limit) }
+    ensures ok { IfOk result
+        (λ trace. IfSome (T.left source.old) (λ text. IsTraceUnder trace.header text trace.calls.items)) }
+    ensures short { IfOk result (λ trace. length trace.calls.items ≤ call_limit) }
     ensures ended { OnOk result (IsAtEnd (T.left source.new)) }
     ensures trace { (fault : TraceFault) → result ≡ Err (StreamFault.Trace fault)
         → IfSome (T.left source.old) (λ text. IsRefused text fault) × IsAtEnd (T.left source.new) }
@@ -206,7 +222,7 @@ pub fn read_calls<T: Source>(alloc: Global, source: &mut T) -> Result<Vec<Call>,
         }
     }
     match stream.finish() {
-        Ok(()) => Ok(calls),
+        Ok(header) => Ok(Trace { header, calls }),
         Err(fault) => Err(StreamFault::Trace(fault)),
     }
 }

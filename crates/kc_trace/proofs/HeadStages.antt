@@ -180,12 +180,16 @@ goes_on_from begun is =
     let few = is.few in
     let many : length all ≡ begun.awaited = omega (arith, length-append config.approved rest, length-replicate (begun.awaited - length config.approved) zeros, within) in
     let head : Head = record { config = record config { approved = all }; position = First } in
-    let after = some_first (map approved_line rest) (position_line First) in
-    (Three head, after.0, after.1, record { config = config_with config all is.config (omega (arith, many, few)); digests = all_zeros (begun.awaited - length config.approved) config.approved is.digests; position = tt },
-    ap (λ n. codes "kcore-trace 3" ∷ machine_line (record config { approved = all }) n ∷ (map approved_line all ++ position_line First ∷ [])) many
-    ∙ ap (λ l. codes "kcore-trace 3" ∷ l ∷ (map approved_line all ++ position_line First ∷ [])) (machine_line_same config all begun.awaited)
-    ∙ ap (λ ls. codes "kcore-trace 3" ∷ machine_line config begun.awaited ∷ (ls ++ position_line First ∷ [])) (map-append approved_line config.approved rest)
-    ∙ ap (λ ls. codes "kcore-trace 3" ∷ machine_line config begun.awaited ∷ ls) (append_assoc (map approved_line config.approved) (map approved_line rest) (position_line First ∷ []) ∙ ap (λ ls. map approved_line config.approved ++ ls) after.2))
+    let after = some_first (map approved_line rest) (position_line First) in (
+      Three head,
+      after.0,
+      after.1,
+      record { config = config_with config all is.config (omega (arith, many, few)); digests = all_zeros (begun.awaited - length config.approved) config.approved is.digests; position = tt },
+      ap (λ n. codes "kcore-trace 3" ∷ machine_line (record config { approved = all }) n ∷ (map approved_line all ++ position_line First ∷ [])) many
+          ∙ ap (λ l. codes "kcore-trace 3" ∷ l ∷ (map approved_line all ++ position_line First ∷ [])) (machine_line_same config all begun.awaited)
+          ∙ ap (λ ls. codes "kcore-trace 3" ∷ machine_line config begun.awaited ∷ (ls ++ position_line First ∷ [])) (map-append approved_line config.approved rest)
+          ∙ ap (λ ls. codes "kcore-trace 3" ∷ machine_line config begun.awaited ∷ ls) (append_assoc (map approved_line config.approved) (map approved_line rest) (position_line First ∷ []) ∙ ap (λ ls. map approved_line config.approved ++ ls) after.2),
+    )
 
 pub goes_on : (head : HeadSoFar) → IsSoFar head → GoesOn (lines_so_far head)
 goes_on Nothing is = (One, codes "kcore-trace 1", [], tt, refl)

@@ -290,15 +290,20 @@ numbers_are words begun e =
     let frames = then_some _ (take_pair rules.0.1) begun rules.2 in
     let others = then_some _ (take_pair frames.0.1) begun frames.2 in
     let awaited = then_some _ (take_number others.0.1) begun others.2 in
-    let end = then_some _ (at_end awaited.0.1) begun awaited.2 in
-    (rules.0.0, frames.0.0, others.0.0, awaited.0.0,
-    name_taken (codes "config") words name.0 name.1
-    ∙ ap (λ ws. codes "config" ∷ ws)
-      (pair_taken name.0 rules.0 rules.1
-      ∙ ap (λ ws. decimal rules.0.0.0 ∷ decimal rules.0.0.1 ∷ ws) (pair_taken rules.0.1 frames.0 frames.1
-      ∙ ap (λ ws. decimal frames.0.0.0 ∷ decimal frames.0.0.1 ∷ ws) (pair_taken frames.0.1 others.0 others.1
-      ∙ ap (λ ws. decimal others.0.0.0 ∷ decimal others.0.0.1 ∷ ws) ((number_taken others.0.1 awaited.0 awaited.1).0
-      ∙ ap (λ ws. decimal awaited.0.0 ∷ ws) (none_left awaited.0.1 end.0 end.1))))), end.2)
+    let end = then_some _ (at_end awaited.0.1) begun awaited.2 in (
+      rules.0.0,
+      frames.0.0,
+      others.0.0,
+      awaited.0.0,
+      name_taken (codes "config") words name.0 name.1
+          ∙ ap (λ ws. codes "config" ∷ ws)
+          (pair_taken name.0 rules.0 rules.1
+          ∙ ap (λ ws. decimal rules.0.0.0 ∷ decimal rules.0.0.1 ∷ ws) (pair_taken rules.0.1 frames.0 frames.1
+          ∙ ap (λ ws. decimal frames.0.0.0 ∷ decimal frames.0.0.1 ∷ ws) (pair_taken frames.0.1 others.0 others.1
+          ∙ ap (λ ws. decimal others.0.0.0 ∷ decimal others.0.0.1 ∷ ws) ((number_taken others.0.1 awaited.0 awaited.1).0
+          ∙ ap (λ ws. decimal awaited.0.0 ∷ ws) (none_left awaited.0.1 end.0 end.1))))),
+      end.2,
+    )
 
 machine_is : (rules frames others : ℕ × ℕ) (awaited : ℕ) (begun : Begun) → machine_by rules frames others awaited ≡ Some begun → IsMachineLine (codes "config" ∷ map decimal (in_order rules frames others awaited)) begun
 unfolding slot_count
@@ -324,13 +329,16 @@ machine_words_are words begun e =
 pub machine_spelled : (line : List ℕ) (begun : Begun) → machine_in (words_in line) ≡ Some begun → (line ≡ machine_line begun.config begun.awaited) × (begun.config.approved ≡ []) × IsBegun begun
 unfolding machine_line
 machine_spelled line begun e =
-    let is = machine_words_are (words_in line) begun e in
-    (line_is line (codes "config" ∷ map decimal (machine_numbers begun.config begun.awaited)) is.spelled, is.empty, record {
-      config = is.config;
-      few = is.few;
-      within = rw is.empty (omega arith);
-      digests = rw is.empty tt;
-    })
+    let is = machine_words_are (words_in line) begun e in (
+      line_is line (codes "config" ∷ map decimal (machine_numbers begun.config begun.awaited)) is.spelled,
+      is.empty,
+      record {
+        config = is.config;
+        few = is.few;
+        within = rw is.empty (omega arith);
+        digests = rw is.empty tt;
+      },
+    )
 
 numbers_are_words : (numbers : List ℕ) → AllByRecursion IsWord numbers → list_all is_word (map decimal numbers) ≡ true
 numbers_are_words [] each = refl

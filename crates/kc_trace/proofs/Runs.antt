@@ -146,9 +146,14 @@ begun_cases p = by_header p.header refl
     by_head : (head : HeadSoFar) → p.header ≡ None → p.head ≡ head → BegunCases p
     by_head Nothing none is = elim (cases_Bool (begins_first_line p.line)) [
       | inl begins ↦ inl (rw (none, is, begins) refl)
-      | inr refused ↦ inr (NoHeader, rw (none, is, refused) refl, (λ more. rw (none, is, still more refused) refl), λ more.
-          ap (λ header. line_ended_by header (longer p more)) none ∙ ap (λ head. after_header (longer p more) (next_of_line head (longer_line p.line more))) is
-          ∙ not_read more is refused (next_of_line Nothing (longer_line p.line more)) refl)
+      | inr refused ↦ inr (
+        NoHeader,
+        rw (none, is, refused) refl,
+        (λ more. rw (none, is, still more refused) refl),
+        λ more.
+            ap (λ header. line_ended_by header (longer p more)) none ∙ ap (λ head. after_header (longer p more) (next_of_line head (longer_line p.line more))) is
+            ∙ not_read more is refused (next_of_line Nothing (longer_line p.line more)) refl,
+      )
     ]
     by_head FirstLine none is = inl (rw (none, is) refl)
     by_head (Machine machine) none is = inl (rw (none, is) refl)

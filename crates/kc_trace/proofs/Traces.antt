@@ -29,7 +29,7 @@ stops : (v : Header) (text rest : List ℕ) (fault : TraceFault) → IsHeader v 
 stops v text rest fault is e h = (v, h.0, h.1, is, rw (e, h.2) refl, h.3, subst (λ n. StopsAt v n h.1 fault) (zero-add (length h.0)) h.4)
 
 with_header : (v : Header) (text rest : List ℕ) (read : Result (List Call) TraceFault) → IsHeader v → text ≡ trace_header v ++ rest → Answers v 0 rest read → Reads text read
-with_header v text rest (Ok calls) is e h = record { header = v; valid = is; whole = rw (e, h.0) refl; each = h.1; few = omega (arith, h.2) }
+with_header v text rest (Ok calls) is e h = (v, record { valid = is; whole = rw (e, h.0) refl; each = h.1; few = omega (arith, h.2) })
 with_header v text rest (Err NoHeader) is e h = absurd h.4
 with_header v text rest (Err (BadLine n)) is e h = inr (stops v text rest (BadLine n) is e h)
 with_header v text rest (Err NoNewline) is e h = stops v text rest NoNewline is e h
@@ -87,7 +87,7 @@ lines_again v (call ∷ calls) before fits few =
 
 -- a trace is read as its calls
 pub reading-trace : (text : List ℕ) (calls : List Call) → IsTrace text calls → reading text ≡ Ok calls
-reading-trace text calls h = reading_is text ∙ ap finished (past_header h.header text (lines_of calls) h.valid h.whole) ∙ lines_again h.header calls 0 h.each (omega (arith, h.few))
+reading-trace text calls (header, h) = reading_is text ∙ ap finished (past_header header text (lines_of calls) h.valid h.whole) ∙ lines_again header calls 0 h.each (omega (arith, h.few))
 
 -- ---- the header that was read
 

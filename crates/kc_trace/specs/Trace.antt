@@ -35,12 +35,8 @@ pub record IsTraceUnder (header : Header) (text : List ℕ) (calls : List Call) 
   pub few : length calls ≤ call_limit
 
 -- the text is this list of calls
-pub record IsTrace (text : List ℕ) (calls : List Call) : Type 0 where
-  pub header : Header
-  pub valid : IsHeader header
-  pub whole : text ≡ text_of header calls
-  pub each : AreCalls header calls
-  pub few : length calls ≤ call_limit
+abbrev pub IsTrace : List ℕ → List Call → Type 0
+IsTrace text calls = (header : Header) × IsTraceUnder header text calls
 
 -- after its header and some calls the text has no further call, for this reason
 abbrev pub Stops : List ℕ → TraceFault → Type 0

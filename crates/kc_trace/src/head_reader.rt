@@ -141,7 +141,11 @@ fn position_of(number: u32, word: &[u8]) -> Option<Position>
     ensures { result ≡ position_of number word.now }
 {
     if word == b"-".as_slice() {
-        return if number == 1 { Some(Position::First) } else { None };
+        return if number == 1 {
+            Some(Position::First)
+        } else {
+            None
+        };
     }
     let after = read_digest(word)?;
     if number >= 2 {
@@ -202,7 +206,8 @@ impl Begun {
             self.config.host(),
             self.config.leaves(),
             self.approved,
-        ).ok()
+        )
+        .ok()
     }
 
     /// Reads the line after the machine's, or after that of an approved digest.

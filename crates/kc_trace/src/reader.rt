@@ -140,7 +140,8 @@ impl Progress {
         self.push_each(bytes);
         match &self.header {
             None => if self.head.is_nothing()
-                && (self.is_too_long || !begins_first_line(self.line.as_slice())) {
+                && (self.is_too_long || !begins_first_line(self.line.as_slice()))
+            {
                 Err(TraceFault::NoHeader)
             } else {
                 Ok(())
@@ -169,7 +170,11 @@ impl Progress {
         match next {
             Some(NextLine::More(head)) => self.head = head,
             Some(NextLine::Whole(header)) => self.header = Some(header),
-            None => return Err(if is_first { TraceFault::NoHeader } else { TraceFault::BadLine(number) }),
+            None => return Err(if is_first {
+                TraceFault::NoHeader
+            } else {
+                TraceFault::BadLine(number)
+            }),
         }
         self.begin_line();
         Ok(())

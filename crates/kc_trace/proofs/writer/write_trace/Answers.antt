@@ -6,11 +6,12 @@ use Rattle.kc_trace.proofs.writer.write_trace.Goals as goal
 
 pub returns-clause-read : goal.returns-clause-read
 returns-clause-read c =
-    let all : take c.loop-call.call-index c.args.calls.now ≡ c.args.calls.now = take_all c.loop-call.call-index c.args.calls.now (search rules) in
-    record {
-      header = header_of c.args.calls.now;
-      valid = valid_header c.args.calls.now;
-      whole = rw all at c.loop-call.invariant.text;
-      each = are_calls c.args.calls.now (rw all at c.loop-call.invariant.ranged);
-      few = c.requires;
-    }
+    let all : take c.loop-call.call-index c.args.calls.now ≡ c.args.calls.now = take_all c.loop-call.call-index c.args.calls.now (search rules) in (
+      header_of c.args.calls.now,
+      record {
+        valid = valid_header c.args.calls.now;
+        whole = rw all at c.loop-call.invariant.text;
+        each = are_calls c.args.calls.now (rw all at c.loop-call.invariant.ranged);
+        few = c.requires;
+      },
+    )

@@ -1,7 +1,7 @@
 use Rattle.std.proofs.Common.{◌≡◌, ◌≤◌, ◌-◌, ℕ, List, false}
 use Rattle.kc_types.specs.Limits.{byte_limit}
 use Rattle.kc_texts.specs.Streamed.{HasRead}
-use Rattle.kc_texts.proofs.stream.read_calls.Given as goal
+use Rattle.kc_texts.proofs.stream.read_whole_trace.Given as goal
 
 abbrev pub invariant-loop-calls : goal.invariant-loop-calls
 invariant-loop-calls g l = record {

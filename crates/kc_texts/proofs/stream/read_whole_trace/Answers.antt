@@ -1,6 +1,6 @@
 use Rattle.std.proofs.Common.{◌≡◌, ◌++◌, [], rules}
 use Rattle.kc_texts.proofs.Fed.{few_bytes}
-use Rattle.kc_texts.proofs.stream.read_calls.Goals as goal
+use Rattle.kc_texts.proofs.stream.read_whole_trace.Goals as goal
 
 pub loop-calls-init : goal.loop-calls-init
 loop-calls-init g c = record {
