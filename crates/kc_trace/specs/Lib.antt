@@ -1,5 +1,6 @@
 pub mod Header
 pub mod HeadReading
+pub mod Expected
 pub mod Spelling
 pub mod Reading
 pub mod Machine

@@ -13,6 +13,7 @@
 
 mod answer_writer;
 mod custody_writer;
+mod expected;
 mod fault;
 mod head_reader;
 mod header;
@@ -31,6 +32,7 @@ pub use custody_writer::{
     Digests, Heading, LONGEST_CHANGE, StartDigest, VERSION, push_change, push_custody_end,
     push_custody_header,
 };
+pub use expected::{Expected, HeaderFault, MachinePart};
 pub use fault::TraceFault;
 pub use header::{Head, Header, Position};
 pub use header_writer::push_header;

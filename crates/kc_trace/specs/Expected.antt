@@ -1,0 +1,53 @@
+-- Which header the trace has to have that goes on from a state, and what is wrong with another one.
+use Rattle.std.specs.Prelude.{ℕ, ◌≡◌, ◌≢◌, List}
+use Rattle.kc_types.specs.Configuration.{Configuration}
+use Rattle.kc_trace.specs.declared.header.Position.{Position}
+use Rattle.kc_trace.specs.declared.header.Position.TheVariants as position
+use Rattle.kc_trace.specs.declared.header.Header.{Header}
+use Rattle.kc_trace.specs.declared.header.Header.TheVariants.{One, Two, Three}
+use Rattle.kc_trace.specs.declared.expected.Expected.{Expected}
+use Rattle.kc_trace.specs.declared.expected.Expected.TheVariants.{Bare, First, At}
+use Rattle.kc_trace.specs.declared.expected.MachinePart.{MachinePart}
+use Rattle.kc_trace.specs.declared.expected.MachinePart.TheVariants as part
+use Rattle.kc_trace.specs.declared.expected.HeaderFault.{HeaderFault}
+use Rattle.kc_trace.specs.declared.expected.HeaderFault.TheVariants as fault
+
+-- the machines differ in this, and in nothing that comes before it
+abbrev pub DiffersIn : MachinePart → Configuration → Configuration → Type 0
+DiffersIn part.Version a b = a.version ≢ b.version
+DiffersIn part.Frames a b = (a.version ≡ b.version) × (a.frames ≢ b.frames)
+DiffersIn part.Core a b = (a.version ≡ b.version) × (a.frames ≡ b.frames) × (a.core ≢ b.core)
+DiffersIn part.Host a b = (a.version ≡ b.version) × (a.frames ≡ b.frames) × (a.core ≡ b.core) × (a.host ≢ b.host)
+DiffersIn part.Leaves a b = (a.version ≡ b.version) × (a.frames ≡ b.frames) × (a.core ≡ b.core) × (a.host ≡ b.host) × (a.leaves ≢ b.leaves)
+DiffersIn part.Approved a b =
+    (a.version ≡ b.version) × (a.frames ≡ b.frames) × (a.core ≡ b.core) × (a.host ≡ b.host) × (a.leaves ≡ b.leaves) × (a.approved ≢ b.approved)
+
+-- the number of a volume, counted from 1
+abbrev pub number_of : Position → ℕ
+number_of position.First = 1
+number_of (position.Later number after) = number
+
+-- a trace of this machine may have this header where such a one is expected
+abbrev pub MayHave : Configuration → Expected → Header → Type 0
+MayHave config Bare (Three head) = ⊥
+MayHave config Bare header = Unit {0}
+MayHave config First (Three head) = (config ≡ head.config) × (head.position ≡ position.First)
+MayHave config First header = Unit {0}
+MayHave config (At place) (Three head) = (config ≡ head.config) × (head.position ≡ place)
+MayHave config (At place) header = ⊥
+
+-- what is wrong with a position that is to be the first one
+abbrev pub IsPositionFault : Position → Position → HeaderFault → Type 0
+IsPositionFault expected place fault.Number = number_of place ≢ number_of expected
+IsPositionFault expected place fault.Digest = (number_of place ≡ number_of expected) × (place ≢ expected)
+IsPositionFault expected place _ = ⊥
+
+-- what is wrong with a header where such a one is expected
+abbrev pub IsHeaderFault : Configuration → Expected → Header → HeaderFault → Type 0
+IsHeaderFault config Bare (Three head) fault.Unexpected = Unit {0}
+IsHeaderFault config First (Three head) (fault.Machine differs) = DiffersIn differs config head.config
+IsHeaderFault config First (Three head) fault.NotFirst = (config ≡ head.config) × (head.position ≢ position.First)
+IsHeaderFault config (At place) (Three head) (fault.Machine differs) = DiffersIn differs config head.config
+IsHeaderFault config (At place) (Three head) wrong = (config ≡ head.config) × IsPositionFault place head.position wrong
+IsHeaderFault config (At place) header fault.Missing = Unit {0}
+IsHeaderFault config expected header wrong = ⊥

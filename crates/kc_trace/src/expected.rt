@@ -1,0 +1,142 @@
+//! Which header the trace has to have that goes on from a state, and what is wrong with another one.
+ghost use Rattle.std.specs.Prelude.{◌≡◌, ◌≤◌, ◌+◌, ◌^◌, MatchOption};
+ghost use Rattle.std.specs.Bool.{Decides};
+ghost use Rattle.kc_trace.specs.declared.header.Position.TheVariants as position;
+ghost use Rattle.kc_trace.specs.Expected.{DiffersIn, number_of, MayHave, IsPositionFault, IsHeaderFault};
+
+use crate::header::{Header, Position};
+use kc_types::Config;
+
+/// Which headers a trace may have.
+#[derive(Clone, Copy, Debug, PartialEq, Eq)]
+pub enum Expected {
+    /// Header 1 or 2: nothing is known of where the trace comes.
+    Bare,
+    /// Header 1 or 2, or a head that says that the trace is the first volume.
+    First,
+    /// A head with this position.
+    At(Position),
+}
+
+/// What is different first in the machine that a head names.
+#[derive(Clone, Copy, Debug, PartialEq, Eq)]
+pub enum MachinePart {
+    Version,
+    Frames,
+    Core,
+    Host,
+    Leaves,
+    /// The approved digests: how many there are, or one of them.
+    Approved,
+}
+
+/// Why the header of a trace is not the one that is expected.
+#[derive(Clone, Copy, Debug, PartialEq, Eq)]
+pub enum HeaderFault {
+    /// The head names another machine.
+    Machine(MachinePart),
+    /// The head says that the trace is a later volume, and the first one is expected.
+    NotFirst,
+    /// The head has another volume's number.
+    Number,
+    /// The head has another digest of the volume before it.
+    Digest,
+    /// There is no head, and one is expected.
+    Missing,
+    /// There is a head, and it is not known what it has to say.
+    Unexpected,
+}
+
+/// Whether two lists of digests are the same.
+fn are_same(digests: &[[u8; 32]], others: &[[u8; 32]]) -> bool
+    ensures { Decides result (digests.now ≡ others.now) }
+{
+    digests == others
+}
+
+/// What is different first in another machine.
+fn machine_difference(config: &Config, other: &Config) -> Option<MachinePart>
+    ensures { MatchOption result (config.now ≡ other.now) (λ part. DiffersIn part config.now other.now) }
+{
+    if config.version() != other.version() {
+        Some(MachinePart::Version)
+    } else if config.frames() != other.frames() {
+        Some(MachinePart::Frames)
+    } else if config.core() != other.core() {
+        Some(MachinePart::Core)
+    } else if config.host() != other.host() {
+        Some(MachinePart::Host)
+    } else if config.leaves() != other.leaves() {
+        Some(MachinePart::Leaves)
+    } else if !are_same(config.approved(), other.approved()) {
+        Some(MachinePart::Approved)
+    } else {
+        None
+    }
+}
+
+impl Position {
+    /// The number of the volume, counted from 1.
+    pub fn number(self) -> u32
+        ensures { result ≡ number_of self }
+    {
+        match self {
+            Position::First => 1,
+            Position::Later { number, .. } => number,
+        }
+    }
+
+    /// The position after this one, given the SHA-256 digest of the redacted text of the volume here; `None` if there
+    /// is no number of 32 bits for it.
+    pub fn next(self, digest: [u8; 32]) -> Option<Position>
+        ensures { MatchOption result (2 ^ 32 ≤ number_of self + 1) (λ next. next ≡ position.Later (number_of self + 1) digest) }
+    {
+        Some(Position::Later {
+            number: self.number().checked_add(1)?,
+            after: digest,
+        })
+    }
+}
+
+/// What is wrong with a position that is to be this one.
+fn position_fault(expected: Position, position: Position) -> Option<HeaderFault>
+    ensures { MatchOption result (position ≡ expected) (λ fault. IsPositionFault expected position fault) }
+{
+    if position.number() != expected.number() {
+        Some(HeaderFault::Number)
+    } else if position != expected {
+        Some(HeaderFault::Digest)
+    } else {
+        None
+    }
+}
+
+impl Expected {
+    /// What is wrong with the header of a trace that is to be of this machine.
+    pub fn fault(self, config: &Config, header: &Header) -> Option<HeaderFault>
+        ensures { MatchOption result (MayHave config.now self header.now) (λ fault. IsHeaderFault config.now self header.now fault) }
+    {
+        let head = match header {
+            Header::Three(head) => head,
+            _ => {
+                return match self {
+                    Expected::At(_) => Some(HeaderFault::Missing),
+                    _ => None,
+                };
+            },
+        };
+        if self == Expected::Bare {
+            return Some(HeaderFault::Unexpected);
+        }
+        if let Some(part) = machine_difference(config, &head.config) {
+            return Some(HeaderFault::Machine(part));
+        }
+        match self {
+            Expected::At(position) => position_fault(position, head.position),
+            _ => match head.position {
+                Position::First => None,
+                Position::Later { .. } => Some(HeaderFault::NotFirst),
+            },
+        }
+    }
+}
