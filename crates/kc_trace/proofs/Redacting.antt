@@ -10,7 +10,7 @@ use Rattle.kc_types.specs.declared.call.Call.TheVariants.{Take, Give, HostFault,
 use Rattle.kc_model.specs.Redaction.{redacted_call, redacted}
 use Rattle.kc_lines.specs.Words.{data_of}
 use Rattle.kc_trace.specs.declared.fault.TraceFault.{TraceFault}
-use Rattle.kc_trace.specs.declared.fault.TraceFault.TheVariants.{NoHeader, BadLine, NoNewline, TooManyCalls, Memory}
+use Rattle.kc_trace.specs.declared.fault.TraceFault.TheVariants.{NoHeader, BadLine, NoNewline, TooManyCalls, Misplaced, Memory}
 use Rattle.kc_trace.specs.declared.line.GuestData.{GuestData}
 use Rattle.kc_trace.specs.declared.line.GuestData.TheVariants.{Read, Blanked}
 use Rattle.kc_trace.specs.Spelling.{is_allowed_in}
@@ -111,6 +111,7 @@ fails_by Blanked NoHeader read h = ap redacted_read h
 fails_by Blanked (BadLine n) read h = ap redacted_read h
 fails_by Blanked NoNewline read h = ap redacted_read h
 fails_by Blanked TooManyCalls read h = ap redacted_read h
+fails_by Blanked (Misplaced wrong) read h = ap redacted_read h
 fails_by Blanked Memory read h = tt
 
 front_redacted : (front : List Call) (read : Result (Progress × List Call) TraceFault) → redacted_read (with_front front read) ≡ with_front (redacted front) (redacted_read read)

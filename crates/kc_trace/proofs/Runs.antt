@@ -15,7 +15,7 @@ use Rattle.kc_trace.specs.declared.head_reader.NextLine.TheVariants.{More, Whole
 use Rattle.kc_types.specs.declared.call.Call.{Call}
 use Rattle.kc_types.specs.Limits.{line_limit}
 use Rattle.kc_trace.specs.declared.fault.TraceFault.{TraceFault}
-use Rattle.kc_trace.specs.declared.fault.TraceFault.TheVariants.{NoHeader, BadLine, NoNewline, TooManyCalls, Memory}
+use Rattle.kc_trace.specs.declared.fault.TraceFault.TheVariants.{NoHeader, BadLine, NoNewline, TooManyCalls, Misplaced, Memory}
 use Rattle.kc_trace.specs.HeadReading.{first_line_read}
 use Rattle.kc_trace.specs.Machine.{◌>>=◌, Fails, Progress, kept, longer_line, longer, next_of_line, begins_first_line, begun, begun_by, call_in, after_line, after_header, line_ended_by, line_ended, with_front, fed_byte, feed, feed_each}
 use Rattle.kc_lines.specs.Lines.{IsOneLine}
@@ -205,6 +205,7 @@ fails_then NoHeader read then h = rw h refl
 fails_then (BadLine n) read then h = rw h refl
 fails_then NoNewline read then h = rw h refl
 fails_then TooManyCalls read then h = rw h refl
+fails_then (Misplaced wrong) read then h = rw h refl
 fails_then Memory read then h = tt
 
 pub nothing_after : (xs : List ℕ) → take (length xs - length xs) (drop (length xs) xs) ≡ []

@@ -9,7 +9,7 @@ use Rattle.kc_trace.specs.declared.head_reader.HeadSoFar.TheVariants.{Nothing}
 use Rattle.kc_types.specs.declared.call.Call.{Call}
 use Rattle.kc_types.specs.Limits.{line_limit}
 use Rattle.kc_trace.specs.declared.fault.TraceFault.{TraceFault}
-use Rattle.kc_trace.specs.declared.fault.TraceFault.TheVariants.{NoHeader, BadLine, NoNewline, TooManyCalls, Memory}
+use Rattle.kc_trace.specs.declared.fault.TraceFault.TheVariants.{NoHeader, BadLine, NoNewline, TooManyCalls, Misplaced, Memory}
 use Rattle.kc_trace.specs.Header.{IsHeader, trace_header}
 use Rattle.kc_trace.specs.Spelling.{line_of, lines_of}
 use Rattle.kc_trace.specs.Machine.{◌>>=◌, Gives, Fails, Progress, start, ended, kept, longer, call_in, after_line, feed, reading}
@@ -34,6 +34,7 @@ with_header v text rest (Err NoHeader) is e h = absurd h.4
 with_header v text rest (Err (BadLine n)) is e h = inr (stops v text rest (BadLine n) is e h)
 with_header v text rest (Err NoNewline) is e h = stops v text rest NoNewline is e h
 with_header v text rest (Err TooManyCalls) is e h = stops v text rest TooManyCalls is e h
+with_header v text rest (Err (Misplaced wrong)) is e h = absurd h.4
 with_header v text rest (Err Memory) is e h = tt
 
 reading_is : (text : List ℕ) → reading text ≡ outcome start text
@@ -65,6 +66,7 @@ fails_reads text NoHeader read h e = let h2 : Reads text (Err NoHeader) = rw e a
 fails_reads text (BadLine n) read h e = let h2 : Reads text (Err (BadLine n)) = rw e at h in h2
 fails_reads text NoNewline read h e = let h2 : Reads text (Err NoNewline) = rw e at h in h2
 fails_reads text TooManyCalls read h e = let h2 : Reads text (Err TooManyCalls) = rw e at h in h2
+fails_reads text (Misplaced wrong) read h e = let h2 : Reads text (Err (Misplaced wrong)) = rw e at h in h2
 fails_reads text Memory read h e = tt
 
 pub given_reads : (text : List ℕ) (r : Result (Vec Call) TraceFault) → Gives (λ calls. calls.items) r (reading text) → MatchResult r (λ calls. IsTrace text calls.items) (λ fault. IsRefused text fault)

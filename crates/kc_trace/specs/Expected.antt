@@ -5,6 +5,10 @@ use Rattle.kc_trace.specs.declared.header.Position.{Position}
 use Rattle.kc_trace.specs.declared.header.Position.TheVariants as position
 use Rattle.kc_trace.specs.declared.header.Header.{Header}
 use Rattle.kc_trace.specs.declared.header.Header.TheVariants.{One, Two, Three}
+use Rattle.kc_types.specs.declared.call.Call.{Call}
+use Rattle.kc_trace.specs.Trace.{IsTraceUnder, IsRefused}
+use Rattle.kc_trace.specs.declared.fault.TraceFault.{TraceFault}
+use Rattle.kc_trace.specs.declared.fault.TraceFault.TheVariants.{Misplaced}
 use Rattle.kc_trace.specs.declared.expected.Expected.{Expected}
 use Rattle.kc_trace.specs.declared.expected.Expected.TheVariants.{Bare, First, At}
 use Rattle.kc_trace.specs.declared.expected.MachinePart.{MachinePart}
@@ -36,6 +40,10 @@ MayHave config First header = Unit {0}
 MayHave config (At place) (Three head) = (config ≡ head.config) × (head.position ≡ place)
 MayHave config (At place) header = ⊥
 
+-- the text is a trace of these calls, and its header is one that is expected there
+abbrev pub IsTraceThere : Configuration → Expected → List ℕ → List Call → Type 0
+IsTraceThere config expected text calls = (header : Header) × MayHave config expected header × IsTraceUnder header text calls
+
 -- what is wrong with a position that is to be the first one
 abbrev pub IsPositionFault : Position → Position → HeaderFault → Type 0
 IsPositionFault expected place fault.Number = number_of place ≢ number_of expected
@@ -51,3 +59,8 @@ IsHeaderFault config (At place) (Three head) (fault.Machine differs) = DiffersIn
 IsHeaderFault config (At place) (Three head) wrong = (config ≡ head.config) × IsPositionFault place head.position wrong
 IsHeaderFault config (At place) header fault.Missing = Unit {0}
 IsHeaderFault config expected header wrong = ⊥
+
+-- the text is not a trace that is expected there, and this is the first reason: it is none, or its header is another one
+abbrev pub IsRefusedThere : Configuration → Expected → List ℕ → TraceFault → Type 0
+IsRefusedThere config expected text (Misplaced wrong) = (header : Header) × (calls : List Call) × IsTraceUnder header text calls × IsHeaderFault config expected header wrong
+IsRefusedThere config expected text fault = IsRefused text fault

@@ -1,11 +1,11 @@
 pub mod Header
 pub mod HeadReading
-pub mod Expected
 pub mod Spelling
 pub mod Reading
 pub mod Machine
 pub mod Redacting
 pub mod Trace
+pub mod Expected
 pub mod ReplyText
 pub mod AnswerText
 pub mod Faults

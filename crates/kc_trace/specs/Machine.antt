@@ -9,7 +9,7 @@ use Rattle.kc_trace.specs.declared.head_reader.NextLine.{NextLine}
 use Rattle.kc_trace.specs.declared.head_reader.NextLine.TheVariants.{More, Whole}
 use Rattle.kc_types.specs.declared.call.Call.{Call}
 use Rattle.kc_trace.specs.declared.fault.TraceFault.{TraceFault}
-use Rattle.kc_trace.specs.declared.fault.TraceFault.TheVariants.{NoHeader, BadLine, NoNewline, TooManyCalls, Memory}
+use Rattle.kc_trace.specs.declared.fault.TraceFault.TheVariants.{NoHeader, BadLine, NoNewline, TooManyCalls, Misplaced, Memory}
 use Rattle.kc_types.specs.Limits.{call_limit, line_limit}
 use Rattle.kc_trace.specs.Header.{first_call_line}
 use Rattle.kc_trace.specs.HeadReading.{next_line, next_number, is_nothing}
@@ -29,6 +29,7 @@ Fails NoHeader read = read ≡ Err NoHeader
 Fails (BadLine n) read = read ≡ Err (BadLine n)
 Fails NoNewline read = read ≡ Err NoNewline
 Fails TooManyCalls read = read ≡ Err TooManyCalls
+Fails (Misplaced wrong) read = read ≡ Err (Misplaced wrong)
 
 -- what a function returned, seen by view, is what the definition gives, unless memory ran out
 abbrev pub Gives : {X Y : Type 0} → (X → Y) → Result X TraceFault → Result Y TraceFault → Type 0

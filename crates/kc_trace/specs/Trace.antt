@@ -7,7 +7,7 @@ use Rattle.kc_types.specs.declared.call.Call.{Call}
 use Rattle.kc_model.specs.Ranged.{IsRanged}
 use Rattle.kc_lines.specs.Lines.{IsOneLine}
 use Rattle.kc_trace.specs.declared.fault.TraceFault.{TraceFault}
-use Rattle.kc_trace.specs.declared.fault.TraceFault.TheVariants.{NoHeader, BadLine, NoNewline, TooManyCalls, Memory}
+use Rattle.kc_trace.specs.declared.fault.TraceFault.TheVariants.{NoHeader, BadLine, NoNewline, TooManyCalls, Misplaced, Memory}
 use Rattle.kc_trace.specs.Header.{IsHeader, header_lines, ended_lines, trace_header, first_call_line}
 use Rattle.kc_trace.specs.Spelling.{line_of, lines_of, text_of, is_allowed_in}
 
@@ -25,6 +25,7 @@ StopsAt header before rest NoNewline = (before < call_limit) × (0 < length rest
 StopsAt header before rest (BadLine number) = (before < call_limit) × (number ≡ before + first_call_line header)
     × ((line : List ℕ) × (after : List ℕ) × (rest ≡ line ++ 10 ∷ after) × IsOneLine line × ((call : Call) → IsCallOf header call → line ≡ line_of call → ⊥))
 StopsAt header before rest NoHeader = ⊥
+StopsAt header before rest (Misplaced wrong) = ⊥
 StopsAt header before rest Memory = ⊥
 
 -- the text is this list of calls after this header
@@ -65,4 +66,5 @@ IsRefused text NoHeader = LacksHeader text
 IsRefused text (BadLine number) = StopsInHeader text number ⊎ Stops text (BadLine number)
 IsRefused text NoNewline = Stops text NoNewline
 IsRefused text TooManyCalls = Stops text TooManyCalls
+IsRefused text (Misplaced wrong) = ⊥
 IsRefused text Memory = Unit {0}

@@ -1,5 +1,6 @@
 //! Which header the trace has to have that goes on from a state, and what is wrong with another one.
-ghost use Rattle.std.specs.Prelude.{◌≡◌, ◌≤◌, ◌+◌, ◌^◌, MatchOption};
+ghost use Rattle.std.specs.Prelude.{◌≡◌, ◌≤◌, ◌+◌, ◌^◌, length, MatchOption};
+ghost use Rattle.kc_trace.specs.Faults.{header_fault_words};
 ghost use Rattle.std.specs.Bool.{Decides};
 ghost use Rattle.kc_trace.specs.declared.header.Position.TheVariants as position;
 ghost use Rattle.kc_trace.specs.Expected.{DiffersIn, number_of, MayHave, IsPositionFault, IsHeaderFault};
@@ -45,6 +46,28 @@ pub enum HeaderFault {
     Missing,
     /// There is a head, and it is not known what it has to say.
     Unexpected,
+}
+
+impl HeaderFault {
+    /// What is wrong.
+    pub const fn words(&self) -> &'static str
+        ensures text { result.now ≡ header_fault_words self.now }
+        ensures short { length result.now ≤ 40 }
+    {
+        match self {
+            HeaderFault::Machine(MachinePart::Version) => "trace of another machine: version",
+            HeaderFault::Machine(MachinePart::Frames) => "trace of another machine: frames",
+            HeaderFault::Machine(MachinePart::Core) => "trace of another machine: core",
+            HeaderFault::Machine(MachinePart::Host) => "trace of another machine: host",
+            HeaderFault::Machine(MachinePart::Leaves) => "trace of another machine: leaves",
+            HeaderFault::Machine(MachinePart::Approved) => "trace of another machine: approved",
+            HeaderFault::NotFirst => "trace is not the first volume",
+            HeaderFault::Number => "trace is another volume: number",
+            HeaderFault::Digest => "trace is another volume: digest",
+            HeaderFault::Missing => "trace has no head, and one is expected",
+            HeaderFault::Unexpected => "trace has a head, and none is expected",
+        }
+    }
 }
 
 /// Whether two lists of digests are the same.

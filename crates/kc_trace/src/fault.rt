@@ -3,6 +3,7 @@ ghost use Rattle.std.specs.Prelude.{◌≡◌, ◌≤◌, length};
 ghost use Rattle.kc_trace.specs.Faults.{trace_fault_words};
 ghost use Rattle.kc_trace.specs.declared.fault.TraceFault.TheVariants.{Memory};
 
+use crate::expected::HeaderFault;
 use kc_types::Memory as NoMemory;
 use std::alloc::{AllocError, AllocFailed};
 use std::error::Error;
@@ -19,6 +20,8 @@ pub enum TraceFault {
     NoNewline,
     /// There are bytes after 65,536 calls.
     TooManyCalls,
+    /// The text is a trace, and its header is not the one that is expected.
+    Misplaced(HeaderFault),
     /// Memory could not be had.
     Memory,
 }
@@ -34,6 +37,7 @@ impl TraceFault {
             TraceFault::BadLine(_) => "bad trace line ",
             TraceFault::NoNewline => "last trace line has no newline",
             TraceFault::TooManyCalls => "too many calls",
+            TraceFault::Misplaced(fault) => fault.words(),
             TraceFault::Memory => "out of memory",
         }
     }
