@@ -2,6 +2,7 @@
 use Rattle.std.proofs.Common.{◌≡◌, ◌≤◌, ◌++◌, ◌∙◌, ℕ, Bool, true, false, List, [], length, Option, Some, None, refl, ap, subst, sym, arith, length-append}
 use Rattle.std.specs.Prelude.{IsSome, IfSome}
 use Rattle.kc_types.specs.Limits.{call_limit}
+use Rattle.kc_types.specs.Configuration.{Configuration}
 use Rattle.kc_types.specs.declared.call.Call.{Call}
 use Rattle.kc_types.specs.declared.reply.Reply.{Reply}
 use Rattle.kc_model.specs.State.{State}
@@ -10,7 +11,10 @@ use Rattle.kc_model.proofs.Lawful.LawfulTraces.{lawful-after}
 use Rattle.kc_model.proofs.Promises.{promises_kept}
 use Rattle.kc_model.proofs.Redaction.Blank.{audited_blank}
 use Rattle.kc_dumping.proofs.Drawn.{sound-drawn}
-use Rattle.kc_trace.specs.Trace.{IsTrace}
+use Rattle.kc_trace.specs.declared.header.Header.{Header}
+use Rattle.kc_trace.specs.declared.expected.Expected.{Expected}
+use Rattle.kc_trace.specs.Trace.{IsTraceUnder}
+use Rattle.kc_trace.specs.Expected.{MayHave}
 use Rattle.kc_cli.specs.declared.order.ReplayForm.{ReplayForm}
 use Rattle.kc_cli.specs.declared.order.ReplayForm.TheVariants as forms
 use Rattle.kc_cli.specs.Engine.{IsReplayed, IsKept, kept_more, left_as}
@@ -59,12 +63,12 @@ still_kept forms.Lines kept calls more is = ap (λ (l : List Call). l ++ more) i
 still_kept _ kept calls more is = tt
 
 -- the calls that came, and those that are kept of them
-abbrev pub Came : ReplayForm → Option (List ℕ) → Replaying → Replaying → List Call → List Reply → Type 0
-Came form first a b kept given = IfSome first (λ text. (calls : List Call) × IsTrace text calls × IsFed a b calls given × IsKept form kept calls)
+abbrev pub Came : ReplayForm → Header → Option (List ℕ) → Replaying → Replaying → List Call → List Reply → Type 0
+Came form header first a b kept given = IfSome first (λ text. (calls : List Call) × IsTraceUnder header text calls × IsFed a b calls given × IsKept form kept calls)
 
-pub calls_known : (form : ReplayForm) (first : Option (List ℕ)) (a b : Replaying) (calls kept : List Call) (given : List Reply) → IfSome first (λ text. IsTrace text calls) → IsFed a b calls given → IsKept form kept calls → Came form first a b kept given
-calls_known form None a b calls kept given traced fed is = tt
-calls_known form (Some text) a b calls kept given traced fed is = (calls, traced, fed, is)
+pub calls_known : (form : ReplayForm) (header : Header) (first : Option (List ℕ)) (a b : Replaying) (calls kept : List Call) (given : List Reply) → IfSome first (λ text. IsTraceUnder header text calls) → IsFed a b calls given → IsKept form kept calls → Came form header first a b kept given
+calls_known form header None a b calls kept given traced fed is = tt
+calls_known form header (Some text) a b calls kept given traced fed is = (calls, traced, fed, is)
 
 -- there are no more replies than calls
 pub few_fed : (a b c : Replaying) (xs ys : List Call) (rs ss : List Reply) → IsFed a b xs rs → IsFed b c ys ss → length (xs ++ ys) ≤ call_limit → length (rs ++ ss) ≤ call_limit
@@ -73,19 +77,21 @@ few_fed a b c xs ys rs ss h k few =
     let same = ap length fed.given ∙ one_each fed.start (xs ++ ys) in
     omega (arith, same, few)
 
-pub replayed : (form : ReplayForm) (first : Option (List ℕ)) (start : State) (a b : Replaying) (kept : List Call) (given : List Reply) (core : State) → IsLawful start → a.state ≡ Some start → b.state ≡ Some core
-    → Came form first a b kept given → IfSome first (λ text. IsReplayed form start text kept given core)
-replayed form None start a b kept given core is from to h = tt
-replayed form (Some text) start a b kept given core is from to h =
+-- the replay is of a trace that may have the header which was read
+pub replayed : (form : ReplayForm) (header : Header) (expected : Expected) (first : Option (List ℕ)) (start : State) (a b : Replaying) (kept : List Call) (given : List Reply) (core : State) → IsLawful start → a.state ≡ Some start → b.state ≡ Some core
+    → Came form header first a b kept given → MayHave core.config expected header → IfSome first (λ text. IsReplayed form start expected text kept given core)
+replayed form header expected None start a b kept given core is from to h may = tt
+replayed form header expected (Some text) start a b kept given core is from to h may =
     let fed = h.2 in
     let same : fed.start ≡ start = some_is fed.start start (sym fed.from ∙ from) in
     let left : core ≡ state_after start h.0 = some_is core (state_after start h.0) (sym to ∙ fed.state ∙ ap (λ (m : State). Some (state_after m h.0)) same) in
+    let promises = promises_kept start h.0 is in
     record {
       calls = h.0;
-      traced = h.1;
+      traced = (header, subst (λ (config : Configuration). MayHave config expected header) (ap (λ (m : State). m.config) left ∙ promises.config) may, h.1);
       kept_are = h.3;
       given = fed.given ∙ ap (λ (m : State). replies_from m h.0) same;
       left = left;
-      promises = promises_kept start h.0 is;
+      promises = promises;
       sound = λ blank. sound-drawn (left_as blank core) (lawful-left blank core (subst IsLawful (sym left) (lawful-after start h.0 is)));
     }

@@ -12,7 +12,8 @@ use Rattle.kc_state_text.specs.Differences.{IsDifference}
 use Rattle.kc_remarks.specs.declared.denials.Answered.{Answered}
 use Rattle.kc_remarks.specs.Denials.{IsAnsweredBy}
 use Rattle.kc_faults.specs.declared.origin.Origin.{Origin}
-use Rattle.kc_faults.specs.Origins.{BeginsIn}
+use Rattle.kc_trace.specs.declared.expected.Expected.{Expected}
+use Rattle.kc_faults.specs.Origins.{BeginsIn, expected_of}
 use Rattle.kc_texts.specs.Written.{Writes, Begins}
 use Rattle.kc_cli.specs.declared.order.ReplayForm.{ReplayForm}
 use Rattle.kc_cli.specs.declared.order.ReplayForm.TheVariants as forms
@@ -20,10 +21,10 @@ use Rattle.kc_cli.specs.Answers.{AreAnswered}
 use Rattle.kc_cli.specs.Engine.{IsReplayed, AreReplayed, IsKept, IsReplayText, DiffersFromLeft, written_text, left_as}
 
 pub are_replayed : (origin : Origin) (form : ReplayForm) (start_left trace_left : Option (List ℕ)) (start : State) (kept : List Call) (replies : List Reply) (core : State) → IfSome start_left (λ text. BeginsIn origin text start)
-    → IfSome trace_left (λ text. IsReplayed form start text kept replies core) → AreReplayed origin form start_left trace_left kept replies core
-are_replayed origin form None trace_left start kept replies core s t = tt
-are_replayed origin form (Some text) None start kept replies core s t = tt
-are_replayed origin form (Some text) (Some trace) start kept replies core s t = (start, s, t)
+    → (expected : Expected) → IfSome start_left (λ text. expected ≡ expected_of origin text) → IfSome trace_left (λ text. IsReplayed form start expected text kept replies core) → AreReplayed origin form start_left trace_left kept replies core
+are_replayed origin form None trace_left start kept replies core s expected e t = tt
+are_replayed origin form (Some text) None start kept replies core s expected e t = tt
+are_replayed origin form (Some text) (Some trace) start kept replies core s expected e t = (start, s, subst (λ (x : Expected). IsReplayed form start x trace kept replies core) e t)
 
 -- what is written of calls that were kept is written of the trace's
 written_kept : (form : ReplayForm) (kept calls : List Call) (replies : List Reply) (core : State) → IsKept form kept calls → written_text form kept replies core ≡ written_text form calls replies core

@@ -5,20 +5,19 @@ use Rattle.kc_model.specs.State.{State}
 use Rattle.kc_model.specs.Next.{replies_from}
 use Rattle.kc_remarks.specs.declared.denials.Answered.{Answered}
 use Rattle.kc_remarks.specs.Denials.{IsAnsweredBy}
-use Rattle.kc_trace.specs.Trace.{IsTrace}
 use Rattle.kc_faults.specs.declared.origin.Origin.{Origin}
-use Rattle.kc_faults.specs.Origins.{BeginsIn}
+use Rattle.kc_faults.specs.Origins.{BeginsIn, IsTraceFrom}
 use Rattle.kc_cli.specs.Custody.{joined, AreVolumes}
 
--- the counts are of the trace's calls, made in order from this state on
-abbrev pub AreAnsweredFrom : State → List ℕ → Answered → Type 0
-AreAnsweredFrom m trace_text answered = (calls : List Call) × IsTrace trace_text calls × IsAnsweredBy (replies_from m calls) answered
+-- the counts are of the trace's calls, made in order from this state on, which the first text is of
+abbrev pub AreAnsweredFrom : Origin → List ℕ → State → List ℕ → Answered → Type 0
+AreAnsweredFrom origin start_text m trace_text answered = (calls : List Call) × IsTraceFrom origin start_text m trace_text calls × IsAnsweredBy (replies_from m calls) answered
 
 -- the same from the state that the first text is of, if both texts are known
 abbrev pub AreAnswered : Origin → Option (List ℕ) → Option (List ℕ) → Answered → Type 0
 AreAnswered origin None trace answered = Unit {0}
 AreAnswered origin (Some start) None answered = Unit {0}
-AreAnswered origin (Some start_text) (Some trace_text) answered = (m : State) × BeginsIn origin start_text m × AreAnsweredFrom m trace_text answered
+AreAnswered origin (Some start_text) (Some trace_text) answered = (m : State) × BeginsIn origin start_text m × AreAnsweredFrom origin start_text m trace_text answered
 
 -- the same of the calls of all volumes, one after another
 abbrev pub AreAllAnswered : Origin → Option (List ℕ) → Option (List (List ℕ)) → Answered → Type 0

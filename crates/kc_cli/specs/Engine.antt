@@ -9,7 +9,8 @@ use Rattle.kc_model.specs.Next.{replies_from, state_after}
 use Rattle.kc_dumping.specs.Dumping.{dump_of}
 use Rattle.kc_dump.specs.Sound.{IsSound}
 use Rattle.kc_dump_text.specs.DumpText.{dump_text}
-use Rattle.kc_trace.specs.Trace.{IsTrace}
+use Rattle.kc_trace.specs.Expected.{IsTraceThere}
+use Rattle.kc_trace.specs.declared.expected.Expected.{Expected}
 use Rattle.kc_trace.specs.ReplyText.{reply_text_of}
 use Rattle.kc_trace.specs.AnswerText.{answer_text_of}
 use Rattle.kc_config_text.specs.declared.config_text.ConfigTextFault.{ConfigTextFault}
@@ -18,7 +19,7 @@ use Rattle.kc_state_text.specs.Differences.{IsDifference}
 use Rattle.kc_state_text.specs.declared.fault.StateFault.{StateFault}
 use Rattle.kc_state_text.specs.declared.fault.StateFault.TheVariants as states
 use Rattle.kc_faults.specs.declared.origin.Origin.{Origin}
-use Rattle.kc_faults.specs.Origins.{BeginsIn}
+use Rattle.kc_faults.specs.Origins.{BeginsIn, IsTraceFrom, expected_of}
 use Rattle.kc_faults.specs.Outcomes.{IsTold}
 use Rattle.kc_cli.specs.declared.order.ReplayForm.{ReplayForm}
 use Rattle.kc_cli.specs.declared.order.ReplayForm.TheVariants as forms
@@ -56,10 +57,10 @@ abbrev pub kept_more : ReplayForm → List Call → List Call → List Call
 kept_more forms.Lines kept more = kept ++ more
 kept_more form kept more = kept
 
--- the replies and the core are those of one thread, which takes the trace's calls in order from this state; the calls keep the promises, and an audit finds nothing in the core, zeroed so or not
-pub record IsReplayed (form : ReplayForm) (start : State) (trace_text : List ℕ) (kept : List Call) (replies : List Reply) (core : State) : Type 0 where
+-- the text is a trace that may go on there, and the replies and the core are those of one thread, which takes its calls in order from this state; the calls keep the promises, and an audit finds nothing in the core, zeroed so or not
+pub record IsReplayed (form : ReplayForm) (start : State) (expected : Expected) (trace_text : List ℕ) (kept : List Call) (replies : List Reply) (core : State) : Type 0 where
   pub calls : List Call
-  pub traced : IsTrace trace_text calls
+  pub traced : IsTraceThere start.config expected trace_text calls
   pub kept_are : IsKept form kept calls
   pub given : replies ≡ replies_from start calls
   pub left : core ≡ state_after start calls
@@ -70,7 +71,7 @@ pub record IsReplayed (form : ReplayForm) (start : State) (trace_text : List ℕ
 abbrev pub AreReplayed : Origin → ReplayForm → Option (List ℕ) → Option (List ℕ) → List Call → List Reply → State → Type 0
 AreReplayed origin form None trace kept replies core = Unit {0}
 AreReplayed origin form (Some start) None kept replies core = Unit {0}
-AreReplayed origin form (Some start_text) (Some trace_text) kept replies core = (start : State) × BeginsIn origin start_text start × IsReplayed form start trace_text kept replies core
+AreReplayed origin form (Some start_text) (Some trace_text) kept replies core = (start : State) × BeginsIn origin start_text start × IsReplayed form start (expected_of origin start_text) trace_text kept replies core
 
 -- what is written of calls, their replies and the state after them
 abbrev pub written_text : ReplayForm → List Call → List Reply → State → List ℕ
@@ -84,7 +85,7 @@ pub record IsReplayText (origin : Origin) (form : ReplayForm) (blank : Bool) (st
   pub start : State
   pub calls : List Call
   pub begins : BeginsIn origin start_text start
-  pub traced : IsTrace trace_text calls
+  pub traced : IsTraceFrom origin start_text start trace_text calls
   pub promises : KeepsPromises start calls
   pub sound : IsSound (dump_of (left_as blank (state_after start calls)))
   pub written : text ≡ written_text form calls (replies_from start calls) (left_as blank (state_after start calls))
@@ -95,4 +96,4 @@ DiffersFromLeft origin blank None trace to line = Unit {0}
 DiffersFromLeft origin blank (Some start_text) None to line = Unit {0}
 DiffersFromLeft origin blank (Some start_text) (Some trace_text) None line = Unit {0}
 DiffersFromLeft origin blank (Some start_text) (Some trace_text) (Some text) line =
-    (start : State) × (calls : List Call) × BeginsIn origin start_text start × IsTrace trace_text calls × IsDifference line text (state_text (left_as blank (state_after start calls)))
+    (start : State) × (calls : List Call) × BeginsIn origin start_text start × IsTraceFrom origin start_text start trace_text calls × IsDifference line text (state_text (left_as blank (state_after start calls)))

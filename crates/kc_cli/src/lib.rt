@@ -40,4 +40,4 @@ pub use live::live_text;
 pub use order::{ReplayForm, ReplayOrder};
 pub use reading::{DEFAULT_CONFIG, read_both, read_configuration};
 pub use replaying::{Compared, replay_text, replay_to_text};
-pub use starting::read_start;
+pub use starting::{Start, read_start};

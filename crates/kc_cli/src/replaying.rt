@@ -4,7 +4,9 @@ ghost use Rattle.std.specs.Io.KnownBytes.{IsAtEnd};
 ghost use Rattle.kc_types.specs.Limits.{call_limit};
 ghost use Rattle.kc_types.specs.declared.call.Call.{Call};
 ghost use Rattle.kc_trace.specs.declared.fault.TraceFault.{TraceFault};
-ghost use Rattle.kc_trace.specs.Trace.{IsTrace, IsRefused};
+ghost use Rattle.kc_trace.specs.declared.expected.HeaderFault.{HeaderFault};
+ghost use Rattle.kc_trace.specs.Trace.{IsTraceUnder, IsRefused};
+ghost use Rattle.kc_trace.specs.Expected.{MayHave, IsHeaderFault};
 ghost use Rattle.kc_state_text.specs.StateText.{state_text};
 ghost use Rattle.kc_state_text.specs.Differences.{IsDifference};
 ghost use Rattle.kc_texts.specs.Ends.{ReadFailed, seen};
@@ -16,7 +18,7 @@ ghost use Rattle.kc_cli.specs.Answers.{AreAnswered};
 
 use crate::giving::{Replayed, give_replayed};
 use crate::order::{ReplayForm, ReplayOrder};
-use crate::starting::read_start;
+use crate::starting::{Start, read_start};
 use kc_core::KCore;
 use kc_digests::Lanes;
 use kc_faults::TextFault;
@@ -24,6 +26,7 @@ use kc_remarks::Answered;
 use kc_replay::{OpenGate, ReplayFault, Replayer};
 use kc_state_text::difference_from_state;
 use kc_texts::{CallStream, PIECE, Sink, Source, read_secret};
+use kc_trace::{Expected, Header, TraceFault};
 use kc_types::{Call, Memory, Reply, WORKER_LIMIT};
 use std::alloc::Global;
 use std::sync::Wait;
@@ -32,6 +35,7 @@ use std::thread::Threads;
 /// What came of a trace's calls, as it was read.
 #[derive(Drop)]
 struct Fed {
+    header: Header,
     /// The calls, if they are written too.
     calls: Vec<Call>,
     replies: Vec<Reply>,
@@ -59,8 +63,8 @@ fn feed_source<T: Source, R: Threads + Wait + Sync>(
     requires trace { T.failed trace.old ≡ false }
     requires start { replayer.old.fed ≡ 0 }
     requires whole { IsSome replayer.old.state }
-    ensures ok { IfOk result (λ fed. IfSome (T.left trace.old) (λ text. (calls : List Call) × IsTrace text calls
-        × IsFed replayer.old replayer.new calls fed.replies.items × IsKept form fed.calls.items calls)) }
+    ensures ok { IfOk result (λ fed. IfSome (T.left trace.old) (λ text. (calls : List Call)
+        × IsTraceUnder fed.header text calls × IsFed replayer.old replayer.new calls fed.replies.items × IsKept form fed.calls.items calls)) }
     ensures few { IfOk result (λ fed. length fed.replies.items ≤ call_limit) }
     ensures ended { OnOk result (IsAtEnd (T.left trace.new)) }
     ensures trace { (fault : TraceFault) → result ≡ Err (TextFault.Trace fault)
@@ -93,7 +97,11 @@ fn feed_source<T: Source, R: Threads + Wait + Sync>(
         }
     }
     match stream.finish() {
-        Ok(()) => Ok(Fed { calls, replies }),
+        Ok(header) => Ok(Fed {
+            header,
+            calls,
+            replies,
+        }),
         Err(fault) => Err(TextFault::Trace(fault)),
     }
 }
@@ -103,6 +111,27 @@ fn wipe_left(rt: &(impl Threads + Sync), replayer: Replayer) {
     if let Ok(core) = replayer.finish() {
         let mut core = core;
         core.wipe(rt);
+    }
+}
+
+/// The replay, if its trace may have this header there; otherwise the core is wiped.
+fn placed(
+    rt: &(impl Threads + Sync),
+    expected: Expected,
+    header: &Header,
+    made: Replayed,
+) -> Result<Replayed, TextFault>
+    ensures ok { IfOk result (λ same. (same ≡ made) × MayHave made.core.config expected header.now) }
+    ensures fault { IfErr result (λ fault. (wrong : HeaderFault) × (fault ≡ TextFault.Trace (TraceFault.Misplaced wrong))
+        × IsHeaderFault made.core.config expected header.now wrong) }
+{
+    match expected.fault(made.core.config(), header) {
+        None => Ok(made),
+        Some(wrong) => {
+            let mut core = made.core;
+            core.wipe(rt);
+            Err(TextFault::Trace(TraceFault::Misplaced(wrong)))
+        },
     }
 }
 
@@ -132,23 +161,28 @@ fn replay_texts<C: Source, T: Source, R: Threads + Wait + Sync>(
     if order.workers == 0 || order.workers as usize > WORKER_LIMIT {
         return Err(TextFault::Workers);
     }
-    let core = read_start(rt, alloc, start, order.origin, order.lanes)?;
+    let Start { core, expected } = read_start(rt, alloc, start, order.origin, order.lanes)?;
     let Ok(replayer) = Replayer::from_core(core, order.workers as usize) else {
         return Err(TextFault::Memory);
     };
     let mut replayer = replayer;
     match feed_source(rt, alloc, &mut replayer, trace, order.form) {
-        Ok(Fed { calls, replies }) => {
+        Ok(Fed {
+            header,
+            calls,
+            replies,
+        }) => {
             let answered = Answered::of(&replies);
-            match replayer.finish() {
-                Ok(core) => Ok(Replayed {
-                    calls,
-                    replies,
-                    answered,
-                    core,
-                }),
-                Err(_) => Err(TextFault::Memory),
-            }
+            let Ok(core) = replayer.finish() else {
+                return Err(TextFault::Memory);
+            };
+            let made = Replayed {
+                calls,
+                replies,
+                answered,
+                core,
+            };
+            placed(rt, expected, &header, made)
         },
         Err(fault) => {
             wipe_left(rt, replayer);
@@ -175,7 +209,8 @@ fn left_as(made: Replayed, is_blank: bool) -> Replayed
 ///
 /// Nothing is written before the whole trace was read and answered. A source that fails, or that has more than
 /// 1,073,741,824 bytes, is `Read`, even if its bytes so far are refused already. Out of memory or a worker that cannot
-/// be started is reported before a fault of the trace that is further on.
+/// be started is reported before a fault of the trace that is further on, and that its header is not one that may come
+/// there after everything else.
 pub fn replay_text<C: Source, T: Source, K: Sink, R: Threads + Wait + Sync>(
     rt: &R,
     alloc: Global,

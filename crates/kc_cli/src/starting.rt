@@ -9,7 +9,7 @@ ghost use Rattle.kc_config_text.specs.declared.config_text.ConfigTextFault.{Conf
 ghost use Rattle.kc_state_text.specs.Refused.{IsRefusedState};
 ghost use Rattle.kc_state_text.specs.declared.fault.StateFault.{StateFault};
 ghost use Rattle.kc_texts.specs.Ends.{ReadFailed};
-ghost use Rattle.kc_faults.specs.Origins.{BeginsIn};
+ghost use Rattle.kc_faults.specs.Origins.{BeginsIn, expected_of};
 ghost use Rattle.kc_faults.specs.Outcomes.{IsConfigFault, IsStartFault};
 ghost use Rattle.kc_cli.specs.Engine.{IsStateFault};
 ghost use Rattle.kc_cli.specs.Custody.{NamesStart};
@@ -21,14 +21,23 @@ use kc_dumping::StateForm;
 use kc_faults::{Origin, TextFault};
 use kc_state_text::{read_state, state_digest};
 use kc_texts::{Source, read_secret, read_whole};
+use kc_trace::Expected;
 use sha2::{Digest, Sha256};
 use std::alloc::Global;
 use std::thread::Threads;
 
-/// A core, and the SHA-256 digest by which what it was made of is named, if that was asked for.
+/// A core, and which header the trace of the calls that go on from it may have.
+#[derive(Drop)]
+pub struct Start {
+    pub core: KCore,
+    pub expected: Expected,
+}
+
+/// The same, and the SHA-256 digest by which what it was made of is named, if that was asked for.
 #[derive(Drop)]
 pub(crate) struct Begun {
     pub core: KCore,
+    pub expected: Expected,
     pub digest: Option<[u8; 32]>,
 }
 
@@ -80,6 +89,8 @@ fn boot_of(alloc: Global, text: &[u8]) -> Result<KCore, TextFault>
 fn boot_core<C: Source>(alloc: Global, start: &mut C, is_named: bool) -> Result<Begun, TextFault>
     requires { C.failed start.old ≡ false }
     ensures ok { IfOk result (λ begun. IfSome (C.left start.old) (λ text. BeginsIn Origin.Boot text begun.core)) }
+    ensures expected { IfOk result
+        (λ begun. IfSome (C.left start.old) (λ text. begun.expected ≡ expected_of Origin.Boot text)) }
     ensures digest { IfOk result
         (λ begun. NamesStart is_named Origin.Boot (C.left start.old) begun.core begun.digest) }
     ensures lawful { IfOk result (λ begun. IsLawful begun.core) }
@@ -94,7 +105,11 @@ fn boot_core<C: Source>(alloc: Global, start: &mut C, is_named: bool) -> Result<
     let text = read_whole(alloc, start)?;
     let core = boot_of(alloc, &text)?;
     let digest = text_digest(&text, is_named);
-    Ok(Begun { core, digest })
+    Ok(Begun {
+        core,
+        expected: Expected::First,
+        digest,
+    })
 }
 
 /// The core in the state of a text.
@@ -124,6 +139,8 @@ fn read_core<C: Source>(
 ) -> Result<Begun, TextFault>
     requires { C.failed start.old ≡ false }
     ensures ok { IfOk result (λ begun. IfSome (C.left start.old) (λ text. BeginsIn Origin.State text begun.core)) }
+    ensures expected { IfOk result
+        (λ begun. IfSome (C.left start.old) (λ text. begun.expected ≡ expected_of Origin.State text)) }
     ensures digest { IfOk result
         (λ begun. NamesStart is_named Origin.State (C.left start.old) begun.core begun.digest) }
     ensures lawful { IfOk result (λ begun. IsLawful begun.core) }
@@ -141,7 +158,11 @@ fn read_core<C: Source>(
     // (its memory is given back before the state is hashed)
     let _wiped = text;
     let digest = blank_digest(alloc, &core, is_named)?;
-    Ok(Begun { core, digest })
+    Ok(Begun {
+        core,
+        expected: Expected::Bare,
+        digest,
+    })
 }
 
 /// Reads what the calls begin with to its end: the core in the boot state of a configuration, or in the state of a
@@ -157,6 +178,8 @@ pub(crate) fn begin<C: Source>(
 ) -> Result<Begun, TextFault>
     requires { C.failed start.old ≡ false }
     ensures ok { IfOk result (λ begun. IfSome (C.left start.old) (λ text. BeginsIn origin text begun.core)) }
+    ensures expected { IfOk result
+        (λ begun. IfSome (C.left start.old) (λ text. begun.expected ≡ expected_of origin text)) }
     ensures digest { IfOk result
         (λ begun. NamesStart is_named origin (C.left start.old) begun.core begun.digest) }
     ensures lawful { IfOk result (λ begun. IsLawful begun.core) }
@@ -184,10 +207,12 @@ pub fn read_start<C: Source>(
     start: &mut C,
     origin: Origin,
     lanes: Lanes,
-) -> Result<KCore, TextFault>
+) -> Result<Start, TextFault>
     requires { C.failed start.old ≡ false }
-    ensures ok { IfOk result (λ core. IfSome (C.left start.old) (λ text. BeginsIn origin text core)) }
-    ensures lawful { IfOk result IsLawful }
+    ensures ok { IfOk result (λ begun. IfSome (C.left start.old) (λ text. BeginsIn origin text begun.core)) }
+    ensures expected { IfOk result
+        (λ begun. IfSome (C.left start.old) (λ text. begun.expected ≡ expected_of origin text)) }
+    ensures lawful { IfOk result (λ begun. IsLawful begun.core) }
     ensures ended { OnOk result (IsAtEnd (C.left start.new)) }
     ensures mark { OnOk result (C.failed start.new ≡ false) }
     // The fault is of what the bytes are read as.
@@ -200,7 +225,10 @@ pub fn read_start<C: Source>(
     ensures fault { IfErr result IsStartFault }
 {
     match begin(rt, alloc, start, origin, lanes, false) {
-        Ok(begun) => Ok(begun.core),
+        Ok(begun) => Ok(Start {
+            core: begun.core,
+            expected: begun.expected,
+        }),
         Err(fault) => Err(fault),
     }
 }

@@ -4,6 +4,7 @@ use Rattle.std.specs.Prelude.{IfErr, IfSome, is_err, OnErr}
 use Rattle.std.specs.Io.KnownBytes.{IsAtEnd}
 use Rattle.kc_config_text.specs.declared.config_text.ConfigTextFault.{ConfigTextFault}
 use Rattle.kc_trace.specs.declared.fault.TraceFault.{TraceFault}
+use Rattle.kc_trace.specs.declared.fault.TraceFault.TheVariants.{NoHeader, BadLine, NoNewline, TooManyCalls, Misplaced, Memory}
 use Rattle.kc_trace.specs.Trace.{IsRefused}
 use Rattle.kc_types.specs.Configuration.{Configuration}
 use Rattle.kc_config_text.specs.ConfigText.{config_in}
@@ -13,7 +14,7 @@ use Rattle.kc_state_text.specs.declared.fault.StateFault.{StateFault}
 use Rattle.kc_state_text.specs.Refused.{IsRefusedState}
 use Rattle.kc_faults.specs.declared.origin.Origin.{Origin}
 use Rattle.kc_faults.specs.declared.origin.Origin.TheVariants as origins
-use Rattle.kc_faults.specs.Origins.{BeginsIn, IsBegun}
+use Rattle.kc_faults.specs.Origins.{BeginsIn, IsBegun, IsRefusedFrom}
 use Rattle.kc_faults.specs.Outcomes.{IsStartFault, IsTold, TellsSources, TellsTexts, TellsReplay, TellsSink}
 use Rattle.kc_texts.specs.Ends.{Seen}
 use Rattle.kc_faults.specs.declared.fault.TextFault.{TextFault}
@@ -91,8 +92,21 @@ texts_start origin start trace unread f config state fault none = record {
   told = fault.reading.told;
 }
 
+-- a text that is no trace is none that may go on there
+pub refused_from : (origin : Origin) (start : Option (List ℕ)) (text : List ℕ) (fault : TraceFault) → IsRefused text fault → IsRefusedFrom origin start text fault
+refused_from origin start text NoHeader h = h
+refused_from origin start text (BadLine n) h = h
+refused_from origin start text NoNewline h = h
+refused_from origin start text TooManyCalls h = h
+refused_from origin start text (Misplaced wrong) h = absurd h
+refused_from origin start text Memory h = h
+
+pub known_refused : (origin : Origin) (start trace : Option (List ℕ)) (fault : TraceFault) → IfSome trace (λ text. IsRefused text fault) → IfSome trace (λ text. IsRefusedFrom origin start text fault)
+known_refused origin start None fault h = tt
+known_refused origin start (Some text) fault h = refused_from origin start text fault h
+
 -- the trace was refused, after a start
-pub texts_trace : {A : Type 0} (origin : Origin) (start trace : Seen) (unread : Type 0) (m : State) (f : TextFault) → IfSome start.had (λ text. BeginsIn origin text m) → ((said : TraceFault) → f ≡ texts.Trace said → IfSome trace.had (λ text. IsRefused text said) × IsAtEnd trace.has)
+pub texts_trace : {A : Type 0} (origin : Origin) (start trace : Seen) (unread : Type 0) (m : State) (f : TextFault) → IfSome start.had (λ text. BeginsIn origin text m) → ((said : TraceFault) → f ≡ texts.Trace said → IfSome trace.had (λ text. IsRefusedFrom origin start.had text said) × IsAtEnd trace.has)
     → ((said : ConfigTextFault) → f ≢ texts.Config said) → ((said : StateFault) → f ≢ texts.State said) → IsTold f → TellsTexts {A = A} origin start trace unread (Err f)
 texts_trace origin start trace unread m f known refused config state told = record {
   config_fault = λ said e. absurd (config said (let same : f ≡ texts.Config said = cc in same));
