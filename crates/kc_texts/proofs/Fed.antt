@@ -1,5 +1,5 @@
 -- A stream that is fed in pieces.
-use Rattle.std.proofs.Common.{◌≡◌, ◌≤◌, ◌<◌, ◌+◌, ℕ, Bool, true, false, List, [], ◌∷◌, ◌++◌, length, Option, Some, None, Result, Ok, Err, refl, ap, ◌∙◌, append_assoc, arith, inr, length-append}
+use Rattle.std.proofs.Common.{◌≡◌, ◌≤◌, ◌<◌, ◌+◌, ℕ, Bool, true, false, List, [], ◌∷◌, ◌++◌, length, Option, Some, None, Result, Ok, Err, refl, sym, ap, ◌∙◌, append_assoc, arith, inr, length-append}
 use Rattle.std.specs.Prelude.{MatchOption, IfSome, IfOk, OnOk, ◌==◌, nat_le, if◌then◌else◌}
 use Rattle.std.proofs.lemmas.Bool.{leb-false}
 use Rattle.std.proofs.lemmas.List.{append-nil, nil_from_length}
@@ -12,10 +12,10 @@ use Rattle.kc_trace.specs.declared.head_reader.NextLine.TheVariants.{More, Whole
 use Rattle.kc_types.specs.declared.call.Call.{Call}
 use Rattle.kc_texts.specs.Ends.{ReadFailed}
 use Rattle.kc_trace.specs.declared.fault.TraceFault.{TraceFault}
-use Rattle.kc_trace.specs.declared.fault.TraceFault.TheVariants.{NoHeader, BadLine, NoNewline, TooManyCalls, Memory}
+use Rattle.kc_trace.specs.declared.fault.TraceFault.TheVariants.{NoHeader, BadLine, NoNewline, TooManyCalls, Misplaced, Memory}
 use Rattle.kc_trace.specs.Trace.{IsTraceUnder, IsRefused}
-use Rattle.kc_trace.specs.Machine.{◌>>=◌, Progress, Fails, start, longer, next_of_line, may_begin, call_in, after_line, begun_by, begun, after_header, line_ended_by, line_ended, with_front, fed_byte, feed, fed, fed_after, nothing_begun, ended, reading}
-use Rattle.kc_trace.proofs.Runs.{feed_nothing, feed-append, and_then_feed}
+use Rattle.kc_trace.specs.Machine.{◌>>=◌, Progress, Reader, Fails, start, longer, next_of_line, may_begin, call_in, after_line, begun_by, begun, after_header, line_ended_by, line_ended, with_front, fed_byte, feed, fed, fed_after, nothing_begun, ended, reading}
+use Rattle.kc_trace.proofs.Runs.{feed_nothing, feed-append, and_then_feed, header_stays, headless as headless_calls}
 use Rattle.kc_trace.proofs.Traces.{Reads, reading_reads, read_under}
 use Rattle.kc_texts.specs.Streamed.{Streamed, answer, HasRead, GoesOn}
 
@@ -34,6 +34,7 @@ fails_is NoHeader read other h = h
 fails_is (BadLine n) read other h = h
 fails_is NoNewline read other h = h
 fails_is TooManyCalls read other h = h
+fails_is (Misplaced wrong) read other h = h
 fails_is Memory read other h = absurd (other refl)
 
 -- ---- how many calls came
@@ -103,15 +104,17 @@ has_read_ok stream after bytes piece calls more n first mid now h more_read told
       consumed = Consumes-trans first mid now bytes piece h.consumed more_read;
       many = omega (arith, length-append bytes piece, h.many, len, total);
       few = omega (arith, counted.0, counted.1);
+      headless = λ no. (headless_calls (bytes ++ piece) start (after.reader.progress, calls ++ more) so_far no).1;
     }
 
-has_read_err : (stream after : Streamed) (bytes piece : List ℕ) (calls : List Call) (f : TraceFault) (n : ℕ) (first mid now : Option (List ℕ)) → HasRead stream bytes calls first mid → Consumes mid now piece → Fails f (fed stream.reader piece) → (f ≡ Memory → ⊥) → after.reader.fault ≡ Some f → length piece ≡ n → after.total ≡ stream.total + n
+has_read_err : (stream after : Streamed) (bytes piece : List ℕ) (calls : List Call) (f : TraceFault) (n : ℕ) (first mid now : Option (List ℕ)) → HasRead stream bytes calls first mid → Consumes mid now piece → Fails f (fed stream.reader piece) → (f ≡ Memory → ⊥) → after.reader.fault ≡ Some f → length piece ≡ n → after.total ≡ stream.total + n → after.reader.progress ≡ stream.reader.progress
     → HasRead after (bytes ++ piece) calls first now
-has_read_err stream after bytes piece calls f n first mid now h more_read told other some len total = record {
+has_read_err stream after bytes piece calls f n first mid now h more_read told other some len total kept = record {
   so_far = rw some (fed_err stream.reader.fault stream.reader.progress bytes piece calls f h.so_far (fails_is f (fed stream.reader piece) other told));
   consumed = Consumes-trans first mid now bytes piece h.consumed more_read;
   many = omega (arith, length-append bytes piece, h.many, len, total);
   few = h.few;
+  headless = λ no. h.headless (sym (ap (λ (p : Progress). p.header) kept) ∙ no);
 }
 
 -- ---- going on
@@ -125,11 +128,11 @@ goes_on_ok before stream after piece given more all n left mid now on more_read 
     let earlier = on bytes calls first h in
     (earlier.0 ++ piece, rw (grown, ← append_assoc bytes earlier.0 piece, ← append_assoc calls given more) (has_read_ok stream after (bytes ++ earlier.0) piece (calls ++ given) more n first mid now earlier.1 more_read told none len total))
 
-pub goes_on_err : (before stream after : Streamed) (piece : List ℕ) (given : List Call) (f : TraceFault) (n : ℕ) (left mid now : Option (List ℕ)) → GoesOn before stream left mid given → Consumes mid now piece → Fails f (fed stream.reader piece) → (f ≡ Memory → ⊥) → after.reader.fault ≡ Some f → length piece ≡ n → after.total ≡ stream.total + n
+pub goes_on_err : (before stream after : Streamed) (piece : List ℕ) (given : List Call) (f : TraceFault) (n : ℕ) (left mid now : Option (List ℕ)) → GoesOn before stream left mid given → Consumes mid now piece → Fails f (fed stream.reader piece) → (f ≡ Memory → ⊥) → after.reader.fault ≡ Some f → length piece ≡ n → after.total ≡ stream.total + n → after.reader.progress ≡ stream.reader.progress
     → GoesOn before after left now given
-goes_on_err before stream after piece given f n left mid now on more_read told other some len total bytes calls first h =
+goes_on_err before stream after piece given f n left mid now on more_read told other some len total kept bytes calls first h =
     let earlier = on bytes calls first h in
-    (earlier.0 ++ piece, rw (← append_assoc bytes earlier.0 piece) (has_read_err stream after (bytes ++ earlier.0) piece (calls ++ given) f n first mid now earlier.1 more_read told other some len total))
+    (earlier.0 ++ piece, rw (← append_assoc bytes earlier.0 piece) (has_read_err stream after (bytes ++ earlier.0) piece (calls ++ given) f n first mid now earlier.1 more_read told other some len total kept))
 
 -- the last read moved no bytes
 pub goes_on_nothing : (before after : Streamed) (piece : List ℕ) (given : List Call) (left mid now : Option (List ℕ)) → GoesOn before after left mid given → Consumes mid now piece → length piece ≡ 0 → GoesOn before after left now given
@@ -137,7 +140,7 @@ goes_on_nothing before after piece given left mid now on more_read none bytes ca
     let earlier = on bytes calls first h in
     let empty : piece ≡ [] = nil_from_length piece none in
     let again : Consumes first now ((bytes ++ earlier.0) ++ []) = rw empty at (Consumes-trans first mid now (bytes ++ earlier.0) piece earlier.1.consumed more_read) in
-    (earlier.0, record { so_far = earlier.1.so_far; consumed = rw (append-nil (bytes ++ earlier.0)) at again; many = earlier.1.many; few = earlier.1.few })
+    (earlier.0, record { so_far = earlier.1.so_far; consumed = rw (append-nil (bytes ++ earlier.0)) at again; many = earlier.1.many; few = earlier.1.few; headless = earlier.1.headless })
 
 -- too many bytes came
 pub too_many : (before stream : Streamed) (piece : List ℕ) (given : List Call) (n : ℕ) (failed : Bool) (left mid now : Option (List ℕ)) → GoesOn before stream left mid given → Consumes mid now piece → length piece ≡ n → byte_limit < stream.total + n
@@ -145,6 +148,14 @@ pub too_many : (before stream : Streamed) (piece : List ℕ) (given : List Call)
 too_many before stream piece given n failed left mid now on more_read len past bytes calls first h =
     let earlier = on bytes calls first h in
     inr ((bytes ++ earlier.0) ++ piece, Consumes-trans first mid now (bytes ++ earlier.0) piece earlier.1.consumed more_read, omega (arith, length-append (bytes ++ earlier.0) piece, earlier.1.many, len))
+
+-- the header stays while more is read
+pub header_kept : (reader : Reader) (p : Progress) (piece : List ℕ) (more : List Call) (header : Header) → reader.progress.header ≡ Some header → fed reader piece ≡ Ok (p, more) → p.header ≡ Some header
+header_kept reader p piece more header is e = by_fault reader.fault e
+  where
+    by_fault : (fault : Option TraceFault) → fed_after fault reader.progress piece ≡ Ok (p, more) → p.header ≡ Some header
+    by_fault None e = header_stays piece reader.progress header (p, more) is e
+    by_fault (Some f) e = absurd cc
 
 -- ---- at the end
 
@@ -204,7 +215,7 @@ ends_refused stream result fault e is bytes calls (Some text) now h end =
     rw same refused
 
 pub in_front : (stream : Streamed) (first : Option (List ℕ)) → stream.reader ≡ record { progress = start; fault = None } → stream.total ≡ 0 → HasRead stream [] [] first first
-in_front stream first reader none = record { so_far = rw reader (feed_nothing start); consumed = Consumes-nil first; many = omega (arith, none); few = omega arith }
+in_front stream first reader none = record { so_far = rw reader (feed_nothing start); consumed = Consumes-nil first; many = omega (arith, none); few = omega arith; headless = λ no. refl }
 
 pub few_bytes : (stream : Streamed) (bytes : List ℕ) (calls : List Call) (first now : Option (List ℕ)) → HasRead stream bytes calls first now → IsAtEnd now → stream.total ≤ byte_limit → IfSome first (λ text. length text ≤ byte_limit)
 few_bytes stream bytes calls None now h end few = tt

@@ -1,5 +1,5 @@
 -- A trace that is read one part at a time.
-use Rattle.std.specs.Prelude.{ℕ, ◌≡◌, ◌≤◌, ◌++◌, List, length, Option, Some, None, Result, Ok, Err}
+use Rattle.std.specs.Prelude.{ℕ, ◌≡◌, ◌≤◌, ◌++◌, List, [], length, Option, Some, None, Result, Ok, Err}
 use Rattle.std.specs.Io.KnownBytes.{Consumes}
 use Rattle.kc_types.specs.Limits.{call_limit}
 use Rattle.kc_types.specs.declared.call.Call.{Call}
@@ -32,6 +32,8 @@ pub record HasRead (stream : Streamed) (bytes : List ℕ) (calls : List Call) (f
   pub consumed : Consumes first now bytes
   pub many : length bytes ≡ stream.total
   pub few : length calls ≤ call_limit
+  -- there are no calls before the header
+  pub headless : stream.reader.progress.header ≡ None → calls ≡ []
 
 -- whatever was read before, the next calls are these
 abbrev pub GoesOn : Streamed → Streamed → Option (List ℕ) → Option (List ℕ) → List Call → Type 0

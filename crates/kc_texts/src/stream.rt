@@ -4,6 +4,7 @@ ghost use Rattle.std.specs.Io.KnownBytes.{IsAtEnd};
 ghost use Rattle.kc_types.specs.Limits.{byte_limit, call_limit};
 ghost use Rattle.kc_types.specs.declared.call.Call.{Call};
 ghost use Rattle.kc_trace.specs.declared.fault.TraceFault.{TraceFault};
+ghost use Rattle.kc_trace.specs.declared.header.Header.{Header};
 ghost use Rattle.kc_trace.specs.Trace.{IsTraceUnder, IsRefused};
 ghost use Rattle.kc_texts.specs.Ends.{ReadFailed};
 ghost use Rattle.kc_texts.specs.Streamed.{HasRead, GoesOn};
@@ -115,6 +116,9 @@ impl CallStream {
         ensures last { IfOk result (λ part. part.is_last ≡ true → IsAtEnd (T.left source.new)) }
         ensures more { IfOk result (λ part. part.is_last ≡ false → self.old.total < self.new.total) }
         ensures few { self.new.total ≤ byte_limit }
+        // Once the header was read it stays.
+        ensures header { (header : Header) → self.old.reader.progress.header ≡ Some header
+            → self.new.reader.progress.header ≡ Some header }
         ensures mark { OnOk result (T.failed source.new ≡ false) }
         ensures read { result ≡ Err ReadFault.Read → (bytes : List ℕ) (calls : List Call) (first : Option (List ℕ))
             → HasRead self.old bytes calls first (T.left source.old)

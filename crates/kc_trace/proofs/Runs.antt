@@ -17,7 +17,7 @@ use Rattle.kc_types.specs.Limits.{line_limit}
 use Rattle.kc_trace.specs.declared.fault.TraceFault.{TraceFault}
 use Rattle.kc_trace.specs.declared.fault.TraceFault.TheVariants.{NoHeader, BadLine, NoNewline, TooManyCalls, Misplaced, Memory}
 use Rattle.kc_trace.specs.HeadReading.{first_line_read}
-use Rattle.kc_trace.specs.Machine.{◌>>=◌, Fails, Progress, kept, longer_line, longer, next_of_line, begins_first_line, begun, begun_by, call_in, after_line, after_header, line_ended_by, line_ended, with_front, fed_byte, feed, feed_each}
+use Rattle.kc_trace.specs.Machine.{◌>>=◌, Fails, Progress, kept, longer_line, longer, next_of_line, begins_first_line, begun, begun_by, may_begin, call_in, after_line, after_header, line_ended_by, line_ended, with_front, fed_byte, feed, feed_each}
 use Rattle.kc_lines.specs.Lines.{IsOneLine}
 use Rattle.kc_lines.proofs.Newlines.{tail_is}
 
@@ -242,3 +242,45 @@ pub header_stays : (bytes : List ℕ) (p : Progress) (v : Header) (all : Progres
 unfolding feed
 header_stays [] p v all is e = let same : (p, []) ≡ all = cc in subst (λ (a : Progress × List Call). a.0.header ≡ Some v) same is
 header_stays (byte ∷ bytes) p v all is e = then_header bytes (fed_byte p byte) v all (λ q calls h. byte_header p q byte calls v is h) (λ q header all h. header_stays bytes q v all header h) e
+
+-- ---- there are no calls before it
+
+-- nothing was read that is a call, if the header was not read to its end
+byte_headless : (p q : Progress) (byte : ℕ) (calls : List Call) → fed_byte p byte ≡ Ok (q, calls) → q.header ≡ None → (p.header ≡ None) × (calls ≡ [])
+byte_headless p q byte calls e none = by_header p.header refl
+  where
+    by_next : (found : Option NextLine) → after_header (longer p []) found ≡ Ok (q, calls) → calls ≡ []
+    by_next None e = absurd cc
+    by_next (Some (More head)) e = let same : ◌≡◌ {A = Progress × List Call} (record (longer p []) { head = head; line = Some [] }, []) (q, calls) = cc in ap (λ (x : Progress × List Call). x.1) (sym same)
+    by_next (Some (Whole header)) e =
+        let same : ◌≡◌ {A = Progress × List Call} (record (longer p []) { header = Some header; head = Nothing; line = Some [] }, []) (q, calls) = cc in
+        ap (λ (x : Progress × List Call). x.1) (sym same)
+
+    by_test : (newline may : Bool) → cond newline (after_header (longer p []) (next_of_line p.head (longer p []).line)) (cond may (Ok (longer p (byte ∷ []), [])) (Err NoHeader)) ≡ Ok (q, calls) → calls ≡ []
+    by_test true may e = by_next (next_of_line p.head (longer p []).line) e
+    by_test false true e = let same : ◌≡◌ {A = Progress × List Call} (longer p (byte ∷ []), []) (q, calls) = cc in ap (λ (x : Progress × List Call). x.1) (sym same)
+    by_test false false e = absurd cc
+
+    by_header : (header : Option Header) → p.header ≡ header → (p.header ≡ None) × (calls ≡ [])
+    by_header (Some v) is = let stays = byte_header p q byte calls v is e in absurd cc
+    by_header None is = (is, by_test (byte == 10) (may_begin p.head (longer p (byte ∷ [])).line) (ap (λ h. cond (byte == 10) (line_ended_by h (longer p [])) (begun_by h (longer p (byte ∷ [])))) (sym is) ∙ e))
+
+then_headless : (rest : List ℕ) (p : Progress) (read : Result (Progress × List Call) TraceFault) (all : Progress × List Call)
+    → ((q : Progress) (calls : List Call) → read ≡ Ok (q, calls) → q.header ≡ None → (p.header ≡ None) × (calls ≡ []))
+    → ((q : Progress) (all : Progress × List Call) → feed q rest ≡ Ok all → all.0.header ≡ None → (q.header ≡ None) × (all.1 ≡ []))
+    → and_then_feed rest read ≡ Ok all → all.0.header ≡ None → (p.header ≡ None) × (all.1 ≡ [])
+then_headless rest p (Err f) all first later e none = absurd cc
+then_headless rest p (Ok x) all first later e none = by_rest (feed x.0 rest) refl e
+  where
+    by_rest : (read : Result (Progress × List Call) TraceFault) → feed x.0 rest ≡ read → with_front x.1 read ≡ Ok all → (p.header ≡ None) × (all.1 ≡ [])
+    by_rest (Err f) is e = absurd cc
+    by_rest (Ok y) is e =
+        let same : ◌≡◌ {A = Progress × List Call} (y.0, x.1 ++ y.1) all = cc in
+        let after = later x.0 y is (ap (λ (a : Progress × List Call). a.0.header) same ∙ none) in
+        let before = first x.0 x.1 refl after.0 in
+        (before.0, ap (λ (a : Progress × List Call). a.1) (sym same) ∙ ap (λ calls. calls ++ y.1) before.1 ∙ after.1)
+
+pub headless : (bytes : List ℕ) (p : Progress) (all : Progress × List Call) → feed p bytes ≡ Ok all → all.0.header ≡ None → (p.header ≡ None) × (all.1 ≡ [])
+unfolding feed
+headless [] p all e none = let same : ◌≡◌ {A = Progress × List Call} (p, []) all = cc in (ap (λ (a : Progress × List Call). a.0.header) same ∙ none, ap (λ (a : Progress × List Call). a.1) (sym same))
+headless (byte ∷ bytes) p all e none = then_headless bytes p (fed_byte p byte) all (λ q calls h no. byte_headless p q byte calls h no) (λ q all h no. headless bytes q all h no) e none

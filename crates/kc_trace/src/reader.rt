@@ -1,5 +1,5 @@
 //! Reading a trace, whole or in pieces.
-ghost use Rattle.std.specs.Prelude.{◌≡◌, ◌≢◌, ◌⊎◌, ◌+◌, ◌<◌, ◌≤◌, List, [], length, Some, None, Ok, Err, IfOk, IfErr, OnOk, MatchOption, MatchResult, option_map};
+ghost use Rattle.std.specs.Prelude.{◌≡◌, ◌≢◌, ◌⊎◌, ◌+◌, ◌<◌, ◌≤◌, List, [], length, Some, None, Ok, Err, IfOk, IfErr, OnOk, OnErr, MatchOption, MatchResult, option_map};
 ghost use Rattle.std.specs.Option.{option_to_list};
 ghost use Rattle.kc_types.specs.Limits.{call_limit};
 ghost use Rattle.kc_types.specs.declared.call.Call.{Call};
@@ -378,6 +378,7 @@ impl TraceReader {
         ensures ok { OnOk result (self.new.fault ≡ None) }
         ensures fault { IfErr result (λ fault. fault ≢ TraceFault.Memory → self.new.fault ≡ Some fault) }
         ensures memory { result ≡ Err TraceFault.Memory → self.new ≡ self.old }
+        ensures kept { OnErr result (self.new.progress ≡ self.old.progress) }
     {
         self.read(alloc, GuestData::Read, piece)
     }
@@ -389,6 +390,7 @@ impl TraceReader {
         ensures ok { OnOk result (self.new.fault ≡ None) }
         ensures fault { IfErr result (λ fault. fault ≢ TraceFault.Memory → self.new.fault ≡ Some fault) }
         ensures memory { result ≡ Err TraceFault.Memory → self.new ≡ self.old }
+        ensures kept { OnErr result (self.new.progress ≡ self.old.progress) }
     {
         self.read(alloc, GuestData::Blanked, piece)
     }
@@ -404,6 +406,7 @@ impl TraceReader {
         ensures ok { OnOk result (self.new.fault ≡ None) }
         ensures fault { IfErr result (λ fault. fault ≢ TraceFault.Memory → self.new.fault ≡ Some fault) }
         ensures memory { result ≡ Err TraceFault.Memory → self.new ≡ self.old }
+        ensures kept { OnErr result (self.new.progress ≡ self.old.progress) }
     {
         if let Some(fault) = self.fault {
             return Err(fault);

@@ -1,4 +1,5 @@
-use Rattle.std.proofs.Common.{◌≡◌, ◌≤◌, ◌<◌, ◌-◌, length, false}
+use Rattle.std.proofs.Common.{◌≡◌, ◌≤◌, ◌<◌, ◌-◌, length, false, Some}
+use Rattle.kc_trace.specs.declared.header.Header.{Header}
 use Rattle.kc_types.specs.Limits.{byte_limit}
 use Rattle.kc_texts.specs.Streamed.{GoesOn}
 use Rattle.kc_texts.proofs.stream.CallStream.next.Given as goal
@@ -10,6 +11,7 @@ invariant-loop-alloc g l = record {
   up : l.fn.self.total ≤ l.self-inside.total;
   few : l.self-inside.total ≤ byte_limit;
   whole : g.T.Source.failed l.source ≡ false;
+  header : (header : Header) → l.fn.self.reader.progress.header ≡ Some header → l.self-inside.reader.progress.header ≡ Some header;
 }
 
 abbrev pub decreases-loop-alloc : goal.decreases-loop-alloc
