@@ -4,7 +4,6 @@ use Rattle.std.proofs.lemmas.List.{length-map, length-replicate}
 use Rattle.sha2.specs.Sha256.{sha256}
 use Rattle.kc_types.specs.declared.call.Call.{Call}
 use Rattle.kc_types.specs.declared.call.Call.TheVariants.{GuestWrite}
-use Rattle.kc_trace.specs.declared.header.Header.TheVariants.{Two}
 use Rattle.kc_model.specs.State.{State}
 use Rattle.kc_model.specs.Lawful.{IsLawful}
 use Rattle.kc_model.specs.Custody.{first_line}
@@ -21,7 +20,8 @@ use Rattle.kc_faults.specs.declared.origin.Origin.TheVariants as origins
 use Rattle.kc_cli.specs.declared.account.Named.{Named}
 use Rattle.kc_cli.specs.declared.account.Named.TheVariants as names
 use Rattle.kc_cli.specs.declared.account.Scope.{Scope}
-use Rattle.kc_cli.specs.Custody.{calls_digest, entries_of, entries_in, names_trace, listed, trace_digest, digests_of, heading_of}
+use Rattle.kc_redact.specs.Witness.{witness_header}
+use Rattle.kc_cli.specs.Custody.{Traced, redacted_trace, trace_named, entries_of, entries_in, names_trace, listed, trace_digest, digests_of, heading_of}
 
 -- redacting twice is redacting once
 bytes_twice : (bytes : List ℕ) → blanked (blanked bytes) ≡ blanked bytes
@@ -38,18 +38,18 @@ calls_twice : (calls : List Call) → redacted (redacted calls) ≡ redacted cal
 calls_twice [] = refl
 calls_twice (call ∷ calls) = ap₂ (λ (first : Call) (rest : List Call). first ∷ rest) (call_twice call) (calls_twice calls)
 
-digest_same : (named : Bool) (calls : List Call) → calls_digest named (redacted calls) ≡ calls_digest named calls
-digest_same false calls = refl
-digest_same true calls = ap (λ (seen : List Call). Some (sha256 (text_of Two seen))) (calls_twice calls)
+digest_same : (named : Bool) (volume : Traced) → trace_named named (redacted_trace volume) ≡ trace_named named volume
+digest_same false volume = refl
+digest_same true volume = ap (λ (seen : List Call). Some (sha256 (text_of (witness_header volume.header) seen))) (calls_twice volume.calls)
 
-entries_from : (named : Bool) (line : ℕ) (volumes : List (List Call)) → entries_of named line (map redacted volumes) ≡ entries_of named line volumes
+entries_from : (named : Bool) (line : ℕ) (volumes : List Traced) → entries_of named line (map redacted_trace volumes) ≡ entries_of named line volumes
 entries_from named line [] = refl
-entries_from named line (calls ∷ volumes) =
+entries_from named line (volume ∷ volumes) =
     let entry : ℕ → Option (List ℕ) → VolumeEntry = λ count digest. record { line = line; calls = count; digest = digest } in
-    ap₂ (λ (count : ℕ) (digest : Option (List ℕ)). entry count digest ∷ entries_of named (line + count) (map redacted volumes)) (length-map calls redacted_call) (digest_same named calls)
-    ∙ ap (λ (rest : List VolumeEntry). entry (length calls) (calls_digest named calls) ∷ rest) (entries_from named (line + length calls) volumes)
+    ap₂ (λ (count : ℕ) (digest : Option (List ℕ)). entry count digest ∷ entries_of named (line + count) (map redacted_trace volumes)) (length-map volume.calls redacted_call) (digest_same named volume)
+    ∙ ap (λ (rest : List VolumeEntry). entry (length volume.calls) (trace_named named volume) ∷ rest) (entries_from named (line + length volume.calls) volumes)
 
-pub entries_same : (scope : Scope) (volumes : List (List Call)) → entries_in scope (map redacted volumes) ≡ entries_in scope volumes
+pub entries_same : (scope : Scope) (volumes : List Traced) → entries_in scope (map redacted_trace volumes) ≡ entries_in scope volumes
 entries_same scope volumes = entries_from (names_trace scope.named) first_line volumes
 
 -- and so is zeroing the pages of active VMs
@@ -65,8 +65,8 @@ digests_same names.Both origins.Boot start other m trace is same =
 digests_same names.Both origins.State start other m trace is same =
     ap (λ (n : State). Some (record { trace = trace; start = starts.State (sha256 (state_text n)) })) (state_twice m is)
 
-pub heading_same : (scope : Scope) (origin : Origin) (start other : List ℕ) (m : State) (volumes : List (List Call)) → IsLawful m → (origin ≡ origins.Boot → other ≡ start)
-    → heading_of scope origin other (blank_state m) (entries_in scope (map redacted volumes)) ≡ heading_of scope origin start m (entries_in scope volumes)
+pub heading_same : (scope : Scope) (origin : Origin) (start other : List ℕ) (m : State) (volumes : List Traced) → IsLawful m → (origin ≡ origins.Boot → other ≡ start)
+    → heading_of scope origin other (blank_state m) (entries_in scope (map redacted_trace volumes)) ≡ heading_of scope origin start m (entries_in scope volumes)
 heading_same scope origin start other m volumes is same =
     ap (heading_of scope origin other (blank_state m)) (entries_same scope volumes)
     ∙ ap (λ (digests : Option Digests). record { digests = digests; is_unseen = scope.is_unseen; volumes = length (listed (entries_in scope volumes)) })

@@ -13,17 +13,20 @@ use Rattle.kc_remarks.specs.Denials.{AreCounts, IsAnsweredBy}
 use Rattle.kc_remarks.specs.declared.denials.Denials.{Denials}
 use Rattle.kc_remarks.specs.declared.denials.Answered.{Answered}
 use Rattle.kc_trace.specs.CustodyText.{AreInLine}
-use Rattle.kc_trace.specs.Trace.{IsTrace}
+use Rattle.kc_types.specs.Configuration.{Configuration}
+use Rattle.kc_trace.specs.declared.expected.Expected.{Expected}
+use Rattle.kc_trace.specs.Trace.{IsTraceUnder}
+use Rattle.kc_trace.specs.Expected.{MayHave}
 use Rattle.kc_trace.specs.declared.volume_writer.VolumeEntry.{VolumeEntry}
 use Rattle.kc_trace.specs.declared.custody_writer.Heading.{Heading}
 use Rattle.kc_faults.specs.declared.origin.Origin.{Origin}
-use Rattle.kc_faults.specs.Origins.{BeginsIn}
+use Rattle.kc_faults.specs.Origins.{BeginsIn, expected_of}
 use Rattle.kc_texts.specs.Written.{Writes, Begins}
 use Rattle.kc_cli.specs.declared.account.Told.{Told}
 use Rattle.kc_cli.specs.declared.custody.CustodyOrder.{CustodyOrder}
 use Rattle.kc_cli.specs.declared.custody.CustodyAccount.{CustodyAccount}
 use Rattle.kc_cli.specs.Answers.{AreAllAnswered}
-use Rattle.kc_cli.specs.Custody.{joined, AreVolumes, IsMadeOf, IsCustodyText, NamesStart, calls_digest, entries_of, entries_in, names_trace, names_start, heading_of, listed, trace_digest}
+use Rattle.kc_cli.specs.Custody.{Traced, joined, expected_next, expected_last, AreVolumes, IsMadeOf, IsCustodyText, NamesStart, trace_named, entries_of, entries_in, names_trace, names_start, heading_of, listed, trace_digest}
 use Rattle.kc_trace.specs.declared.custody_writer.Digests.{Digests}
 use Rattle.kc_cli.specs.declared.account.Scope.{Scope}
 use Rattle.kc_cli.specs.Headings.{digests_by, heading_by}
@@ -42,42 +45,50 @@ use Rattle.kc_cli.proofs.Ledgers.{account_given, kept_within}
 use Rattle.kc_cli.proofs.Told.{is_told}
 
 -- one volume more
-pub joined_last : (volumes : List (List Call)) (calls : List Call) → joined (volumes ++ calls ∷ []) ≡ joined volumes ++ calls
-joined_last [] calls = append-nil calls
-joined_last (one ∷ volumes) calls = ap (λ (more : List Call). one ++ more) (joined_last volumes calls) ∙ sym (append_assoc one (joined volumes) calls)
+pub joined_last : (volumes : List Traced) (volume : Traced) → joined (volumes ++ volume ∷ []) ≡ joined volumes ++ volume.calls
+joined_last [] volume = append-nil volume.calls
+joined_last (one ∷ volumes) volume = ap (λ (more : List Call). one.calls ++ more) (joined_last volumes volume) ∙ sym (append_assoc one.calls (joined volumes) volume.calls)
 
-pub volumes_last : (sources : List (Option (List ℕ))) (volumes : List (List Call)) (source : Option (List ℕ)) (calls : List Call) → AreVolumes sources volumes → IfSome source (λ text. IsTrace text calls) → length calls ≤ call_limit
-    → AreVolumes (sources ++ source ∷ []) (volumes ++ calls ∷ [])
-volumes_last [] [] source calls are traced few = (traced, few, tt)
-volumes_last [] (one ∷ volumes) source calls are traced few = absurd are
-volumes_last (one ∷ sources) [] source calls are traced few = absurd are
-volumes_last (one ∷ sources) (some ∷ volumes) source calls are traced few = (are.0, are.1, volumes_last sources volumes source calls are.2 traced few)
+-- what may come after the last one
+pub next_last : (expected : Expected) (volumes : List Traced) (volume : Traced) → expected_last expected (volumes ++ volume ∷ []) ≡ expected_next volume
+next_last expected [] volume = refl
+next_last expected (one ∷ volumes) volume = next_last (expected_next one) volumes volume
 
-pub entries_last : (named : Bool) (line : ℕ) (volumes : List (List Call)) (calls : List Call) (entry : VolumeEntry) → entry.line ≡ line + length (joined volumes) → entry.calls ≡ length calls → entry.digest ≡ calls_digest named calls
-    → entries_of named line volumes ++ entry ∷ [] ≡ entries_of named line (volumes ++ calls ∷ [])
-entries_last named line [] calls entry at long digest =
+pub volumes_last : (config : Configuration) (expected : Expected) (sources : List (Option (List ℕ))) (volumes : List Traced) (source : Option (List ℕ)) (volume : Traced) → AreVolumes config expected sources volumes
+    → MayHave config (expected_last expected volumes) volume.header → IfSome source (λ text. IsTraceUnder volume.header text volume.calls) → length volume.calls ≤ call_limit → AreVolumes config expected (sources ++ source ∷ []) (volumes ++ volume ∷ [])
+volumes_last config expected [] [] source volume are may traced few = (may, traced, few, tt)
+volumes_last config expected [] (one ∷ volumes) source volume are may traced few = absurd are
+volumes_last config expected (one ∷ sources) [] source volume are may traced few = absurd are
+volumes_last config expected (one ∷ sources) (some ∷ volumes) source volume are may traced few = (are.0, are.1, are.2, volumes_last config (expected_next some) sources volumes source volume are.3 may traced few)
+
+pub entries_last : (named : Bool) (line : ℕ) (volumes : List Traced) (volume : Traced) (entry : VolumeEntry) → entry.line ≡ line + length (joined volumes) → entry.calls ≡ length volume.calls → entry.digest ≡ trace_named named volume
+    → entries_of named line volumes ++ entry ∷ [] ≡ entries_of named line (volumes ++ volume ∷ [])
+entries_last named line [] volume entry at long digest =
     let here : entry.line ≡ line = omega (arith, at) in
     rw (← here, ← long, ← digest) refl
-entries_last named line (v ∷ volumes) calls entry at long digest =
-    let both = length-append v (joined volumes) in
-    let after : entry.line ≡ (line + length v) + length (joined volumes) = omega (arith, at, both) in
-    ap (λ (rest : List VolumeEntry). record { line = line; calls = length v; digest = calls_digest named v } ∷ rest) (entries_last named (line + length v) volumes calls entry after long digest)
+entries_last named line (v ∷ volumes) volume entry at long digest =
+    let both = length-append v.calls (joined volumes) in
+    let after : entry.line ≡ (line + length v.calls) + length (joined volumes) = omega (arith, at, both) in
+    ap (λ (rest : List VolumeEntry). record { line = line; calls = length v.calls; digest = trace_named named v } ∷ rest) (entries_last named (line + length v.calls) volumes volume entry after long digest)
 
 -- one trace more was read
-pub read_more : (order : CustodyOrder) (old new : CustodyAccount) (m : State) (sources : List (Option (List ℕ))) (source : Option (List ℕ)) (calls : List Call) (entry : VolumeEntry) → HasTold order old m sources → new.order ≡ old.order
-    → IfSome source (λ text. IsTrace text calls) → length calls ≤ call_limit → new.kept.line ≡ old.kept.line + length calls
-    → ((before : List Call) → HasKept order.form m before old.core old.kept → HasKept order.form m (before ++ calls) new.core new.kept)
-    → new.entries.items ≡ old.entries.items ++ entry ∷ [] → entry.line ≡ old.kept.line → entry.line + entry.calls ≡ new.kept.line → entry.digest ≡ calls_digest (names_trace order.scope.named) calls
+pub read_more : (order : CustodyOrder) (old new : CustodyAccount) (m : State) (sources : List (Option (List ℕ))) (source : Option (List ℕ)) (volume : Traced) (entry : VolumeEntry) → HasTold order old m sources → new.order ≡ old.order → new.first ≡ old.first → new.expected ≡ expected_next volume
+    → MayHave m.config old.expected volume.header → IfSome source (λ text. IsTraceUnder volume.header text volume.calls) → length volume.calls ≤ call_limit → new.kept.line ≡ old.kept.line + length volume.calls
+    → ((before : List Call) → HasKept order.form m before old.core old.kept → HasKept order.form m (before ++ volume.calls) new.core new.kept)
+    → new.entries.items ≡ old.entries.items ++ entry ∷ [] → entry.line ≡ old.kept.line → entry.line + entry.calls ≡ new.kept.line → entry.digest ≡ trace_named (names_trace order.scope.named) volume
     → length old.entries.items + 1 < 2 ^ 32 → HasTold order new m (sources ++ source ∷ [])
-read_more order old new m sources source calls entry h same traced few at more pushed begins ends digest room = record {
+read_more order old new m sources source volume entry h same first next may traced few at more pushed begins ends digest room = record {
   ordered = same ∙ h.ordered;
   lawful = h.lawful;
-  volumes = h.volumes ++ calls ∷ [];
-  traced = volumes_last sources h.volumes source calls h.traced traced few;
+  volumes = h.volumes ++ volume ∷ [];
+  traced =
+      subst (λ (e : Expected). AreVolumes m.config e (sources ++ source ∷ []) (h.volumes ++ volume ∷ [])) (sym first)
+      (volumes_last m.config old.first sources h.volumes source volume h.traced (subst (λ (e : Expected). MayHave m.config e volume.header) h.next may) traced few);
+  next = next ∙ sym (next_last new.first h.volumes volume);
   entries = pushed ∙ ap (λ (entries : List VolumeEntry). entries ++ entry ∷ []) h.entries
-      ∙ entries_last (names_trace order.scope.named) first_line h.volumes calls entry (begins ∙ h.kept.line) (let long : entry.calls ≡ length calls = omega (arith, begins, ends, at) in long) digest;
+      ∙ entries_last (names_trace order.scope.named) first_line h.volumes volume entry (begins ∙ h.kept.line) (let long : entry.calls ≡ length volume.calls = omega (arith, begins, ends, at) in long) digest;
   counted = (let long = ap length pushed ∙ length-append old.entries.items (entry ∷ []) in omega (arith, long, room));
-  kept = subst (λ (all : List Call). HasKept order.form m all new.core new.kept) (sym (joined_last h.volumes calls)) (more (joined h.volumes) h.kept);
+  kept = subst (λ (all : List Call). HasKept order.form m all new.core new.kept) (sym (joined_last h.volumes volume)) (more (joined h.volumes) h.kept);
 }
 
 -- texts that are known are those of the sources
@@ -97,11 +108,11 @@ known_are (None ∷ sources) texts same = absurd cc
 known_are (Some one ∷ sources) texts same = one_known one (known sources) sources (λ more is. known_are sources more is) texts same
 
 -- no volume begins before the first one
-not_before : (named : Bool) (line : ℕ) (volumes : List (List Call)) (j : ℕ) (d : VolumeEntry) → j < length (entries_of named line volumes) → line ≤ (get_or (entries_of named line volumes) j d).line
+not_before : (named : Bool) (line : ℕ) (volumes : List Traced) (j : ℕ) (d : VolumeEntry) → j < length (entries_of named line volumes) → line ≤ (get_or (entries_of named line volumes) j d).line
 not_before named line [] j d lt = absurd (omega (arith, lt))
 not_before named line (v ∷ volumes) zero d lt = omega arith
 not_before named line (v ∷ volumes) (suc j) d lt =
-    let rest = not_before named (line + length v) volumes j d (omega (arith, lt)) in
+    let rest = not_before named (line + length v.calls) volumes j d (omega (arith, lt)) in
     omega (arith, rest)
 
 -- volumes begin on lines that do not descend
@@ -112,12 +123,12 @@ one_in_line e entries first rest zero (suc j) d le lt = first j d (omega (arith,
 one_in_line e entries first rest (suc i) zero d le lt = absurd (omega (arith, le))
 one_in_line e entries first rest (suc i) (suc j) d le lt = rest i j d (omega (arith, le)) (omega (arith, lt))
 
-pub in_line : (named : Bool) (line : ℕ) (volumes : List (List Call)) → AreInLine (entries_of named line volumes)
+pub in_line : (named : Bool) (line : ℕ) (volumes : List Traced) → AreInLine (entries_of named line volumes)
 in_line named line [] = λ i j d le lt. absurd (omega (arith, lt))
 in_line named line (v ∷ volumes) =
-    let first : (j : ℕ) (d : VolumeEntry) → j < length (entries_of named (line + length v) volumes) → line ≤ (get_or (entries_of named (line + length v) volumes) j d).line =
-    λ j d lt. (let more = not_before named (line + length v) volumes j d lt in omega (arith, more)) in
-    one_in_line _ (entries_of named (line + length v) volumes) first (in_line named (line + length v) volumes)
+    let first : (j : ℕ) (d : VolumeEntry) → j < length (entries_of named (line + length v.calls) volumes) → line ≤ (get_or (entries_of named (line + length v.calls) volumes) j d).line =
+    λ j d lt. (let more = not_before named (line + length v.calls) volumes j d lt in omega (arith, more)) in
+    one_in_line _ (entries_of named (line + length v.calls) volumes) first (in_line named (line + length v.calls) volumes)
 
 pub listed_in_line : (entries : List VolumeEntry) → AreInLine entries → AreInLine (listed entries)
 listed_in_line [] is = is
@@ -125,12 +136,13 @@ listed_in_line (e ∷ []) is = λ i j d le lt. absurd (omega (arith, lt))
 listed_in_line (e ∷ f ∷ entries) is = is
 
 -- an account before its first trace
-pub none_told : (order : CustodyOrder) (account : CustodyAccount) → IsLawful account.core → account.order ≡ order → account.entries.items ≡ [] → HasKept order.form account.core [] account.core account.kept → HasTold order account account.core []
-none_told order account lawful ordered none kept = record {
+pub none_told : (order : CustodyOrder) (account : CustodyAccount) → account.expected ≡ account.first → IsLawful account.core → account.order ≡ order → account.entries.items ≡ [] → HasKept order.form account.core [] account.core account.kept → HasTold order account account.core []
+none_told order account same lawful ordered none kept = record {
   ordered = ordered;
   lawful = lawful;
   volumes = [];
   traced = tt;
+  next = same;
   entries = none;
   counted = (let long = ap length none in omega (arith, long));
   kept = kept;
@@ -161,9 +173,9 @@ pub record IsToldOf (account : CustodyAccount) (m : State) (calls : List Call) (
   pub ledger : told.ledger ≡ account.kept.ledger
 
 text_of : (order : CustodyOrder) (account : CustodyAccount) (m : State) (start : List ℕ) (sources : List (Option (List ℕ))) (texts : List (List ℕ)) (told : Told) (text : List ℕ) (h : HasTold order account m sources) → IsToldOf account m (joined h.volumes) told
-    → known sources ≡ Some texts → BeginsIn order.origin start m → NamesStart (names_start order.scope.named) order.origin (Some start) m account.start → IsGivenOf order.scope.vm told text
+    → known sources ≡ Some texts → BeginsIn order.origin start m → account.first ≡ expected_of order.origin start → NamesStart (names_start order.scope.named) order.origin (Some start) m account.start → IsGivenOf order.scope.vm told text
     → IsCustodyText order.origin order.form order.scope start texts text
-text_of order account m start sources texts told text h is all begins digest given =
+text_of order account m start sources texts told text h is all begins first digest given =
     let same = known_are sources texts all in
     let calls = joined h.volumes in
     let entries = entries_in order.scope h.volumes in
@@ -178,7 +190,7 @@ text_of order account m start sources texts told text h is all begins digest giv
       first = m;
       begins = begins;
       volumes = h.volumes;
-      traced = rw same at h.traced;
+      traced = rw (same, first) at h.traced;
       count = told.subject.answered.calls;
       refused = told.subject.answered.denials.total;
       told = notes m calls;
@@ -189,20 +201,20 @@ text_of order account m start sources texts told text h is all begins digest giv
 
 -- what the sink took of it is the text of all, if they are known
 pub gives_custody : (order : CustodyOrder) (account : CustodyAccount) (m : State) (start : Option (List ℕ)) (sources : List (Option (List ℕ))) (told : Told) (old new : Option (List ℕ)) (h : HasTold order account m sources) → IsToldOf account m (joined h.volumes) told
-    → IfSome start (λ text. BeginsIn order.origin text m) → NamesStart (names_start order.scope.named) order.origin start m account.start → GivesAccount account.order.scope.vm told old new → Writes (IsCustodyText order.origin order.form order.scope) start (known sources) old new
+    → IfSome start (λ text. BeginsIn order.origin text m × (account.first ≡ expected_of order.origin text)) → NamesStart (names_start order.scope.named) order.origin start m account.start → GivesAccount account.order.scope.vm told old new → Writes (IsCustodyText order.origin order.form order.scope) start (known sources) old new
 gives_custody order account m None sources told old new h is begins digest given = tt
 gives_custody order account m (Some start) sources told old new h is begins digest given =
-    by_texts (known sources) (λ texts all. text_of order account m start sources texts told given.0 h is all begins digest (subst (λ (o : CustodyOrder). IsGivenOf o.scope.vm told given.0) h.ordered given.1))
+    by_texts (known sources) (λ texts all. text_of order account m start sources texts told given.0 h is all begins.0 begins.1 digest (subst (λ (o : CustodyOrder). IsGivenOf o.scope.vm told given.0) h.ordered given.1))
   where
     by_texts : (texts : Option (List (List ℕ))) → ((some : List (List ℕ)) → texts ≡ Some some → IsCustodyText order.origin order.form order.scope start some given.0) → Writes (IsCustodyText order.origin order.form order.scope) (Some start) texts old new
     by_texts None made = tt
     by_texts (Some texts) made = (given.0, made texts refl, given.2)
 
 pub begins_custody : (order : CustodyOrder) (account : CustodyAccount) (m : State) (start : Option (List ℕ)) (sources : List (Option (List ℕ))) (told : Told) (old new : Option (List ℕ)) (h : HasTold order account m sources) → IsToldOf account m (joined h.volumes) told
-    → IfSome start (λ text. BeginsIn order.origin text m) → NamesStart (names_start order.scope.named) order.origin start m account.start → BeginsAccount account.order.scope.vm told old new → Begins (IsCustodyText order.origin order.form order.scope) start (known sources) old new
+    → IfSome start (λ text. BeginsIn order.origin text m × (account.first ≡ expected_of order.origin text)) → NamesStart (names_start order.scope.named) order.origin start m account.start → BeginsAccount account.order.scope.vm told old new → Begins (IsCustodyText order.origin order.form order.scope) start (known sources) old new
 begins_custody order account m None sources told old new h is begins digest given = tt
 begins_custody order account m (Some start) sources told old new h is begins digest given =
-    by_texts (known sources) (λ texts all. text_of order account m start sources texts told given.0 h is all begins digest (subst (λ (o : CustodyOrder). IsGivenOf o.scope.vm told given.0) h.ordered given.2))
+    by_texts (known sources) (λ texts all. text_of order account m start sources texts told given.0 h is all begins.0 begins.1 digest (subst (λ (o : CustodyOrder). IsGivenOf o.scope.vm told given.0) h.ordered given.2))
   where
     by_texts : (texts : Option (List (List ℕ))) → ((some : List (List ℕ)) → texts ≡ Some some → IsCustodyText order.origin order.form order.scope start some given.0) → Begins (IsCustodyText order.origin order.form order.scope) (Some start) texts old new
     by_texts None made = tt
@@ -210,13 +222,13 @@ begins_custody order account m (Some start) sources told old new h is begins dig
 
 -- the counts are of all calls
 pub all_answered : (order : CustodyOrder) (account : CustodyAccount) (m : State) (start : Option (List ℕ)) (sources : List (Option (List ℕ))) (answered : Answered) (h : HasTold order account m sources) → answered.calls ≡ length (joined h.volumes) → answered.denials ≡ account.kept.denials
-    → IfSome start (λ text. BeginsIn order.origin text m) → AreAllAnswered order.origin start (known sources) answered
+    → IfSome start (λ text. BeginsIn order.origin text m × (account.first ≡ expected_of order.origin text)) → AreAllAnswered order.origin start (known sources) answered
 all_answered order account m None sources answered h count denials begins = tt
 all_answered order account m (Some start) sources answered h count denials begins =
-    by_texts (known sources) (λ texts all. rw (known_are sources texts all) at h.traced)
+    by_texts (known sources) (λ texts all. rw (known_are sources texts all, begins.1) at h.traced)
     (answered_by m (joined h.volumes) answered count (subst (λ (counted : Denials). AreCounts (replies_from m (joined h.volumes)) counted) (sym denials)
     (h.kept.counted (let each = one_each m (joined h.volumes) in let at = h.kept.line in let short = h.kept.short in omega (arith, each, at, short)))))
   where
-    by_texts : (texts : Option (List (List ℕ))) → ((some : List (List ℕ)) → texts ≡ Some some → AreVolumes (map Some some) h.volumes) → IsAnsweredBy (replies_from m (joined h.volumes)) answered → AreAllAnswered order.origin (Some start) texts answered
+    by_texts : (texts : Option (List (List ℕ))) → ((some : List (List ℕ)) → texts ≡ Some some → AreVolumes m.config (expected_of order.origin start) (map Some some) h.volumes) → IsAnsweredBy (replies_from m (joined h.volumes)) answered → AreAllAnswered order.origin (Some start) texts answered
     by_texts None traced counted = tt
-    by_texts (Some texts) traced counted = (m, begins, h.volumes, traced texts refl, counted)
+    by_texts (Some texts) traced counted = (m, begins.0, h.volumes, traced texts refl, counted)

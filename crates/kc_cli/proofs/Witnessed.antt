@@ -8,7 +8,7 @@ use Rattle.kc_types.specs.declared.call.Call.{Call}
 use Rattle.kc_model.specs.State.{State}
 use Rattle.kc_redact.specs.Witness.{witnessed}
 use Rattle.kc_faults.specs.declared.origin.Origin.TheVariants as origins
-use Rattle.kc_cli.specs.Custody.{calls_digest, NamesStart}
+use Rattle.kc_cli.specs.Custody.{Traced, trace_named, NamesStart}
 
 -- one call more
 pub noted_more : (before calls : List Call) (call : Call) (n : ℕ) → n < length calls → call ≡ get_or calls n call → (before ++ take n calls) ++ call ∷ [] ≡ before ++ take (n + 1) calls
@@ -18,9 +18,13 @@ noted_more before calls call n lt is =
     ∙ ap (λ (rest : List Call). before ++ rest) (sym (take_more calls n call lt))
 
 -- the digest of a witness
-pub digest_seen : (asked : Bool) (digest : List ℕ) (calls : List Call) → true ≡ asked → digest ≡ sha256 (witnessed calls) → Some digest ≡ calls_digest asked calls
-digest_seen true digest calls there is = ap Some is
-digest_seen false digest calls there is = absurd (let never : true ≡ false = there in cc)
+pub digest_seen : (asked : Bool) (digest : List ℕ) (volume : Traced) → true ≡ asked → digest ≡ sha256 (witnessed volume.header volume.calls) → Some digest ≡ trace_named asked volume
+digest_seen true digest volume there is = ap Some is
+digest_seen false digest volume there is = absurd (let never : true ≡ false = there in cc)
+
+pub none_seen : (asked : Bool) (volume : Traced) → false ≡ asked → None ≡ trace_named asked volume
+none_seen true volume there = absurd (let never : false ≡ true = there in cc)
+none_seen false volume there = refl
 
 -- a configuration that was read to its end is named by the digest of what was read
 pub read_named : (asked : Bool) (first now : Option (List ℕ)) (bytes : List ℕ) (m : State) (digest : Option (List ℕ)) → Consumes first now bytes → IsAtEnd now

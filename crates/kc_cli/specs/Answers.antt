@@ -6,8 +6,8 @@ use Rattle.kc_model.specs.Next.{replies_from}
 use Rattle.kc_remarks.specs.declared.denials.Answered.{Answered}
 use Rattle.kc_remarks.specs.Denials.{IsAnsweredBy}
 use Rattle.kc_faults.specs.declared.origin.Origin.{Origin}
-use Rattle.kc_faults.specs.Origins.{BeginsIn, IsTraceFrom}
-use Rattle.kc_cli.specs.Custody.{joined, AreVolumes}
+use Rattle.kc_faults.specs.Origins.{BeginsIn, IsTraceFrom, expected_of}
+use Rattle.kc_cli.specs.Custody.{Traced, joined, AreVolumes}
 
 -- the counts are of the trace's calls, made in order from this state on, which the first text is of
 abbrev pub AreAnsweredFrom : Origin → List ℕ → State → List ℕ → Answered → Type 0
@@ -24,4 +24,4 @@ abbrev pub AreAllAnswered : Origin → Option (List ℕ) → Option (List (List 
 AreAllAnswered origin None traces answered = Unit {0}
 AreAllAnswered origin (Some start) None answered = Unit {0}
 AreAllAnswered origin (Some start_text) (Some trace_texts) answered =
-    (m : State) × BeginsIn origin start_text m × (volumes : List (List Call)) × AreVolumes (map Some trace_texts) volumes × IsAnsweredBy (replies_from m (joined volumes)) answered
+    (m : State) × BeginsIn origin start_text m × (volumes : List Traced) × AreVolumes m.config (expected_of origin start_text) (map Some trace_texts) volumes × IsAnsweredBy (replies_from m (joined volumes)) answered

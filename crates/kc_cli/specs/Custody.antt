@@ -3,7 +3,7 @@ use Rattle.std.specs.Prelude.{◌≡◌, ◌≢◌, ◌<◌, ◌≤◌, ◌+◌,
 use Rattle.std.specs.List.{range_with_len}
 use Rattle.sha2.specs.Sha256.{sha256}
 use Rattle.kc_types.specs.Limits.{call_limit}
-use Rattle.kc_types.specs.Configuration.{slot_count}
+use Rattle.kc_types.specs.Configuration.{Configuration, slot_count}
 use Rattle.kc_types.specs.declared.call.Call.{Call}
 use Rattle.kc_model.specs.State.{State}
 use Rattle.kc_model.specs.Lawful.{IsLawful}
@@ -31,7 +31,10 @@ use Rattle.kc_svg.specs.Foot.{HasFoot}
 use Rattle.kc_state_text.specs.StateText.{state_text}
 use Rattle.kc_redact.specs.Witness.{witnessed}
 use Rattle.kc_custody.specs.Chosen.{chosen, NamesOnly}
-use Rattle.kc_trace.specs.Trace.{IsTrace}
+use Rattle.kc_trace.specs.declared.header.Header.{Header}
+use Rattle.kc_trace.specs.declared.expected.Expected.{Expected}
+use Rattle.kc_trace.specs.Trace.{IsTraceUnder}
+use Rattle.kc_trace.specs.Expected.{MayHave, expected_after}
 use Rattle.kc_trace.specs.declared.custody_writer.StartDigest.TheVariants as starts
 use Rattle.kc_trace.specs.declared.custody_writer.Digests.{Digests}
 use Rattle.kc_trace.specs.declared.custody_writer.Heading.{Heading}
@@ -42,7 +45,7 @@ use Rattle.kc_faults.specs.declared.fault.TextFault.{TextFault}
 use Rattle.kc_faults.specs.declared.fault.TextFault.TheVariants as texts
 use Rattle.kc_faults.specs.declared.origin.Origin.{Origin}
 use Rattle.kc_faults.specs.declared.origin.Origin.TheVariants as origins
-use Rattle.kc_faults.specs.Origins.{BeginsIn}
+use Rattle.kc_faults.specs.Origins.{BeginsIn, expected_of}
 use Rattle.kc_cli.specs.declared.account.CustodyForm.{CustodyForm}
 use Rattle.kc_cli.specs.declared.account.CustodyForm.TheVariants.{Changes, Summary, Picture, Html}
 use Rattle.kc_cli.specs.declared.account.Named.{Named}
@@ -56,16 +59,39 @@ IsCustodyOfAll m calls =
     × ((kept : ℕ → Bool) (n : State) (marks : List Bool) (happened : List Call) → IsLawful n → DifferInBytes kept n m → MayLackOthers kept n marks happened → KeepsImages kept happened → marked marks happened ≡ calls
     → (lines : List ℕ) → length lines ≡ length happened → custody_on (marked marks lines) m calls ≡ custody_on lines n happened)
 
--- the calls of all volumes, one after another
-abbrev pub joined : List (List Call) → List Call
-joined [] = []
-joined (calls ∷ volumes) = calls ++ joined volumes
+-- a trace that was read: its header, and its calls
+pub record Traced : Type 0 where
+  pub header : Header
+  pub calls : List Call
 
--- the sources' texts, as far as they are known, are traces of these volumes' calls, one after another
-abbrev pub AreVolumes : List (Option (List ℕ)) → List (List Call) → Type 0
-AreVolumes [] [] = Unit {0}
-AreVolumes (source ∷ sources) (calls ∷ volumes) = IfSome source (λ text. IsTrace text calls) × (length calls ≤ call_limit) × AreVolumes sources volumes
-AreVolumes _ _ = ⊥
+-- the calls of all volumes, one after another
+abbrev pub joined : List Traced → List Call
+joined [] = []
+joined (volume ∷ volumes) = volume.calls ++ joined volumes
+
+-- the digest that a witness publishes of a trace: that of its redacted text, or for one without a head that of its redacted calls under the second header, whichever of the two it has; nothing that guests wrote is in it
+abbrev pub trace_digest_of : Traced → List ℕ
+trace_digest_of volume = sha256 (witnessed volume.header volume.calls)
+
+-- which header the volume after this one may have: one without a head comes after one without, and otherwise a head with the next number and this one's digest
+abbrev pub expected_next : Traced → Expected
+expected_next volume = expected_after volume.header (Some (trace_digest_of volume))
+
+-- the same after some volumes
+abbrev pub expected_last : Expected → List Traced → Expected
+expected_last expected [] = expected
+expected_last expected (volume ∷ volumes) = expected_last (expected_next volume) volumes
+
+-- the sources' texts, as far as they are known, are traces of this machine, one after another: the first has a header that is expected there, and each other one that may come after the one before it
+abbrev pub AreVolumes : Configuration → Expected → List (Option (List ℕ)) → List Traced → Type 0
+AreVolumes config expected [] [] = Unit {0}
+AreVolumes config expected (source ∷ sources) (volume ∷ volumes) =
+    MayHave config expected volume.header × IfSome source (λ text. IsTraceUnder volume.header text volume.calls) × (length volume.calls ≤ call_limit) × AreVolumes config (expected_next volume) sources volumes
+AreVolumes config expected _ _ = ⊥
+
+-- a trace without what guests wrote
+abbrev pub redacted_trace : Traced → Traced
+redacted_trace volume = record volume { calls = redacted volume.calls }
 
 -- the notes are those on these calls, made from a lawful state on, and this many of them were refused or rejected: the events among them are those of the calls, and the changes among these their custody; the calls keep the promises, and what their custody, its lives and its bars say holds, also of what the machine did unseen; and they show nothing of bytes that virtual processors write
 pub record IsCustodyTold (m : State) (calls : List Call) (count refused : ℕ) (told : List Note) : Type 0 where
@@ -106,10 +132,10 @@ abbrev pub names_start : Named → Bool
 names_start names.Both = true
 names_start _ = false
 
--- a trace is named by the digest that a witness publishes of its calls: it is that of their redacted trace, under whatever header they came, so nothing that guests wrote is in it
-abbrev pub calls_digest : Bool → List Call → Option (List ℕ)
-calls_digest false calls = None
-calls_digest true calls = Some (sha256 (witnessed calls))
+-- a trace is named by the digest that a witness publishes
+abbrev pub trace_named : Bool → Traced → Option (List ℕ)
+trace_named false volume = None
+trace_named true volume = Some (trace_digest_of volume)
 
 -- what the calls begin with is named by a digest, too: a configuration by that of its text, and a state by that of the state with the pages of active VMs zeroed
 abbrev pub start_digest : Origin → List ℕ → State → List ℕ
@@ -121,10 +147,10 @@ abbrev pub NamesStart : Bool → Origin → Option (List ℕ) → State → Opti
 NamesStart asked origin source m digest = (is_some digest ≡ asked) × IfSome digest (λ d. IfSome source (λ text. d ≡ start_digest origin text m))
 
 -- each volume by the line of its first call, of which the first volume's is this one, by the number of its calls, and by their digest, if that is asked for
-abbrev pub entries_of : Bool → ℕ → List (List Call) → List VolumeEntry
+abbrev pub entries_of : Bool → ℕ → List Traced → List VolumeEntry
 entries_of named line [] = []
-entries_of named line (calls ∷ volumes) =
-    record { line = line; calls = length calls; digest = calls_digest named calls } ∷ entries_of named (line + length calls) volumes
+entries_of named line (volume ∷ volumes) =
+    record { line = line; calls = length volume.calls; digest = trace_named named volume } ∷ entries_of named (line + length volume.calls) volumes
 
 -- volumes are named on lines of their own if there are several
 abbrev pub listed : List VolumeEntry → List VolumeEntry
@@ -149,25 +175,25 @@ heading_of scope origin start m entries =
     record { digests = digests_of scope.named origin start m (trace_digest entries); is_unseen = scope.is_unseen; volumes = length (listed entries) }
 
 -- the volumes as they are named in what this is the scope of
-abbrev pub entries_in : Scope → List (List Call) → List VolumeEntry
+abbrev pub entries_in : Scope → List Traced → List VolumeEntry
 entries_in scope volumes = entries_of (names_trace scope.named) first_line volumes
 
 -- the text is what is reported of all calls of these volumes, as if they were one trace, from this state on, which the first text is of
-abbrev pub IsMadeOf : Origin → CustodyForm → Scope → List ℕ → State → List (List Call) → ℕ → ℕ → List ℕ → Type 0
+abbrev pub IsMadeOf : Origin → CustodyForm → Scope → List ℕ → State → List Traced → ℕ → ℕ → List ℕ → Type 0
 IsMadeOf origin form scope start m volumes count refused text =
     IsAccount form scope.vm (heading_of scope origin start m (entries_in scope volumes)) m (listed (entries_in scope volumes)) count refused (notes m (joined volumes)) text
 
 -- it shows nothing of what guests wrote: it is also what is reported of the redacted volumes, from the state on in which the pages of active VMs are zeroed, whatever the text of that; a configuration is the same one
-abbrev pub IsMadeBlind : Origin → CustodyForm → Scope → List ℕ → State → List (List Call) → ℕ → ℕ → List ℕ → Type 0
+abbrev pub IsMadeBlind : Origin → CustodyForm → Scope → List ℕ → State → List Traced → ℕ → ℕ → List ℕ → Type 0
 IsMadeBlind origin form scope start m volumes count refused text =
-    (other : List ℕ) → (origin ≡ origins.Boot → other ≡ start) → IsMadeOf origin form scope other (blank_state m) (map redacted volumes) count refused text
+    (other : List ℕ) → (origin ≡ origins.Boot → other ≡ start) → IsMadeOf origin form scope other (blank_state m) (map redacted_trace volumes) count refused text
 
 -- the text is made of the notes on all calls of the volumes, and shows nothing of what guests wrote
 pub record IsCustodyText (origin : Origin) (form : CustodyForm) (scope : Scope) (start : List ℕ) (traces : List (List ℕ)) (text : List ℕ) : Type 0 where
   pub first : State
   pub begins : BeginsIn origin start first
-  pub volumes : List (List Call)
-  pub traced : AreVolumes (map Some traces) volumes
+  pub volumes : List Traced
+  pub traced : AreVolumes first.config (expected_of origin start) (map Some traces) volumes
   pub count : ℕ
   pub refused : ℕ
   pub told : List Note

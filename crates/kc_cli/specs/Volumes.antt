@@ -7,7 +7,7 @@ use Rattle.kc_model.specs.Custody.{first_line}
 use Rattle.kc_cli.specs.declared.custody.CustodyOrder.{CustodyOrder}
 use Rattle.kc_cli.specs.declared.custody.CustodyAccount.{CustodyAccount}
 use Rattle.kc_cli.specs.declared.custody.TheConstants.{CALLS_BEFORE}
-use Rattle.kc_cli.specs.Custody.{joined, entries_in, AreVolumes}
+use Rattle.kc_cli.specs.Custody.{Traced, joined, expected_last, entries_in, AreVolumes}
 use Rattle.kc_cli.specs.Ledgers.{HasKept}
 
 -- the texts of all sources, if each is known
@@ -20,8 +20,9 @@ known (Some text ∷ sources) = option_map (λ texts. text ∷ texts) (known sou
 pub record HasTold (order : CustodyOrder) (account : CustodyAccount) (m : State) (sources : List (Option (List ℕ))) : Type 0 where
   pub ordered : account.order ≡ order
   pub lawful : IsLawful m
-  pub volumes : List (List Call)
-  pub traced : AreVolumes sources volumes
+  pub volumes : List Traced
+  pub traced : AreVolumes m.config account.first sources volumes
+  pub next : account.expected ≡ expected_last account.first volumes
   pub entries : account.entries.items ≡ entries_in order.scope volumes
   pub counted : length account.entries.items < 2 ^ 32
   pub kept : HasKept order.form m (joined volumes) account.core account.kept

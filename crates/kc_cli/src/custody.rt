@@ -5,10 +5,10 @@ ghost use Rattle.kc_types.specs.Configuration.{slot_count};
 ghost use Rattle.kc_model.specs.State.{State};
 ghost use Rattle.kc_model.specs.Custody.{first_line};
 ghost use Rattle.kc_trace.specs.declared.fault.TraceFault.{TraceFault};
-ghost use Rattle.kc_trace.specs.Trace.{IsRefused};
+ghost use Rattle.kc_trace.specs.Expected.{IsRefusedThere};
 ghost use Rattle.kc_texts.specs.Ends.{Seen, ReadFailed, seen};
 ghost use Rattle.kc_texts.specs.Written.{Writes, Begins};
-ghost use Rattle.kc_faults.specs.Origins.{BeginsIn};
+ghost use Rattle.kc_faults.specs.Origins.{BeginsIn, expected_of};
 ghost use Rattle.kc_faults.specs.Outcomes.{TellsSources, TellsTexts, TellsSink};
 ghost use Rattle.kc_cli.specs.Engine.{IsReplayFault};
 ghost use Rattle.kc_cli.specs.Custody.{IsCustodyText, TellsCustody, NamesStart, names_start, listed, trace_digest};
@@ -18,13 +18,13 @@ ghost use Rattle.kc_cli.specs.Volumes.{known, HasTold, IsFull};
 
 use crate::account::{CustodyForm, FIRST_LINE, Named, Scope, Subject, Told, give_told};
 use crate::starting::{Begun, begin};
-use crate::telling::Kept;
+use crate::telling::{Kept, Volume};
 use kc_core::KCore;
 use kc_digests::Lanes;
 use kc_faults::{Origin, TextFault};
 use kc_remarks::Answered;
 use kc_texts::{Sink, Source};
-use kc_trace::{Digests, Heading, StartDigest, TraceFault, VolumeEntry};
+use kc_trace::{Digests, Expected, Heading, StartDigest, TraceFault, VolumeEntry};
 use kc_types::Config;
 use std::alloc::Global;
 use std::thread::Threads;
@@ -159,6 +159,9 @@ pub struct CustodyAccount {
     entries: Vec<VolumeEntry>,
     /// The digest by which what the calls begin with is named, if it is.
     start: Option<[u8; 32]>,
+    /// Which header the first trace may have, and which the next.
+    first: Expected,
+    expected: Expected,
     order: CustodyOrder,
 }
 
@@ -175,6 +178,8 @@ impl CustodyAccount {
             × IfSome (C.left start.old) (λ text. BeginsIn order.origin text m)
             × NamesStart (names_start order.scope.named) order.origin (C.left start.old) m account.start
             × HasTold order account m []) }
+        ensures first { IfOk result
+            (λ account. IfSome (C.left start.old) (λ text. account.first ≡ expected_of order.origin text)) }
         ensures sources { TellsSources (seen C.failed C.left start.old start.new ∷ []) result }
         ensures texts { (trace : Seen)
             → TellsTexts order.origin (seen C.failed C.left start.old start.new) trace (Unit {0}) result }
@@ -184,7 +189,11 @@ impl CustodyAccount {
     {
         let is_named = order.scope.named.names_start();
         let begun = begin(rt, alloc, start, order.origin, order.lanes, is_named)?;
-        let Begun { core, digest } = begun;
+        let Begun {
+            core,
+            expected,
+            digest,
+        } = begun;
         let mut core = core;
         if let Some(slot) = missing(&core, order.scope.vm) {
             core.wipe(rt);
@@ -199,6 +208,8 @@ impl CustodyAccount {
             kept,
             entries: Vec::new(alloc),
             start: digest,
+            first: expected,
+            expected,
             order,
         })
     }
@@ -206,7 +217,8 @@ impl CustodyAccount {
     /// Reads a trace to its end, which is the next volume, and makes its calls on one thread as they are read. After an
     /// `Err` the account is of no use, and is ended. A source that fails, or that has more than 1,073,741,824 bytes, is
     /// `Read`, even if its bytes so far are refused already. Out of memory comes before a fault of the trace that is
-    /// further on. If the volumes before it have more than 67,043,328 calls, it is not read, and there are too many.
+    /// further on, and that its header is not one that may come there after everything else. If the volumes before it
+    /// have more than 67,043,328 calls, it is not read, and there are too many.
     pub fn read<T: Source>(&mut self, alloc: Global, trace: &mut T) -> Result<(), TextFault>
         requires trace { T.failed trace.old ≡ false }
         requires told { (order : CustodyOrder) × (m : State) × (sources : List (Option (List ℕ)))
@@ -214,10 +226,11 @@ impl CustodyAccount {
         ensures ok { OnOk result ((order : CustodyOrder) (m : State) (sources : List (Option (List ℕ)))
             → HasTold order self.old m sources → HasTold order self.new m (sources ++ T.left trace.old ∷ [])) }
         ensures same { self.new.start ≡ self.old.start }
+        ensures first { self.new.first ≡ self.old.first }
         ensures ended { OnOk result (IsAtEnd (T.left trace.new)) }
         ensures trace { (fault : TraceFault) → result ≡ Err (TextFault.Trace fault)
-            → (IfSome (T.left trace.old) (λ text. IsRefused text fault) × IsAtEnd (T.left trace.new))
-            ⊎ ((fault ≡ TraceFault.TooManyCalls) × IsFull self.old × (trace.new ≡ trace.old)) }
+            → (IfSome (T.left trace.old) (λ text. IsRefusedThere self.old.core.config self.old.expected text fault)
+            × IsAtEnd (T.left trace.new)) ⊎ ((fault ≡ TraceFault.TooManyCalls) × IsFull self.old × (trace.new ≡ trace.old)) }
         ensures read { result ≡ Err TextFault.Read
             → ReadFailed (T.failed trace.new) (T.left trace.old) (T.left trace.new) }
         ensures source { T.failed trace.new ≡ true → result ≡ Err TextFault.Read }
@@ -233,11 +246,15 @@ impl CustodyAccount {
             return Err(TextFault::Memory);
         }
         let is_named = self.order.scope.named.names_trace();
-        let digest = self.kept.tell(alloc, &mut self.core, trace, is_named)?;
+        let Volume { header, digest } = self.kept.tell(alloc, &mut self.core, trace, is_named)?;
+        if let Some(wrong) = self.expected.fault(self.core.config(), &header) {
+            return Err(TextFault::Trace(TraceFault::Misplaced(wrong)));
+        }
+        self.expected = Expected::after(&header, digest);
         let entry = VolumeEntry {
             line,
             calls: self.kept.line - line,
-            digest,
+            digest: if is_named { digest } else { None },
         };
         match self.entries.push(entry) {
             Ok(()) => Ok(()),
@@ -264,17 +281,17 @@ impl CustodyAccount {
             × HasTold order self m sources }
         ensures answered { (order : CustodyOrder) (m : State) (start : Option (List ℕ))
             (sources : List (Option (List ℕ))) → HasTold order self m sources
-            → IfSome start (λ text. BeginsIn order.origin text m)
+            → IfSome start (λ text. BeginsIn order.origin text m × (self.first ≡ expected_of order.origin text))
             → IfOk result (AreAllAnswered order.origin start (known sources)) }
         ensures ok { (order : CustodyOrder) (m : State) (start : Option (List ℕ))
             (sources : List (Option (List ℕ))) → HasTold order self m sources
-            → IfSome start (λ text. BeginsIn order.origin text m)
+            → IfSome start (λ text. BeginsIn order.origin text m × (self.first ≡ expected_of order.origin text))
             → NamesStart (names_start order.scope.named) order.origin start m self.start
             → OnOk result (Writes (IsCustodyText order.origin order.form order.scope) start (known sources)
             (K.taken out.old) (K.taken out.new)) }
         ensures sink { (order : CustodyOrder) (m : State) (start : Option (List ℕ))
             (sources : List (Option (List ℕ))) → HasTold order self m sources
-            → IfSome start (λ text. BeginsIn order.origin text m)
+            → IfSome start (λ text. BeginsIn order.origin text m × (self.first ≡ expected_of order.origin text))
             → NamesStart (names_start order.scope.named) order.origin start m self.start
             → TellsSink (K.failed out.new) (Begins (IsCustodyText order.origin order.form order.scope) start
             (known sources) (K.taken out.old) (K.taken out.new)) (out.new ≡ out.old) result }
@@ -286,6 +303,7 @@ impl CustodyAccount {
             entries,
             start,
             order,
+            ..
         } = self;
         let mut core = core;
         core.wipe(rt);

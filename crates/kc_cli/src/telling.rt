@@ -1,17 +1,18 @@
 //! The calls of a trace, made as it is read, and what is kept of them until what is reported of them is written.
-ghost use Rattle.std.specs.Prelude.{◌≡◌, ◌≢◌, ◌<◌, ◌≤◌, ◌+◌, ◌^◌, ◌++◌, [], Bool, List, length, false, true, IfOk, IfErr, IfSome, OnOk, Err};
+ghost use Rattle.std.specs.Prelude.{◌≡◌, ◌≢◌, ◌<◌, ◌≤◌, ◌+◌, ◌^◌, ◌++◌, [], Bool, List, Option, None, Some, option_map, length, false, true, IfOk, IfErr, IfSome, OnOk, Err};
 ghost use Rattle.std.specs.Io.KnownBytes.{IsAtEnd};
 ghost use Rattle.kc_types.specs.Limits.{call_limit};
 ghost use Rattle.kc_types.specs.declared.call.Call.{Call};
 ghost use Rattle.kc_model.specs.State.{State};
 ghost use Rattle.kc_model.specs.Lawful.{IsLawful};
 ghost use Rattle.kc_trace.specs.declared.fault.TraceFault.{TraceFault};
-ghost use Rattle.kc_trace.specs.Trace.{IsTrace, IsRefused};
+ghost use Rattle.kc_trace.specs.declared.header.Header.{Header as AnyHeader};
+ghost use Rattle.kc_trace.specs.Trace.{IsTraceUnder, IsRefused};
 ghost use Rattle.kc_texts.specs.Ends.{ReadFailed};
 ghost use Rattle.kc_redact.specs.Witness.{HasSeen};
 ghost use Rattle.kc_cli.specs.Engine.{IsReplayFault};
-ghost use Rattle.kc_cli.specs.Custody.{calls_digest};
-ghost use Rattle.kc_cli.specs.Ledgers.{HasKept, HasWitnessed};
+ghost use Rattle.kc_cli.specs.Custody.{Traced};
+ghost use Rattle.kc_cli.specs.Ledgers.{HasKept, has_witness, HasWitnessed, digest_if};
 
 use crate::account::{CustodyForm, FIRST_LINE};
 use crate::ledger::Ledger;
@@ -20,26 +21,46 @@ use kc_faults::TextFault;
 use kc_redact::Witness;
 use kc_remarks::Denials;
 use kc_texts::{CallStream, PIECE, Source};
+use kc_trace::Header;
 use kc_types::{Call, Memory};
 use std::alloc::Global;
 
-/// A witness that has seen no calls, if one is asked for.
-fn witness_of(alloc: Global, is_named: bool) -> Result<Option<Witness>, TextFault>
-    ensures seen { IfOk result (λ witness. HasWitnessed is_named witness []) }
+/// Whether a trace with this header has a witness: if it is named, or if the head of the next one has its digest.
+fn has_witness(is_named: bool, header: &Header) -> bool
+    ensures { result ≡ has_witness is_named header.now }
+{
+    is_named || header.has_head()
+}
+
+/// The witness, or a new one that has seen no calls, if the trace has this header now and is to have one.
+fn witness_under(
+    alloc: Global,
+    witness: Option<Witness>,
+    is_named: bool,
+    header: Option<&Header>,
+) -> Result<Option<Witness>, TextFault>
+    ensures seen { IfOk result (λ made. (before : Option AnyHeader) (calls : List Call)
+        → ((found : AnyHeader) → before ≡ Some found → option_map (λ header. header.now) header ≡ Some found)
+        → HasWitnessed is_named before witness calls
+        → HasWitnessed is_named (option_map (λ header. header.now) header) made calls) }
     ensures fault { IfErr result (λ fault. fault ≡ TextFault.Memory) }
 {
-    if !is_named {
-        return Ok(None);
+    if witness.is_some() {
+        return Ok(witness);
     }
-    match Witness::new(alloc) {
-        Ok(witness) => Ok(Some(witness)),
-        Err(_) => Err(TextFault::Memory),
+    match header {
+        Some(header) if has_witness(is_named, header) => match Witness::new(alloc, header) {
+            Ok(witness) => Ok(Some(witness)),
+            Err(_) => Err(TextFault::Memory),
+        },
+        _ => Ok(None),
     }
 }
 
 /// Has a witness see some calls.
 fn note_each(witness: &mut Witness, calls: &[Call])
-    ensures { (before : List Call) → HasSeen witness.old before → HasSeen witness.new (before ++ calls.now) }
+    ensures { (header : AnyHeader) (before : List Call) → HasSeen witness.old header before
+        → HasSeen witness.new header (before ++ calls.now) }
 {
     for call in calls {
         witness.note(call);
@@ -48,8 +69,9 @@ fn note_each(witness: &mut Witness, calls: &[Call])
 
 /// The same, if there is a witness.
 fn note_all(witness: &mut Option<Witness>, calls: &[Call])
-    ensures { (asked : Bool) (before : List Call) → HasWitnessed asked witness.old before
-        → HasWitnessed asked witness.new (before ++ calls.now) }
+    ensures { (asked : Bool) (header : Option AnyHeader) (before : List Call) → (header ≡ None → calls.now ≡ [])
+        → HasWitnessed asked header witness.old before
+        → HasWitnessed asked header witness.new (before ++ calls.now) }
 {
     if let Some(witness) = witness {
         note_each(witness, calls);
@@ -58,13 +80,21 @@ fn note_all(witness: &mut Option<Witness>, calls: &[Call])
 
 /// The digest of what a witness has seen, if there is one.
 fn digest_of(witness: &Option<Witness>) -> Option<[u8; 32]>
-    ensures { (asked : Bool) (calls : List Call) → HasWitnessed asked witness.now calls
-        → result ≡ calls_digest asked calls }
+    ensures { (asked : Bool) (volume : Traced) → HasWitnessed asked (Some volume.header) witness.now volume.calls
+        → result ≡ digest_if asked volume }
 {
     match witness {
         Some(witness) => Some(witness.digest()),
         None => None,
     }
+}
+
+/// What is known of a trace that was read: its header, and the SHA-256 digest of its redacted text if it is named or
+/// has a head.
+#[derive(Drop)]
+pub(crate) struct Volume {
+    pub header: Header,
+    pub digest: Option<[u8; 32]>,
 }
 
 /// What is kept of the calls so far.
@@ -94,25 +124,26 @@ impl Kept {
         })
     }
 
-    /// Makes the calls of the trace that a source has left, as it is read, and keeps of them what is reported; returns
-    /// the digest of the redacted calls, if it is asked for. After an `Err` some of the calls are done.
+    /// Makes the calls of the trace that a source has left, as it is read, and keeps of them what is reported. After an
+    /// `Err` some of the calls are done.
     pub(crate) fn tell<T: Source>(
         &mut self,
         alloc: Global,
         core: &mut KCore,
         trace: &mut T,
         is_named: bool,
-    ) -> Result<Option<[u8; 32]>, TextFault>
+    ) -> Result<Volume, TextFault>
         requires trace { T.failed trace.old ≡ false }
         requires lines { self.old.line + call_limit < 2 ^ 32 }
         requires counts { self.old.denials.total ≤ self.old.line }
-        ensures ok { IfOk result (λ digest. (calls : List Call)
-            × IfSome (T.left trace.old) (λ text. IsTrace text calls)
+        ensures ok { IfOk result (λ volume. (calls : List Call)
+            × IfSome (T.left trace.old) (λ text. IsTraceUnder volume.header text calls)
             × (length calls ≤ call_limit) × (self.new.line ≡ self.old.line + length calls)
-            × (digest ≡ calls_digest is_named calls)
+            × (volume.digest ≡ digest_if is_named (record { header = volume.header; calls = calls }))
             × ((form : CustodyForm) (start : State) (before : List Call) → IsLawful start
             → HasKept form start before core.old self.old
             → HasKept form start (before ++ calls) core.new self.new)) }
+        ensures config { OnOk result (core.new.config ≡ core.old.config) }
         ensures ended { OnOk result (IsAtEnd (T.left trace.new)) }
         ensures trace { (fault : TraceFault) → result ≡ Err (TextFault.Trace fault)
             → IfSome (T.left trace.old) (λ text. IsRefused text fault) × IsAtEnd (T.left trace.new) }
@@ -122,11 +153,12 @@ impl Kept {
         ensures started { result ≢ Err TextFault.Start }
         ensures fault { IfErr result IsReplayFault }
     {
-        let mut witness = witness_of(alloc, is_named)?;
+        let mut witness = None;
         let mut buffer = [0u8; PIECE];
         let mut stream = CallStream::new();
         loop {
             let part = stream.next(alloc, trace, &mut buffer)?;
+            witness = witness_under(alloc, witness, is_named, stream.header())?;
             let Ok(()) = self
                 .ledger
                 .note(alloc, core, &part.calls, self.line, &mut self.denials)
@@ -140,7 +172,10 @@ impl Kept {
             }
         }
         match stream.finish() {
-            Ok(()) => Ok(digest_of(&witness)),
+            Ok(header) => Ok(Volume {
+                header,
+                digest: digest_of(&witness),
+            }),
             Err(fault) => Err(TextFault::Trace(fault)),
         }
     }

@@ -1,5 +1,5 @@
 -- Which header the trace has to have that goes on from a state, and what is wrong with another one.
-use Rattle.std.specs.Prelude.{ℕ, ◌≡◌, ◌≢◌, List}
+use Rattle.std.specs.Prelude.{ℕ, ◌≡◌, ◌≢◌, ◌+◌, List, Option, Some}
 use Rattle.kc_types.specs.Configuration.{Configuration}
 use Rattle.kc_trace.specs.declared.header.Position.{Position}
 use Rattle.kc_trace.specs.declared.header.Position.TheVariants as position
@@ -10,7 +10,7 @@ use Rattle.kc_trace.specs.Trace.{IsTraceUnder, IsRefused}
 use Rattle.kc_trace.specs.declared.fault.TraceFault.{TraceFault}
 use Rattle.kc_trace.specs.declared.fault.TraceFault.TheVariants.{Misplaced}
 use Rattle.kc_trace.specs.declared.expected.Expected.{Expected}
-use Rattle.kc_trace.specs.declared.expected.Expected.TheVariants.{Bare, First, At}
+use Rattle.kc_trace.specs.declared.expected.Expected.TheVariants.{Bare, First, At, After}
 use Rattle.kc_trace.specs.declared.expected.MachinePart.{MachinePart}
 use Rattle.kc_trace.specs.declared.expected.MachinePart.TheVariants as part
 use Rattle.kc_trace.specs.declared.expected.HeaderFault.{HeaderFault}
@@ -31,6 +31,11 @@ abbrev pub number_of : Position → ℕ
 number_of position.First = 1
 number_of (position.Later number after) = number
 
+-- which header the next volume may have, by the header of this one and the digest of its redacted text, if it has a head
+abbrev pub expected_after : Header → Option (List ℕ) → Expected
+expected_after (Three head) (Some digest) = After (number_of head.position) digest
+expected_after header digest = Bare
+
 -- a trace of this machine may have this header where such a one is expected
 abbrev pub MayHave : Configuration → Expected → Header → Type 0
 MayHave config Bare (Three head) = ⊥
@@ -39,6 +44,7 @@ MayHave config First (Three head) = (config ≡ head.config) × (head.position �
 MayHave config First header = Unit {0}
 MayHave config (At place) (Three head) = (config ≡ head.config) × (head.position ≡ place)
 MayHave config (At place) header = ⊥
+MayHave config (After number digest) header = MayHave config (At (position.Later (number + 1) digest)) header
 
 -- the text is a trace of these calls, and its header is one that is expected there
 abbrev pub IsTraceThere : Configuration → Expected → List ℕ → List Call → Type 0
@@ -58,6 +64,7 @@ IsHeaderFault config First (Three head) fault.NotFirst = (config ≡ head.config
 IsHeaderFault config (At place) (Three head) (fault.Machine differs) = DiffersIn differs config head.config
 IsHeaderFault config (At place) (Three head) wrong = (config ≡ head.config) × IsPositionFault place head.position wrong
 IsHeaderFault config (At place) header fault.Missing = Unit {0}
+IsHeaderFault config (After number digest) header wrong = IsHeaderFault config (At (position.Later (number + 1) digest)) header wrong
 IsHeaderFault config expected header wrong = ⊥
 
 -- the text is not a trace that is expected there, and this is the first reason: it is none, or its header is another one

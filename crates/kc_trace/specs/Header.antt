@@ -1,5 +1,5 @@
 -- How headers of traces are spelled; that of header 3 goes on with a head.
-use Rattle.std.specs.Prelude.{ℕ, ◌≡◌, ◌+◌, ◌≤◌, ◌<◌, ◌^◌, List, [], ◌∷◌, ◌++◌, codes, length, map}
+use Rattle.std.specs.Prelude.{ℕ, Bool, true, false, ◌≡◌, ◌+◌, ◌≤◌, ◌<◌, ◌^◌, List, [], ◌∷◌, ◌++◌, codes, length, map}
 use Rattle.std.specs.List.{AllByRecursion, flat_map, join_with_byte}
 use Rattle.std.specs.Fmt.{decimal}
 use Rattle.hex.specs.Hex.{encode_lower}
@@ -56,6 +56,11 @@ abbrev pub lines_after_first : Header → List (List ℕ)
 lines_after_first One = []
 lines_after_first Two = []
 lines_after_first (Three head) = head_lines head
+
+-- whether it has a head
+abbrev pub has_head : Header → Bool
+has_head (Three head) = true
+has_head header = false
 
 -- all lines of a header
 abbrev pub header_lines : Header → List (List ℕ)

@@ -3,7 +3,7 @@ ghost use Rattle.std.specs.Prelude.{◌≡◌, ◌≤◌, ◌+◌, ◌^◌, leng
 ghost use Rattle.kc_trace.specs.Faults.{header_fault_words};
 ghost use Rattle.std.specs.Bool.{Decides};
 ghost use Rattle.kc_trace.specs.declared.header.Position.TheVariants as position;
-ghost use Rattle.kc_trace.specs.Expected.{DiffersIn, number_of, MayHave, IsPositionFault, IsHeaderFault};
+ghost use Rattle.kc_trace.specs.Expected.{DiffersIn, number_of, expected_after, MayHave, IsPositionFault, IsHeaderFault};
 
 use crate::header::{Header, Position};
 use kc_types::Config;
@@ -17,6 +17,8 @@ pub enum Expected {
     First,
     /// A head with this position.
     At(Position),
+    /// A head of the volume after the one of this number, whose redacted text has this SHA-256 digest.
+    After { number: u32, digest: [u8; 32] },
 }
 
 /// What is different first in the machine that a head names.
@@ -109,16 +111,6 @@ impl Position {
         }
     }
 
-    /// The position after this one, given the SHA-256 digest of the redacted text of the volume here; `None` if there
-    /// is no number of 32 bits for it.
-    pub fn next(self, digest: [u8; 32]) -> Option<Position>
-        ensures { MatchOption result (2 ^ 32 ≤ number_of self + 1) (λ next. next ≡ position.Later (number_of self + 1) digest) }
-    {
-        Some(Position::Later {
-            number: self.number().checked_add(1)?,
-            after: digest,
-        })
-    }
 }
 
 /// What is wrong with a position that is to be this one.
@@ -134,7 +126,35 @@ fn position_fault(expected: Position, position: Position) -> Option<HeaderFault>
     }
 }
 
+/// What is wrong with a position that is to be the one after a volume of this number and digest.
+fn follower_fault(number: u32, digest: [u8; 32], position: Position) -> Option<HeaderFault>
+    ensures { MatchOption result (position ≡ position.Later (number + 1) digest)
+        (λ fault. IsPositionFault (position.Later (number + 1) digest) position fault) }
+{
+    if position.number() as u64 != number as u64 + 1 {
+        return Some(HeaderFault::Number);
+    }
+    match position {
+        Position::Later { after, .. } if after == digest => None,
+        _ => Some(HeaderFault::Digest),
+    }
+}
+
 impl Expected {
+    /// Which header may follow in the next volume, by the header of this one and the SHA-256 digest of its redacted
+    /// text, if it has a head.
+    pub fn after(header: &Header, digest: Option<[u8; 32]>) -> Expected
+        ensures { result ≡ expected_after header.now digest }
+    {
+        match (header, digest) {
+            (Header::Three(head), Some(digest)) => Expected::After {
+                number: head.position.number(),
+                digest,
+            },
+            _ => Expected::Bare,
+        }
+    }
+
     /// What is wrong with the header of a trace that is to be of this machine.
     pub fn fault(self, config: &Config, header: &Header) -> Option<HeaderFault>
         ensures { MatchOption result (MayHave config.now self header.now) (λ fault. IsHeaderFault config.now self header.now fault) }
@@ -143,7 +163,7 @@ impl Expected {
             Header::Three(head) => head,
             _ => {
                 return match self {
-                    Expected::At(_) => Some(HeaderFault::Missing),
+                    Expected::At(_) | Expected::After { .. } => Some(HeaderFault::Missing),
                     _ => None,
                 };
             },
@@ -156,6 +176,7 @@ impl Expected {
         }
         match self {
             Expected::At(position) => position_fault(position, head.position),
+            Expected::After { number, digest } => follower_fault(number, digest, head.position),
             _ => match head.position {
                 Position::First => None,
                 Position::Later { .. } => Some(HeaderFault::NotFirst),

@@ -2,7 +2,7 @@
 //! they come.
 ghost use Rattle.std.specs.Prelude.{◌≡◌, ◌≤◌, length, IfOk};
 ghost use Rattle.kc_types.specs.Limits.{digest_limit};
-ghost use Rattle.kc_trace.specs.Header.{first_call_line};
+ghost use Rattle.kc_trace.specs.Header.{has_head, first_call_line};
 
 use kc_types::{Config, Memory};
 use std::alloc::Global;
@@ -70,6 +70,13 @@ impl Header {
             Header::Two => Ok(Header::Two),
             Header::Three(head) => Ok(Header::Three(head.copy()?)),
         }
+    }
+
+    /// Whether it has a head.
+    pub fn has_head(&self) -> bool
+        ensures { result ≡ has_head self.now }
+    {
+        matches!(self, Header::Three(_))
     }
 
     /// The number of the line of the first call, counted from 1: 2, or 4 more than digests are approved.
