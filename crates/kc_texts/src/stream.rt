@@ -1,5 +1,5 @@
 //! A trace, read from a source in pieces.
-ghost use Rattle.std.specs.Prelude.{◌≡◌, ◌≢◌, ◌<◌, ◌≤◌, ◌++◌, ℕ, [], List, length, Option, IfOk, OnOk, IfSome, Err, true, false, option_map, Some};
+ghost use Rattle.std.specs.Prelude.{◌≡◌, ◌≢◌, ◌<◌, ◌≤◌, ◌++◌, ℕ, [], List, length, Option, IfOk, OnOk, IfSome, Err, true, false, option_map, None, Some};
 ghost use Rattle.std.specs.Io.KnownBytes.{IsAtEnd};
 ghost use Rattle.kc_types.specs.Limits.{byte_limit, call_limit};
 ghost use Rattle.kc_types.specs.declared.call.Call.{Call};
@@ -93,7 +93,8 @@ impl Model for CallStream {
 impl CallStream {
     /// Makes a stream that is before the header.
     pub fn new() -> CallStream
-        ensures { (first : Option (List ℕ)) → HasRead result [] [] first first }
+        ensures read { (first : Option (List ℕ)) → HasRead result [] [] first first }
+        ensures header { result.reader.progress.header ≡ None }
     {
         CallStream {
             reader: TraceReader::new(),

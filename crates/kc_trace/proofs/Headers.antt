@@ -255,7 +255,7 @@ open_header head (byte ∷ line) one = rw (feed_begun (at_head head) (byte ∷ l
     by_test true = refl
     by_test false = refl
 
-ended_more : (lines : List (List ℕ)) (line rest : List ℕ) → ended_lines (lines ++ line ∷ []) ++ rest ≡ ended_lines lines ++ (line ++ 10 ∷ rest)
+pub ended_more : (lines : List (List ℕ)) (line rest : List ℕ) → ended_lines (lines ++ line ∷ []) ++ rest ≡ ended_lines lines ++ (line ++ 10 ∷ rest)
 ended_more lines line rest =
     ap (λ bytes. bytes ++ rest) (flat_map-append (λ (l : List ℕ). l ++ 10 ∷ []) lines (line ∷ []))
     ∙ append_assoc (ended_lines lines) (ended_lines (line ∷ [])) rest ∙ ap (λ bytes. ended_lines lines ++ bytes) (line_first line [] rest)

@@ -36,15 +36,19 @@ abbrev pub expected_after : Header → Option (List ℕ) → Expected
 expected_after (Three head) (Some digest) = After (number_of head.position) digest
 expected_after header digest = Bare
 
+-- the header has a head, of this machine and with this position
+abbrev pub HasHead : Configuration → Position → Header → Type 0
+HasHead config place (Three head) = (config ≡ head.config) × (head.position ≡ place)
+HasHead config place header = ⊥
+
 -- a trace of this machine may have this header where such a one is expected
 abbrev pub MayHave : Configuration → Expected → Header → Type 0
 MayHave config Bare (Three head) = ⊥
 MayHave config Bare header = Unit {0}
-MayHave config First (Three head) = (config ≡ head.config) × (head.position ≡ position.First)
+MayHave config First (Three head) = HasHead config position.First (Three head)
 MayHave config First header = Unit {0}
-MayHave config (At place) (Three head) = (config ≡ head.config) × (head.position ≡ place)
-MayHave config (At place) header = ⊥
-MayHave config (After number digest) header = MayHave config (At (position.Later (number + 1) digest)) header
+MayHave config (At place) header = HasHead config place header
+MayHave config (After number digest) header = HasHead config (position.Later (number + 1) digest) header
 
 -- the text is a trace of these calls, and its header is one that is expected there
 abbrev pub IsTraceThere : Configuration → Expected → List ℕ → List Call → Type 0
@@ -56,15 +60,20 @@ IsPositionFault expected place fault.Number = number_of place ≢ number_of expe
 IsPositionFault expected place fault.Digest = (number_of place ≡ number_of expected) × (place ≢ expected)
 IsPositionFault expected place _ = ⊥
 
+-- what is wrong with a header that is to have a head of this machine and with this position
+abbrev pub IsHeadFault : Configuration → Position → Header → HeaderFault → Type 0
+IsHeadFault config place (Three head) (fault.Machine differs) = DiffersIn differs config head.config
+IsHeadFault config place (Three head) wrong = (config ≡ head.config) × IsPositionFault place head.position wrong
+IsHeadFault config place header fault.Missing = Unit {0}
+IsHeadFault config place header wrong = ⊥
+
 -- what is wrong with a header where such a one is expected
 abbrev pub IsHeaderFault : Configuration → Expected → Header → HeaderFault → Type 0
 IsHeaderFault config Bare (Three head) fault.Unexpected = Unit {0}
 IsHeaderFault config First (Three head) (fault.Machine differs) = DiffersIn differs config head.config
 IsHeaderFault config First (Three head) fault.NotFirst = (config ≡ head.config) × (head.position ≢ position.First)
-IsHeaderFault config (At place) (Three head) (fault.Machine differs) = DiffersIn differs config head.config
-IsHeaderFault config (At place) (Three head) wrong = (config ≡ head.config) × IsPositionFault place head.position wrong
-IsHeaderFault config (At place) header fault.Missing = Unit {0}
-IsHeaderFault config (After number digest) header wrong = IsHeaderFault config (At (position.Later (number + 1) digest)) header wrong
+IsHeaderFault config (At place) header wrong = IsHeadFault config place header wrong
+IsHeaderFault config (After number digest) header wrong = IsHeadFault config (position.Later (number + 1) digest) header wrong
 IsHeaderFault config expected header wrong = ⊥
 
 -- the text is not a trace that is expected there, and this is the first reason: it is none, or its header is another one

@@ -127,14 +127,14 @@ fn position_fault(expected: Position, position: Position) -> Option<HeaderFault>
 }
 
 /// What is wrong with a position that is to be the one after a volume of this number and digest.
-fn follower_fault(number: u32, digest: [u8; 32], position: Position) -> Option<HeaderFault>
-    ensures { MatchOption result (position ≡ position.Later (number + 1) digest)
-        (λ fault. IsPositionFault (position.Later (number + 1) digest) position fault) }
+fn follower_fault(number: u32, digest: [u8; 32], place: Position) -> Option<HeaderFault>
+    ensures { MatchOption result (place ≡ position.Later (number + 1) digest)
+        (λ fault. IsPositionFault (position.Later (number + 1) digest) place fault) }
 {
-    if position.number() as u64 != number as u64 + 1 {
+    if place.number() as u64 != number as u64 + 1 {
         return Some(HeaderFault::Number);
     }
-    match position {
+    match place {
         Position::Later { after, .. } if after == digest => None,
         _ => Some(HeaderFault::Digest),
     }

@@ -1,9 +1,10 @@
 //! Reading the lines of a header one after another: the first, and those of the head that may follow it.
-ghost use Rattle.std.specs.Prelude.{◌≡◌, ◌≤◌, codes, option_map, length, ℕ, List, IfOk, MatchOption, None, Some};
+ghost use Rattle.std.specs.Prelude.{◌≡◌, ◌++◌, IfOk, IfSome, MatchOption, None, Some};
+ghost use Rattle.kc_trace.specs.Header.{IsHeader, trace_header};
 ghost use Rattle.kc_trace.specs.HeadReading.{take_name, take_word, take_number, take_pair, take_digest, digest_in, words_in, version_numbered, machine_in, approved_in, position_of, position_in, first_line_read, machine_line_read, next_line, next_number, is_nothing};
 
 use crate::header::{Head, Header, Position};
-use kc_lines::{LineWords, decode_into, read_number};
+use kc_lines::{LineWords, decode_into, read_number, split_line};
 use kc_types::{Config, DIGEST_LIMIT, Memory, Version};
 use std::alloc::Global;
 use std::marker::Model;
@@ -274,5 +275,26 @@ impl HeadSoFar {
         ensures { result ≡ is_nothing self.now }
     {
         matches!(self, HeadSoFar::Nothing)
+    }
+}
+
+/// Reads the header that some bytes begin with, and returns it with the bytes after it; `None` if they do not begin with
+/// all of one.
+pub fn read_header(alloc: Global, bytes: &[u8]) -> Result<Option<(Header, &[u8])>, Memory>
+    ensures { IfOk result (λ found. IfSome found
+        (λ cut. IsHeader cut.0 × (bytes.now ≡ trace_header cut.0 ++ cut.1.now))) }
+{
+    let mut head = HeadSoFar::Nothing;
+    let mut rest = bytes;
+    loop {
+        let Some((line, more)) = split_line(rest) else {
+            return Ok(None);
+        };
+        match head.next_line(alloc, line)? {
+            Some(NextLine::More(next)) => head = next,
+            Some(NextLine::Whole(header)) => return Ok(Some((header, more))),
+            None => return Ok(None),
+        }
+        rest = more;
     }
 }

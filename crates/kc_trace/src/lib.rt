@@ -34,6 +34,7 @@ pub use custody_writer::{
 };
 pub use expected::{Expected, HeaderFault, MachinePart};
 pub use fault::TraceFault;
+pub use head_reader::read_header;
 pub use header::{Head, Header, Position};
 pub use header_writer::push_header;
 pub use line::call_of_line;

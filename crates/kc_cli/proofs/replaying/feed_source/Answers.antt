@@ -4,7 +4,7 @@ use Rattle.kc_cli.proofs.replaying.feed_source.Goals as goal
 
 pub loop-replies-init : goal.loop-replies-init
 loop-replies-init g c = record {
-  read = ([], [], c.new-stream.ensures (g.T.Source.left c.args.trace.now), rw c.new-replies.ensures.items (fed_none _ c.requires.whole), rw c.new-calls.ensures.items (kept_none c.args.form));
+  read = ([], [], c.new-stream.ensures.read (g.T.Source.left c.args.trace.now), rw c.new-replies.ensures.items (fed_none _ c.requires.whole), rw c.new-calls.ensures.items (kept_none c.args.form));
   few = search rules;
   mark = c.requires.trace;
   whole = c.requires.whole;

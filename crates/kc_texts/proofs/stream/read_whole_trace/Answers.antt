@@ -4,7 +4,7 @@ use Rattle.kc_texts.proofs.stream.read_whole_trace.Goals as goal
 
 pub loop-calls-init : goal.loop-calls-init
 loop-calls-init g c = record {
-  read = ([], rw c.new-calls.ensures.items (c.new-stream.ensures (g.T.Source.left c.args.source.now)));
+  read = ([], rw c.new-calls.ensures.items (c.new-stream.ensures.read (g.T.Source.left c.args.source.now)));
   few = search rules;
   whole = c.requires;
 }

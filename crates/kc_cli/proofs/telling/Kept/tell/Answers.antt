@@ -10,7 +10,7 @@ loop-witness-init g c = record {
   read = (
     [],
     [],
-    c.new-stream.ensures (g.T.Source.left c.args.trace.now),
+    c.new-stream.ensures.read (g.T.Source.left c.args.trace.now),
     omega arith,
     omega arith,
     c.in_ok-witness.ensures.seen,
