@@ -29,6 +29,7 @@ use Rattle.kc_remarks.specs.Denials.{is_denial}
 use Rattle.kc_html.specs.Html.{html_text_of}
 use Rattle.kc_svg.specs.Foot.{HasFoot}
 use Rattle.kc_state_text.specs.StateText.{state_text}
+use Rattle.kc_trace.specs.declared.header.Header.TheVariants.{Two}
 use Rattle.kc_redact.specs.Witness.{witnessed}
 use Rattle.kc_custody.specs.Chosen.{chosen, NamesOnly}
 use Rattle.kc_trace.specs.Trace.{IsTrace}
@@ -109,7 +110,7 @@ names_start _ = false
 -- a trace is named by the digest that a witness publishes of its calls: it is that of their redacted trace, under whatever header they came, so nothing that guests wrote is in it
 abbrev pub calls_digest : Bool → List Call → Option (List ℕ)
 calls_digest false calls = None
-calls_digest true calls = Some (sha256 (witnessed calls))
+calls_digest true calls = Some (sha256 (witnessed Two calls))
 
 -- what the calls begin with is named by a digest, too: a configuration by that of its text, and a state by that of the state with the pages of active VMs zeroed
 abbrev pub start_digest : Origin → List ℕ → State → List ℕ

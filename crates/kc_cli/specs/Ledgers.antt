@@ -23,6 +23,7 @@ use Rattle.kc_custody.specs.Grown.{AreGrown}
 use Rattle.kc_custody.specs.Growing.{HasRoom}
 use Rattle.kc_custody.specs.Selected.{selected}
 use Rattle.kc_custody.specs.Chosen.{no_remarks, chosen}
+use Rattle.kc_trace.specs.declared.header.Header.TheVariants.{Two}
 use Rattle.kc_redact.specs.Witness.{HasSeen}
 use Rattle.kc_texts.specs.declared.source.Failed.{Failed}
 use Rattle.kc_faults.specs.declared.fault.TextFault.{TextFault}
@@ -137,4 +138,4 @@ pub record HasKept (form : CustodyForm) (m : State) (calls : List Call) (core : 
 
 -- there is a witness if one is asked for, and it has seen these calls
 abbrev pub HasWitnessed : Bool → Option Sha256 → List Call → Type 0
-HasWitnessed asked witness calls = (is_some witness ≡ asked) × IfSome witness (λ seen. HasSeen seen calls)
+HasWitnessed asked witness calls = (is_some witness ≡ asked) × IfSome witness (λ seen. HasSeen seen Two calls)

@@ -93,7 +93,7 @@ fn feed_source<T: Source, R: Threads + Wait + Sync>(
         }
     }
     match stream.finish() {
-        Ok(()) => Ok(Fed { calls, replies }),
+        Ok(_) => Ok(Fed { calls, replies }),
         Err(fault) => Err(TextFault::Trace(fault)),
     }
 }

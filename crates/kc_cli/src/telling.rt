@@ -20,6 +20,7 @@ use kc_faults::TextFault;
 use kc_redact::Witness;
 use kc_remarks::Denials;
 use kc_texts::{CallStream, PIECE, Source};
+use kc_trace::Header;
 use kc_types::{Call, Memory};
 use std::alloc::Global;
 
@@ -31,7 +32,7 @@ fn witness_of(alloc: Global, is_named: bool) -> Result<Option<Witness>, TextFaul
     if !is_named {
         return Ok(None);
     }
-    match Witness::new(alloc) {
+    match Witness::new(alloc, &Header::Two) {
         Ok(witness) => Ok(Some(witness)),
         Err(_) => Err(TextFault::Memory),
     }
@@ -39,7 +40,8 @@ fn witness_of(alloc: Global, is_named: bool) -> Result<Option<Witness>, TextFaul
 
 /// Has a witness see some calls.
 fn note_each(witness: &mut Witness, calls: &[Call])
-    ensures { (before : List Call) → HasSeen witness.old before → HasSeen witness.new (before ++ calls.now) }
+    ensures { (before : List Call) → HasSeen witness.old Header.Two before
+        → HasSeen witness.new Header.Two (before ++ calls.now) }
 {
     for call in calls {
         witness.note(call);
@@ -140,7 +142,7 @@ impl Kept {
             }
         }
         match stream.finish() {
-            Ok(()) => Ok(digest_of(&witness)),
+            Ok(_) => Ok(digest_of(&witness)),
             Err(fault) => Err(TextFault::Trace(fault)),
         }
     }
