@@ -10,7 +10,7 @@ ghost use Rattle.kc_faults.specs.Outcomes.{IsReadingFault, IsConfigFault, TellsS
 
 use kc_config_text::read_config;
 use kc_faults::{Origin, TextFault};
-use kc_texts::{Source, read_calls, read_whole};
+use kc_texts::{Source, read_whole, read_whole_trace};
 use kc_types::{Call, Config};
 use std::alloc::Global;
 
@@ -54,6 +54,6 @@ pub fn read_both<C: Source, T: Source>(
     ensures fault { IfErr result IsReadingFault }
 {
     let config = read_configuration(alloc, config)?;
-    let calls = read_calls(alloc, trace)?;
+    let calls = read_whole_trace(alloc, trace)?.calls;
     Ok((config, calls))
 }

@@ -3,6 +3,7 @@ use Rattle.std.proofs.Common.{◌≡◌, ◌≤◌, ◌<◌, List, [], ◌∷◌
 use Rattle.std.proofs.lemmas.List.{length-drop, map-append, take-append-le, take_all, take_more}
 use Rattle.sha2.specs.declared.Sha256.{Sha256}
 use Rattle.kc_types.specs.declared.call.Call.{Call}
+use Rattle.kc_trace.specs.declared.header.Header.{Header}
 use Rattle.kc_redact.specs.Witness.{HasSeen}
 use Rattle.kc_live.specs.declared.receipt.Entry.{Entry}
 use Rattle.kc_live.specs.Book.{calls_of}
@@ -21,20 +22,20 @@ noted_more calls entries entry n lt is =
 pub seen_and_rest : (entries : List Entry) (n : ℕ) → calls_of (take n entries) ++ calls_of (drop n entries) ≡ calls_of entries
 seen_and_rest entries n = sym (map-append (λ (e : Entry). e.call) (take n entries) (drop n entries)) ∙ ap calls_of (take-append-drop n entries)
 
-pub all_seen : (hasher : Sha256) (entries shown : List Entry) (n : ℕ) → shown ≡ entries → HasSeen hasher (calls_of (take n entries) ++ calls_of (take (length shown - n) (drop n shown))) → HasSeen hasher (calls_of entries)
-all_seen hasher entries shown n same seen =
+pub all_seen : (hasher : Sha256) (header : Header) (entries shown : List Entry) (n : ℕ) → shown ≡ entries → HasSeen hasher header (calls_of (take n entries) ++ calls_of (take (length shown - n) (drop n shown))) → HasSeen hasher header (calls_of entries)
+all_seen hasher header entries shown n same seen =
     let rest : take (length shown - n) (drop n shown) ≡ drop n shown = take_all (length shown - n) (drop n shown) (omega (arith, length-drop n shown)) in
-    subst (λ (calls : List Call). HasSeen hasher calls)
+    subst (λ (calls : List Call). HasSeen hasher header calls)
     (ap (λ (es : List Entry). calls_of (take n entries) ++ calls_of es) (rest ∙ ap (drop n) same) ∙ seen_and_rest entries n) seen
 
-pub all_seen_again : (hasher : Sha256) (entries shown : List Entry) → shown ≡ entries → HasSeen hasher (calls_of entries) → HasSeen hasher (calls_of (take (length shown) entries))
-all_seen_again hasher entries shown same seen =
+pub all_seen_again : (hasher : Sha256) (header : Header) (entries shown : List Entry) → shown ≡ entries → HasSeen hasher header (calls_of entries) → HasSeen hasher header (calls_of (take (length shown) entries))
+all_seen_again hasher header entries shown same seen =
     let few : length entries ≤ length shown = omega (arith, ap length same) in
-    subst (λ (calls : List Call). HasSeen hasher calls) (sym (ap calls_of (take_all (length shown) entries few))) seen
+    subst (λ (calls : List Call). HasSeen hasher header calls) (sym (ap calls_of (take_all (length shown) entries few))) seen
 
 -- an entry more, which the witness has not seen
-pub more_seen : (entries new : List Entry) (one : Entry) (seen : ℕ) (witness : Sha256) → new ≡ entries ++ one ∷ [] → seen ≤ length entries → HasSeen witness (calls_of (take seen entries))
-    → (seen ≤ length new) × HasSeen witness (calls_of (take seen new))
-more_seen entries new one seen witness made some noted =
+pub more_seen : (entries new : List Entry) (one : Entry) (seen : ℕ) (witness : Sha256) (header : Header) → new ≡ entries ++ one ∷ [] → seen ≤ length entries → HasSeen witness header (calls_of (take seen entries))
+    → (seen ≤ length new) × HasSeen witness header (calls_of (take seen new))
+more_seen entries new one seen witness header made some noted =
     let long : length (entries ++ one ∷ []) ≡ length entries + 1 = length-append entries (one ∷ []) in
     rw made (omega (arith, some, long), rw (take-append-le seen entries (one ∷ []) some) noted)

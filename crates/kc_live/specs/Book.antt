@@ -10,6 +10,7 @@ use Rattle.kc_model.specs.Lawful.{IsLawful}
 use Rattle.kc_model.specs.Promises.{KeepsPromises}
 use Rattle.kc_model.specs.Next.{next, state_after}
 use Rattle.kc_model.specs.Histories.{IsLegalHistory}
+use Rattle.kc_trace.specs.declared.header.Header.TheVariants.{Two}
 use Rattle.kc_redact.specs.Witness.{witnessed}
 use Rattle.sha2.specs.Sha256.{sha256}
 use Rattle.kc_live.specs.declared.journal.VolumeDigest.{VolumeDigest}
@@ -103,4 +104,4 @@ receipt_of l call = record { volume = l.volume; number = length l.entries; call 
 pub record IsDigestOf (v : VolumeView) (d : VolumeDigest) : Type 0 where
   pub volume : d.volume ≡ v.number
   pub calls : d.calls ≡ length v.entries
-  pub digest : d.digest ≡ sha256 (witnessed (calls_of v.entries))
+  pub digest : d.digest ≡ sha256 (witnessed Two (calls_of v.entries))

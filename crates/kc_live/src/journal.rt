@@ -4,6 +4,7 @@ ghost use Rattle.sha2.specs.Sha256.{sha256};
 ghost use Rattle.kc_types.specs.Limits.{call_limit};
 ghost use Rattle.kc_types.specs.declared.call.Call.{Call};
 ghost use Rattle.kc_model.specs.Lawful.{IsLawful};
+ghost use Rattle.kc_trace.specs.declared.header.Header.{Header};
 ghost use Rattle.kc_redact.specs.Witness.{HasSeen, witnessed};
 ghost use Rattle.kc_live.specs.Book.{IsServed, calls_of, log, longer, next_volume, receipt_of};
 
@@ -12,6 +13,7 @@ use crate::ready::Ready;
 use crate::receipt::{Entry, Receipt};
 use kc_core::KCore;
 use kc_redact::Witness;
+use kc_trace::Header;
 use kc_types::{CALL_LIMIT, Memory};
 use std::alloc::Global;
 use std::marker::Model;
@@ -30,7 +32,8 @@ pub struct VolumeDigest {
 
 /// Has a witness see the calls of further entries.
 fn note_each(witness: &mut Witness, entries: &[Entry])
-    ensures { (calls : List Call) → HasSeen witness.old calls → HasSeen witness.new (calls ++ calls_of entries.now) }
+    ensures { (header : Header) (calls : List Call) → HasSeen witness.old header calls
+        → HasSeen witness.new header (calls ++ calls_of entries.now) }
 {
     for entry in entries {
         witness.note(&entry.call);
@@ -56,6 +59,7 @@ impl Model for Journal {
     ghost use Rattle.std.specs.FinMap as map;
     ghost use Rattle.std.specs.Ordering.{nat_cmp};
     ghost use Rattle.kc_types.specs.Limits.{call_limit};
+    ghost use Rattle.kc_trace.specs.declared.header.Header.TheVariants.{Two};
     ghost use Rattle.kc_redact.specs.Witness.{HasSeen};
     ghost use Rattle.kc_live.specs.Book.{Log, IsServed, calls_of, log};
 
@@ -66,7 +70,7 @@ impl Model for Journal {
     ghost view = { λ j. log j.volume j.entries.items j.core };
 
     ghost invariant = { λ j. IsServed (log j.volume j.entries.items j.core) × (call_limit ≤ vec_capacity j.entries)
-        × (j.seen ≤ length j.entries.items) × HasSeen j.witness (calls_of (take j.seen j.entries.items)) };
+        × (j.seen ≤ length j.entries.items) × HasSeen j.witness Two (calls_of (take j.seen j.entries.items)) };
 }
 
 impl Journal {
@@ -80,7 +84,7 @@ impl Journal {
             core,
             volume: 0,
             entries: Vec::with_capacity(alloc, CALL_LIMIT)?,
-            witness: Witness::new(alloc)?,
+            witness: Witness::new(alloc, &Header::Two)?,
             seen: 0,
         })
     }
@@ -113,7 +117,7 @@ impl Journal {
         ensures served { IsServed self.old }
         ensures next { self.new ≡ next_volume self.old }
     {
-        self.witness.restart();
+        self.witness.restart(&Header::Two);
         self.seen = 0;
         self.volume = self.volume.saturating_add(1);
         mem::replace(&mut self.entries, room)
@@ -122,7 +126,7 @@ impl Journal {
     /// Gives the SHA-256 digest of the redacted trace of the volume's calls so far. The calls since it was last asked are hashed
     /// now. No memory is taken.
     pub fn digest(&mut self) -> [u8; 32]
-        ensures digest { result ≡ sha256 (witnessed (calls_of self.old.entries)) }
+        ensures digest { result ≡ sha256 (witnessed Header.Two (calls_of self.old.entries)) }
         ensures short { length self.old.entries ≤ call_limit }
         ensures same { self.new ≡ self.old }
     {

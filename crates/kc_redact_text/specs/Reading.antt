@@ -1,9 +1,10 @@
 -- How far a trace that is redacted has been read.
-use Rattle.std.specs.Prelude.{◌≡◌, ◌≢◌, ℕ, List, ◌++◌, take, Option, Result, Ok}
+use Rattle.std.specs.Prelude.{◌≡◌, ◌≢◌, ℕ, List, ◌++◌, Option, Result, Ok}
 use Rattle.std.specs.Io.KnownBytes.{Consumes}
 use Rattle.kc_types.specs.declared.call.Call.{Call}
 use Rattle.kc_model.specs.State.{State}
-use Rattle.kc_trace.specs.Trace.{IsTrace}
+use Rattle.kc_trace.specs.declared.header.Header.{Header}
+use Rattle.kc_trace.specs.Trace.{IsTraceUnder}
 use Rattle.kc_trace.specs.Machine.{Progress}
 use Rattle.kc_trace.specs.declared.fault.TraceFault.{TraceFault}
 use Rattle.kc_trace.specs.declared.fault.TraceFault.TheVariants as traces
@@ -41,12 +42,11 @@ HasGoneOn core made before after left now =
 abbrev pub HasTaken : Option State → Option State → Redacting → Redacting → List ℕ → Type 0
 HasTaken core made before after piece = (left now : Option (List ℕ)) → Consumes left now piece → HasGoneOn core made before after left now
 
--- the text is a trace that begins with this header, and these are its calls, redacted as they were made on this core,
--- if there is one, whose replies have these counts
-pub record IsHeadAndCalls (core : Option State) (text head : List ℕ) (kept : List Call) (denials : Denials) : Type 0 where
+-- the text is a trace with this header, and these are its calls, redacted as they were made on this core, if there is
+-- one, whose replies have these counts
+pub record IsHeaderAndCalls (core : Option State) (text : List ℕ) (header : Header) (kept : List Call) (denials : Denials) : Type 0 where
   pub calls : List Call
-  pub read : IsTrace text calls
-  pub header : take 14 text ≡ head
+  pub read : IsTraceUnder header text calls
   pub redacted : kept ≡ redacted_by core calls
   pub counted : AreCounts (replies_by core calls) denials
 

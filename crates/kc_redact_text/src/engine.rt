@@ -1,8 +1,8 @@
 //! Reading a trace, redacting it and writing it.
-ghost use Rattle.std.specs.Prelude.{◌≡◌, ◌⊎◌, ◌++◌, ◌∷◌, [], false, IfErr, IfSome, OnOk, Err};
+ghost use Rattle.std.specs.Prelude.{◌≡◌, ◌⊎◌, ◌∷◌, [], false, IfErr, IfSome, OnOk, Err};
 ghost use Rattle.std.specs.Io.KnownBytes.{Appends, IsAtEnd};
 ghost use Rattle.kc_trace.specs.declared.fault.TraceFault.{TraceFault};
-ghost use Rattle.kc_trace.specs.Spelling.{lines_of};
+ghost use Rattle.kc_trace.specs.Spelling.{text_of};
 ghost use Rattle.kc_trace.specs.Trace.{IsRefused};
 ghost use Rattle.kc_texts.specs.Written.{AppendsBeginning};
 ghost use Rattle.kc_texts.specs.Ends.{seen};
@@ -10,10 +10,10 @@ ghost use Rattle.kc_faults.specs.Outcomes.{TellsSources, TellsSink};
 ghost use Rattle.kc_redact_text.specs.Redacts.{Redacts, BeginsRedaction, IsRedactFault};
 
 use crate::calls::RedactedCall;
-use crate::reading::{HEADER, read_redacted};
+use crate::reading::read_redacted;
 use kc_faults::TextFault;
-use kc_lines::push_bytes;
 use kc_texts::{Sink, Source, give_lines};
+use kc_trace::{Header, push_header};
 use std::alloc::Global;
 
 /// How many bytes are written at once: no more than a processor's nearest cache holds, since most are zeros that were
@@ -23,21 +23,21 @@ const PIECE: usize = 32_768;
 /// Writes the header of a trace and its calls. All memory that this needs is taken before the first byte is written.
 pub(crate) fn give_redacted<K: Sink>(
     alloc: Global,
-    head: &[u8; HEADER],
+    header: &Header,
     calls: Vec<RedactedCall>,
     out: &mut K,
 ) -> Result<(), TextFault>
     requires { K.failed out.old ≡ false }
-    ensures ok { OnOk result (Appends (K.taken out.old) (K.taken out.new) (head.now ++ lines_of calls.items)) }
+    ensures ok { OnOk result (Appends (K.taken out.old) (K.taken out.new) (text_of header.now calls.items)) }
     ensures sink { TellsSink (K.failed out.new)
-        (AppendsBeginning (K.taken out.old) (K.taken out.new) (head.now ++ lines_of calls.items))
+        (AppendsBeginning (K.taken out.old) (K.taken out.new) (text_of header.now calls.items))
         (out.new ≡ out.old) result }
     ensures fault { IfErr result (λ fault. (fault ≡ TextFault.Memory) ⊎ (fault ≡ TextFault.Write)) }
 {
     let Ok(mut piece) = Vec::with_capacity(alloc, PIECE) else {
         return Err(TextFault::Memory);
     };
-    push_bytes(&mut piece, head);
+    push_header(&mut piece, header);
     match give_lines(out, piece, calls) {
         Ok(()) => Ok(()),
         Err(_) => Err(TextFault::Write),
@@ -70,6 +70,6 @@ pub fn redact_text<T: Source, K: Sink>(
     ensures others { IfErr result IsRedactFault }
 {
     let mut core = None;
-    let (head, calls, _) = read_redacted(alloc, &mut core, trace)?;
-    give_redacted(alloc, &head, calls, out)
+    let (header, calls, _) = read_redacted(alloc, &mut core, trace)?;
+    give_redacted(alloc, &header, calls, out)
 }

@@ -10,17 +10,18 @@ ghost use Rattle.kc_faults.specs.Origins.{BeginsIn};
 ghost use Rattle.kc_texts.specs.Written.{Writes, Begins};
 ghost use Rattle.kc_cli.specs.Answers.{AreAnswered};
 ghost use Rattle.kc_faults.specs.Outcomes.{TellsSources, TellsTexts, TellsSink};
-ghost use Rattle.kc_redact_text.specs.Reading.{IsHeadAndCalls, IsReadingFault};
+ghost use Rattle.kc_redact_text.specs.Reading.{IsHeaderAndCalls, IsReadingFault};
 ghost use Rattle.kc_redact_text.specs.Redacts.{IsHostRedacted, IsHostRedactFault, IsHostReadingFault};
 
 use crate::calls::RedactedCall;
 use crate::engine::give_redacted;
-use crate::reading::{HEADER, read_redacted};
+use crate::reading::read_redacted;
 use kc_cli::{Lanes, read_start};
 use kc_core::KCore;
 use kc_faults::{Origin, TextFault};
 use kc_remarks::{Answered, Denials};
 use kc_texts::{Sink, Source};
+use kc_trace::Header;
 use std::alloc::Global;
 use std::thread::Threads;
 
@@ -31,10 +32,10 @@ fn read_made<T: Source>(
     alloc: Global,
     core: KCore,
     trace: &mut T,
-) -> Result<([u8; HEADER], Vec<RedactedCall>, Denials), TextFault>
+) -> Result<(Header, Vec<RedactedCall>, Denials), TextFault>
     requires { T.failed trace.old ≡ false }
     ensures ok { IfOk result
-        (λ read. IfSome (T.left trace.old) (λ text. IsHeadAndCalls (Some core) text read.0 read.1.items read.2)) }
+        (λ read. IfSome (T.left trace.old) (λ text. IsHeaderAndCalls (Some core) text read.0 read.1.items read.2)) }
     ensures ended { OnOk result (IsAtEnd (T.left trace.new)) }
     ensures trace { (fault : TraceFault) → result ≡ Err (TextFault.Trace fault)
         → IfSome (T.left trace.old) (λ text. IsRefused text fault) × IsAtEnd (T.left trace.new) }
@@ -59,12 +60,12 @@ fn read_both<C: Source, T: Source>(
     trace: &mut T,
     origin: Origin,
     lanes: Lanes,
-) -> Result<([u8; HEADER], Vec<RedactedCall>, Denials), TextFault>
+) -> Result<(Header, Vec<RedactedCall>, Denials), TextFault>
     requires start { C.failed start.old ≡ false }
     requires trace { T.failed trace.old ≡ false }
     ensures ok { IfOk result
         (λ read. (m : State) × IsLawful m × IfSome (C.left start.old) (λ text. BeginsIn origin text m)
-        × IfSome (T.left trace.old) (λ text. IsHeadAndCalls (Some m) text read.0 read.1.items read.2)) }
+        × IfSome (T.left trace.old) (λ text. IsHeaderAndCalls (Some m) text read.0 read.1.items read.2)) }
     ensures sources { TellsSources
         (seen C.failed C.left start.old start.new ∷ seen T.failed T.left trace.old trace.new ∷ []) result }
     ensures texts { TellsTexts origin (seen C.failed C.left start.old start.new)
@@ -111,11 +112,11 @@ pub fn redact_host_text<C: Source, T: Source, K: Sink>(
     // There are no other faults.
     ensures others { IfErr result IsHostRedactFault }
 {
-    let (head, calls, denials) = read_both(rt, alloc, start, trace, origin, lanes)?;
+    let (header, calls, denials) = read_both(rt, alloc, start, trace, origin, lanes)?;
     let answered = Answered {
         calls: calls.len(),
         denials,
     };
-    give_redacted(alloc, &head, calls, out)?;
+    give_redacted(alloc, &header, calls, out)?;
     Ok(answered)
 }

@@ -1,6 +1,6 @@
 //! Redacting a trace as it is read.
-ghost use Rattle.std.specs.Prelude.{◌≡◌, ◌≢◌, ◌<◌, ◌≤◌, ◌+◌, ◌++◌, [], ℕ, List, Option, Some, None, false, true, length, take, is_err, IfOk, IfErr, IfSome, OnOk, Err, MatchResult};
-ghost use Rattle.std.specs.Io.KnownBytes.{Consumes, IsAtEnd};
+ghost use Rattle.std.specs.Prelude.{◌≡◌, ◌≢◌, ◌<◌, ◌≤◌, ◌+◌, ◌++◌, [], ℕ, List, Option, Some, None, false, true, length, IfOk, IfErr, IfSome, OnOk, Err, MatchResult};
+ghost use Rattle.std.specs.Io.KnownBytes.{IsAtEnd};
 ghost use Rattle.kc_types.specs.Limits.{byte_limit};
 ghost use Rattle.kc_types.specs.declared.call.Call.{Call};
 ghost use Rattle.kc_trace.specs.Machine.{Fails, fed};
@@ -10,39 +10,17 @@ ghost use Rattle.kc_texts.specs.Ends.{ReadFailed};
 ghost use Rattle.kc_texts.specs.Streamed.{HasRead};
 ghost use Rattle.kc_redact_text.specs.Made.{redacted_by, core_after, replies_by, CountsMore};
 ghost use Rattle.kc_remarks.specs.Denials.{AreCounts};
-ghost use Rattle.kc_redact_text.specs.Reading.{AreRead, stream_of, HasTaken, HasGoneOn, IsHeadAndCalls, IsReadingFault};
+ghost use Rattle.kc_redact_text.specs.Reading.{AreRead, stream_of, HasTaken, HasGoneOn, IsHeaderAndCalls, IsReadingFault};
 
 use crate::calls::RedactedCall;
 use crate::next::redact_next;
 use kc_core::KCore;
 use kc_faults::TextFault;
 use kc_remarks::Denials;
-use kc_texts::{Failed, PIECE, ReadFault, Source};
-use kc_trace::{TraceFault, TraceReader};
+use kc_texts::{PIECE, ReadFault, Source};
+use kc_trace::{Header, TraceFault, TraceReader};
 use kc_types::{BYTE_LIMIT, Call, Memory, SecretBytes};
 use std::alloc::Global;
-
-/// The bytes of the header of a trace, with its newline.
-pub const HEADER: usize = 14;
-
-/// Reads the first bytes of a source, as many as a header has, or all if there are fewer, and returns how many.
-fn read_head<T: Source>(source: &mut T, head: &mut [u8; HEADER]) -> Result<usize, Failed>
-    requires { T.failed source.old ≡ false }
-    ensures within { IfOk result (λ n. n ≤ 14) }
-    ensures ok { IfOk result (λ n. Consumes (T.left source.old) (T.left source.new) (take n head.new)) }
-    ensures short { IfOk result (λ n. n < 14 → IsAtEnd (T.left source.new)) }
-    ensures mark { T.failed source.new ≡ is_err result }
-{
-    let mut used = 0;
-    while used < HEADER {
-        let n = source.read(&mut head[used..])?;
-        if n == 0 {
-            break;
-        }
-        used += n;
-    }
-    Ok(used)
-}
 
 /// Appends some calls as a redacted trace has them. If there is a core, they are made on it, and its replies counted.
 /// The memory of the bytes that are left out is zeroed.
@@ -177,10 +155,10 @@ pub fn read_redacted<T: Source>(
     alloc: Global,
     core: &mut Option<KCore>,
     source: &mut T,
-) -> Result<([u8; HEADER], Vec<RedactedCall>, Denials), TextFault>
+) -> Result<(Header, Vec<RedactedCall>, Denials), TextFault>
     requires { T.failed source.old ≡ false }
     ensures ok { IfOk result
-        (λ read. IfSome (T.left source.old) (λ text. IsHeadAndCalls core.old text read.0 read.1.items read.2)) }
+        (λ read. IfSome (T.left source.old) (λ text. IsHeaderAndCalls core.old text read.0 read.1.items read.2)) }
     ensures ended { OnOk result (IsAtEnd (T.left source.new)) }
     ensures trace { (fault : TraceFault) → result ≡ Err (TextFault.Trace fault)
         → IfSome (T.left source.old) (λ text. IsRefused text fault) × IsAtEnd (T.left source.new) }
@@ -189,12 +167,7 @@ pub fn read_redacted<T: Source>(
     ensures failed { T.failed source.new ≡ true → result ≡ Err TextFault.Read }
     ensures fault { IfErr result IsReadingFault }
 {
-    let mut head = [0u8; HEADER];
-    let Ok(begun) = read_head(source, &mut head) else {
-        return Err(TextFault::Read);
-    };
     let mut redacting = Redacting::new(alloc);
-    redacting.take(alloc, core, &head[..begun])?;
     redacting.take_rest(alloc, core, source)?;
     let Redacting {
         reader,
@@ -203,7 +176,7 @@ pub fn read_redacted<T: Source>(
         denials,
     } = redacting;
     match reader.finish() {
-        Ok(()) => Ok((head, calls, denials)),
+        Ok(header) => Ok((header, calls, denials)),
         Err(fault) => Err(TextFault::Trace(fault)),
     }
 }

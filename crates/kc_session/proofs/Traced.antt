@@ -60,7 +60,7 @@ joined_redacted : (entries : List Entry) → concat (map (λ entry. redacted_lin
 joined_redacted [] = refl
 joined_redacted (entry ∷ entries) = ap (λ rest. redacted_line entry.call ++ rest) (joined_redacted entries)
 
-pub lines_are_witnessed : (log : Log) → concat (redacted_lines log) ≡ witnessed (calls_of log.entries)
+pub lines_are_witnessed : (log : Log) → concat (redacted_lines log) ≡ witnessed Two (calls_of log.entries)
 lines_are_witnessed log = ap (λ rest. trace_header Two ++ rest) (joined_redacted log.entries)
 
 pub lines_are_redacted : (log : Log) → AllByRecursion IsRanged (calls_of log.entries) → length log.entries ≤ call_limit → IsRedaction (concat (trace_lines log)) (concat (redacted_lines log)) (calls_of log.entries)

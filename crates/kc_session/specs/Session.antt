@@ -13,7 +13,8 @@ use Rattle.kc_model.specs.Next.{next}
 use Rattle.kc_model.specs.Custody.{frame_changes_by, first_line}
 use Rattle.kc_trace.specs.Reading.{call_of}
 use Rattle.kc_trace.specs.ReplyText.{reply_line_of}
-use Rattle.kc_trace.specs.Spelling.{line_of, trace_header}
+use Rattle.kc_trace.specs.Header.{trace_header}
+use Rattle.kc_trace.specs.Spelling.{line_of}
 use Rattle.kc_live.specs.Book.{Log, log, next_volume, longer, reply_to}
 use Rattle.kc_redact.specs.Redacted.{redacted_line}
 use Rattle.kc_session.specs.declared.session.AskFault.{AskFault}

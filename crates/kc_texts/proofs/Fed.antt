@@ -1,6 +1,6 @@
 -- A stream that is fed in pieces.
 use Rattle.std.proofs.Common.{◌≡◌, ◌≤◌, ◌<◌, ◌+◌, ℕ, Bool, true, false, List, [], ◌∷◌, ◌++◌, length, Option, Some, None, Result, Ok, Err, refl, sym, ap, ◌∙◌, append_assoc, arith, inr, length-append}
-use Rattle.std.specs.Prelude.{MatchOption, IfSome, IfOk, OnOk, ◌==◌, nat_le, if◌then◌else◌}
+use Rattle.std.specs.Prelude.{MatchOption, IfSome, IfOk, ◌==◌, nat_le, if◌then◌else◌}
 use Rattle.std.proofs.lemmas.Bool.{leb-false}
 use Rattle.std.proofs.lemmas.List.{append-nil, nil_from_length}
 use Rattle.std.proofs.KnownBytes.{Consumes-nil, Consumes-trans}
