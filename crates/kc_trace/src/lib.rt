@@ -32,8 +32,9 @@ pub use custody_writer::{
     push_custody_header,
 };
 pub use fault::TraceFault;
+pub use head_reader::read_position;
 pub use header::{Head, Header, Position};
-pub use header_writer::push_header;
+pub use header_writer::{push_header, push_position};
 pub use line::call_of_line;
 pub use reader::{TraceReader, read_trace};
 pub use remark_writer::{call_name, push_access, push_denied};
