@@ -1,5 +1,5 @@
 -- Lines that are appended one after another.
-use Rattle.std.proofs.Common.{ℕ, ◌≡◌, ◌≤◌, List, [], ◌∷◌, ◌++◌, length, take, map, Result, Ok, Err, refl, sym, ap, ◌∙◌, append_assoc}
+use Rattle.std.proofs.Common.{ℕ, ◌≡◌, ◌≤◌, List, [], ◌∷◌, ◌++◌, length, take, map, Option, Some, None, Result, Ok, Err, refl, sym, ap, ◌∙◌, append_assoc}
 use Rattle.std.specs.Prelude.{codes, OnOk}
 use Rattle.std.specs.Fmt.{decimal}
 use Rattle.std.specs.List.{flat_map}
@@ -9,7 +9,13 @@ use Rattle.kc_model.specs.State.{State, Frame, Vcpu, Image}
 use Rattle.kc_state.specs.Told.{SlotRest, slot_rest, rest_of}
 use Rattle.kc_dumping.specs.Dumping.{dump_of}
 use Rattle.kc_state_text.specs.declared.sizes.Sizes.{Sizes}
-use Rattle.kc_state_text.specs.StateText.{state_header, sizes_of, sizes_line, approved_line, vcpu_word, vcpu_words, vcpus_words, image_words, images_words, slot_words, slot_line, page_line, front_begin, state_text}
+use Rattle.kc_trace.specs.declared.header.Position.{Position}
+use Rattle.kc_state_text.specs.StateText.{state_header, header_of, placed_text, sizes_of, sizes_line, approved_line, vcpu_word, vcpu_words, vcpus_words, image_words, images_words, slot_words, slot_line, page_line, front_begin, state_text}
+
+-- what a text with the first header is with a position or none
+pub placed-after : (position : Option Position) (rest : List ℕ) → placed_text position (state_header ++ rest) ≡ header_of position ++ rest
+placed-after None rest = refl
+placed-after (Some position) rest = refl
 
 pub spaced-append : (xs ys : List (List ℕ)) → spaced (xs ++ ys) ≡ spaced xs ++ spaced ys
 spaced-append [] ys = refl
@@ -43,15 +49,15 @@ slot-written rest start a b c d is-a is-b is-c is-d =
     ∙ regrouped-slot start (codes "slot") v i (10 ∷ [])
     ∙ ap (λ (l : List ℕ). start ++ (codes "slot" ++ (l ++ 10 ∷ []))) (sym words)
 
-regrouped-sizes : (start h k a b c d e : List ℕ) → (((((start ++ (h ++ k)) ++ a) ++ b) ++ c) ++ d) ++ e ≡ start ++ (h ++ (k ++ ((a ++ (b ++ (c ++ d))) ++ e)))
-regrouped-sizes start h k a b c d e = simp append_assoc
+regrouped-sizes : (start k a b c d e : List ℕ) → (((((start ++ k) ++ a) ++ b) ++ c) ++ d) ++ e ≡ start ++ (k ++ ((a ++ (b ++ (c ++ d))) ++ e))
+regrouped-sizes start k a b c d e = simp append_assoc
 
-pub sizes-written : (s : Sizes) (start t1 t2 t3 t4 t5 t6 : List ℕ) → t1 ≡ start ++ codes "kcore-state 1\nconfig" → t2 ≡ t1 ++ (32 ∷ decimal s.slots) → t3 ≡ t2 ++ (32 ∷ decimal s.frames) → t4 ≡ t3 ++ (32 ∷ decimal s.host) → t5 ≡ t4 ++ (32 ∷ decimal s.approved)
-    → t6 ≡ t5 ++ 10 ∷ [] → t6 ≡ start ++ (state_header ++ sizes_line s)
+pub sizes-written : (s : Sizes) (start t1 t2 t3 t4 t5 t6 : List ℕ) → t1 ≡ start ++ codes "config" → t2 ≡ t1 ++ (32 ∷ decimal s.slots) → t3 ≡ t2 ++ (32 ∷ decimal s.frames) → t4 ≡ t3 ++ (32 ∷ decimal s.host) → t5 ≡ t4 ++ (32 ∷ decimal s.approved)
+    → t6 ≡ t5 ++ 10 ∷ [] → t6 ≡ start ++ sizes_line s
 sizes-written s start t1 t2 t3 t4 t5 t6 e1 e2 e3 e4 e5 e6 =
     e6 ∙ ap (λ (l : List ℕ). l ++ 10 ∷ []) (e5 ∙ ap (λ (l : List ℕ). l ++ (32 ∷ decimal s.approved)) (e4 ∙ ap (λ (l : List ℕ). l ++ (32 ∷ decimal s.host)) (e3 ∙ ap (λ (l : List ℕ). l ++ (32 ∷ decimal s.frames)) (e2 ∙ ap (λ (l : List ℕ). l ++ (32 ∷ decimal s.slots)) e1))))
-    ∙ regrouped-sizes start state_header (codes "config") (32 ∷ decimal s.slots) (32 ∷ decimal s.frames) (32 ∷ decimal s.host) (32 ∷ decimal s.approved) (10 ∷ [])
-    ∙ ap (λ (l : List ℕ). start ++ (state_header ++ (codes "config" ++ ((32 ∷ (decimal s.slots ++ (32 ∷ (decimal s.frames ++ (32 ∷ (decimal s.host ++ (32 ∷ l))))))) ++ 10 ∷ [])))) (sym (append-nil (decimal s.approved)))
+    ∙ regrouped-sizes start (codes "config") (32 ∷ decimal s.slots) (32 ∷ decimal s.frames) (32 ∷ decimal s.host) (32 ∷ decimal s.approved) (10 ∷ [])
+    ∙ ap (λ (l : List ℕ). start ++ (codes "config" ++ ((32 ∷ (decimal s.slots ++ (32 ∷ (decimal s.frames ++ (32 ∷ (decimal s.host ++ (32 ∷ l))))))) ++ 10 ∷ []))) (sym (append-nil (decimal s.approved)))
 
 lines-mapped : {X Y : Type 0} (f : Y → List ℕ) (g : X → Y) (xs : List X) → flat_map f (map g xs) ≡ flat_map (λ x. f (g x)) xs
 lines-mapped f g [] = refl
@@ -68,11 +74,16 @@ regrouped h s a b p d = simp append_assoc
 pub whole-text : (m : State) → front_begin m ++ (flat_map page_line (map (λ (frame : Frame). frame.bytes) m.frames) ++ dump_text (dump_of m)) ≡ state_text m
 whole-text m = regrouped state_header (sizes_line (sizes_of (rest_of m))) (flat_map approved_line m.config.approved) (flat_map slot_line (map slot_rest m.slots)) (flat_map page_line (map (λ (frame : Frame). frame.bytes) m.frames)) (dump_text (dump_of m))
 
-regrouped-front : (t h s a b : List ℕ) → (((t ++ (h ++ s)) ++ a) ++ b) ≡ t ++ (h ++ (s ++ (a ++ b)))
+regrouped-front : (t h s a b : List ℕ) → ((((t ++ h) ++ s) ++ a) ++ b) ≡ t ++ (h ++ (s ++ (a ++ b)))
 regrouped-front t h s a b = simp append_assoc
 
-pub front-written : (m : State) (t0 t1 t2 t3 : List ℕ) → t0 ≡ [] → t1 ≡ t0 ++ (state_header ++ sizes_line (sizes_of (rest_of m))) → t2 ≡ t1 ++ flat_map approved_line m.config.approved → t3 ≡ t2 ++ flat_map slot_line (map slot_rest m.slots) → t3 ≡ front_begin m
-front-written m t0 t1 t2 t3 e0 e1 e2 e3 =
-    e3 ∙ ap (λ (l : List ℕ). l ++ flat_map slot_line (map slot_rest m.slots)) (e2 ∙ ap (λ (l : List ℕ). l ++ flat_map approved_line m.config.approved) e1)
-    ∙ regrouped-front t0 state_header (sizes_line (sizes_of (rest_of m))) (flat_map approved_line m.config.approved) (flat_map slot_line (map slot_rest m.slots))
-    ∙ ap (λ (l : List ℕ). l ++ front_begin m) e0
+pub front-written : (position : Option Position) (m : State) (t0 t1 t2 t3 t4 : List ℕ) → t0 ≡ [] → t1 ≡ t0 ++ header_of position → t2 ≡ t1 ++ sizes_line (sizes_of (rest_of m)) → t3 ≡ t2 ++ flat_map approved_line m.config.approved → t4 ≡ t3 ++ flat_map slot_line (map slot_rest m.slots)
+    → t4 ≡ placed_text position (front_begin m)
+front-written position m t0 t1 t2 t3 t4 e0 e1 e2 e3 e4 =
+    let sizes = sizes_line (sizes_of (rest_of m)) in
+    let approved = flat_map approved_line m.config.approved in
+    let slots = flat_map slot_line (map slot_rest m.slots) in
+    e4 ∙ ap (λ (l : List ℕ). l ++ slots) (e3 ∙ ap (λ (l : List ℕ). l ++ approved) (e2 ∙ ap (λ (l : List ℕ). l ++ sizes) e1))
+    ∙ regrouped-front t0 (header_of position) sizes approved slots
+    ∙ ap (λ (l : List ℕ). l ++ (header_of position ++ (sizes ++ (approved ++ slots)))) e0
+    ∙ sym (placed-after position (sizes ++ (approved ++ slots)))

@@ -1,5 +1,0 @@
-use Rattle.kc_state_text.proofs.Refusals.{unlawful-refused}
-use Rattle.kc_state_text.proofs.reader.read_state_alone.Goals as goal
-
-pub returns-in-Err-clause-refused : goal.returns-in-Err-clause-refused
-returns-in-Err-clause-refused c = rw c.unlawful_fault.ensures (unlawful-refused c.args.text.now c.in_ok-told.told c.in-Err.why c.in_ok-told.ensures c.in-Err.ensures.unlawful)
