@@ -1,5 +1,5 @@
 -- What was given of a state's text and what is still to come are the whole text.
-use Rattle.std.proofs.Common.{ℕ, ◌≡◌, ◌<◌, ◌≤◌, ◌+◌, List, [], ◌++◌, length, map, Option, Some, None, refl, sym, ap, ◌∙◌, append_assoc}
+use Rattle.std.proofs.Common.{ℕ, ◌≡◌, ◌<◌, ◌≤◌, ◌+◌, List, [], ◌++◌, length, map, drop, Option, Some, None, refl, sym, ap, ◌∙◌, append_assoc}
 use Rattle.std.specs.List.{flat_map}
 use Rattle.std.proofs.lemmas.List.{drop_more, drop_all, length-map}
 use Rattle.std.proofs.Math.ListN.{get_or-map}
@@ -14,7 +14,7 @@ use Rattle.kc_dumping.specs.Form.{in_form}
 use Rattle.kc_dumping.specs.declared.form.StateForm.{StateForm}
 use Rattle.kc_dumping.specs.declared.form.StateForm.TheVariants.{Whole, Blank}
 use Rattle.kc_state_text.proofs.Appended.{whole-text}
-use Rattle.kc_state_text.specs.StateText.{state_header, sizes_line, approved_line, slot_line, page_line, front_begin, state_text, placed_text, placed_state_text}
+use Rattle.kc_state_text.specs.StateText.{state_header, header_of, sizes_line, approved_line, slot_line, page_line, front_begin, state_text, placed_text, placed_state_text}
 use Rattle.kc_state_text.specs.Pieces.{Pieces, page_lines, to_come}
 
 abbrev bytes_of : Frame → List ℕ
@@ -54,7 +54,7 @@ front_in Blank m =
 -- what follows the first lines of a text stays, whatever position they say
 placed-more : (position : Option Position) (m : State) (more : List ℕ) → placed_text position (front_begin m) ++ more ≡ placed_text position (front_begin m ++ more)
 placed-more None m more = refl
-placed-more (Some position) m more = refl
+placed-more (Some position) m more = append_assoc (header_of (Some position)) (drop 14 (front_begin m)) more
 
 -- the lines before those of the pages, the pages from the first on, and the dump are the whole text
 whole_first : (form : StateForm) (m : State) → front_begin m ++ (page_lines (in_form form m) 0 ++ dump_text (dump_of (in_form form m))) ≡ state_text (in_form form m)
