@@ -1,5 +1,5 @@
 -- Lines that are appended one after another.
-use Rattle.std.proofs.Common.{ℕ, ◌≡◌, ◌≤◌, List, [], ◌∷◌, ◌++◌, length, take, map, Option, Some, None, Result, Ok, Err, refl, sym, ap, ◌∙◌, append_assoc}
+use Rattle.std.proofs.Common.{ℕ, ◌≡◌, ◌≤◌, List, [], ◌∷◌, ◌++◌, length, take, map, Result, Ok, Err, refl, sym, ap, ◌∙◌, append_assoc}
 use Rattle.std.specs.Prelude.{codes, OnOk}
 use Rattle.std.specs.Fmt.{decimal}
 use Rattle.std.specs.List.{flat_map}
@@ -9,13 +9,7 @@ use Rattle.kc_model.specs.State.{State, Frame, Vcpu, Image}
 use Rattle.kc_state.specs.Told.{SlotRest, slot_rest, rest_of}
 use Rattle.kc_dumping.specs.Dumping.{dump_of}
 use Rattle.kc_state_text.specs.declared.sizes.Sizes.{Sizes}
-use Rattle.kc_trace.specs.declared.header.Position.{Position}
-use Rattle.kc_state_text.specs.StateText.{state_header, header_of, placed_text, sizes_of, sizes_line, approved_line, vcpu_word, vcpu_words, vcpus_words, image_words, images_words, slot_words, slot_line, page_line, front_begin, state_text}
-
--- what a text with the first header is with a position or none
-pub placed-after : (position : Option Position) (rest : List ℕ) → placed_text position (state_header ++ rest) ≡ header_of position ++ rest
-placed-after None rest = refl
-placed-after (Some position) rest = refl
+use Rattle.kc_state_text.specs.StateText.{state_header, sizes_of, sizes_line, approved_line, vcpu_word, vcpu_words, vcpus_words, image_words, images_words, slot_words, slot_line, page_line, front_begin, state_text}
 
 pub spaced-append : (xs ys : List (List ℕ)) → spaced (xs ++ ys) ≡ spaced xs ++ spaced ys
 spaced-append [] ys = refl
@@ -73,17 +67,3 @@ regrouped h s a b p d = simp append_assoc
 -- the lines before those of the pages, those of the pages, and the dump are the text
 pub whole-text : (m : State) → front_begin m ++ (flat_map page_line (map (λ (frame : Frame). frame.bytes) m.frames) ++ dump_text (dump_of m)) ≡ state_text m
 whole-text m = regrouped state_header (sizes_line (sizes_of (rest_of m))) (flat_map approved_line m.config.approved) (flat_map slot_line (map slot_rest m.slots)) (flat_map page_line (map (λ (frame : Frame). frame.bytes) m.frames)) (dump_text (dump_of m))
-
-regrouped-front : (t h s a b : List ℕ) → ((((t ++ h) ++ s) ++ a) ++ b) ≡ t ++ (h ++ (s ++ (a ++ b)))
-regrouped-front t h s a b = simp append_assoc
-
-pub front-written : (position : Option Position) (m : State) (t0 t1 t2 t3 t4 : List ℕ) → t0 ≡ [] → t1 ≡ t0 ++ header_of position → t2 ≡ t1 ++ sizes_line (sizes_of (rest_of m)) → t3 ≡ t2 ++ flat_map approved_line m.config.approved → t4 ≡ t3 ++ flat_map slot_line (map slot_rest m.slots)
-    → t4 ≡ placed_text position (front_begin m)
-front-written position m t0 t1 t2 t3 t4 e0 e1 e2 e3 e4 =
-    let sizes = sizes_line (sizes_of (rest_of m)) in
-    let approved = flat_map approved_line m.config.approved in
-    let slots = flat_map slot_line (map slot_rest m.slots) in
-    e4 ∙ ap (λ (l : List ℕ). l ++ slots) (e3 ∙ ap (λ (l : List ℕ). l ++ approved) (e2 ∙ ap (λ (l : List ℕ). l ++ sizes) e1))
-    ∙ regrouped-front t0 (header_of position) sizes approved slots
-    ∙ ap (λ (l : List ℕ). l ++ (header_of position ++ (sizes ++ (approved ++ slots)))) e0
-    ∙ sym (placed-after position (sizes ++ (approved ++ slots)))

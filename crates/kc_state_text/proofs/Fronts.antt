@@ -17,7 +17,7 @@ use Rattle.kc_state_text.specs.declared.sizes.Sizes as numbers
 use Rattle.kc_state_text.specs.declared.fault.StateFault.{StateFault}
 use Rattle.kc_state_text.specs.declared.fault.StateFault.TheVariants.{NoHeader, BadLine, Missing, Sizes, Found, Slot, Frame, Memory}
 use Rattle.kc_state_text.specs.StateText.{Front, state_header, sizes_words, sizes_line, approved_words, approved_line, slot_words, slot_line, page_words, page_line, front_text, front_of}
-use Rattle.kc_state_text.specs.Refused.{AreSizes, IsSlotLine, IsFront, IsWholeFront, BeginsWith, StopsBefore, StopsWithin, IsDumpFault, IsTextOf, IsRefusedState, line_count}
+use Rattle.kc_state_text.specs.Refused.{AreSizes, IsSlotLine, IsFront, IsWholeFront, BeginsWith, StopsBefore, IsDumpFault, IsTextOf, IsRefusedState, line_count}
 use Rattle.kc_state_text.specs.Reading.{BeginsAs, AreRead, Lacks, StopsAmong, IsFrontFault}
 use Rattle.kc_state_text.specs.Faults.{dump_fault}
 use Rattle.kc_state_text.proofs.Lines.{line-long}

@@ -30,7 +30,7 @@ cut-same (x ∷ a) (y ∷ b) c d h g e =
     (ap (λ z. z ∷ a) head ∙ ap (λ l. y ∷ l) rest.0, rest.1)
 
 -- a line has no newline in it
-pub no-newline : (a c l : List ℕ) → IsOneLine l → l ≡ a ++ 10 ∷ c → ⊥
+no-newline : (a c l : List ℕ) → IsOneLine l → l ≡ a ++ 10 ∷ c → ⊥
 no-newline [] c [] h e = absurd cc
 no-newline [] c (y ∷ l) h e = newline-in y l h (let z : y ≡ 10 = cc in z)
 no-newline (x ∷ a) c [] h e = absurd cc

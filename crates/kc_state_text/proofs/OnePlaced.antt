@@ -13,9 +13,8 @@ use Rattle.kc_state_text.specs.declared.fault.StateFault.TheVariants.{NoHeader, 
 use Rattle.kc_state_text.specs.StateText.{state_header, volume_line, state_text, placed_state_text}
 use Rattle.kc_state_text.specs.Refused.{HasHeader, LacksHeader, IsRefusedPlaced}
 use Rattle.kc_state_text.specs.Faults.{fault_after}
-use Rattle.kc_state_text.proofs.Appended.{placed-after}
 use Rattle.kc_state_text.proofs.OneText.{one-text, Refuses, no-state}
-use Rattle.kc_state_text.proofs.Placed.{not-both, headers-same, first-short}
+use Rattle.kc_state_text.proofs.Placed.{not-both, headers-same, placed-after, first-short}
 
 -- what follows the header in a state's text
 abbrev after_first : State → List ℕ

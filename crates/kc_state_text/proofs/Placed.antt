@@ -1,20 +1,15 @@
 -- Texts of states with a position, and without one.
-use Rattle.std.proofs.Common.{ℕ, ◌≡◌, ◌≤◌, List, [], ◌∷◌, ◌++◌, length, get_or, drop, Option, Some, None, inl, inr, refl, sym, ap, ◌∙◌, append_assoc, arith, length-append}
+use Rattle.std.proofs.Common.{ℕ, ◌≡◌, ◌≤◌, List, [], ◌∷◌, ◌++◌, length, get_or, drop, Option, Some, None, refl, sym, ap, ◌∙◌, append_assoc, arith, length-append}
 use Rattle.std.specs.Prelude.{IfSome}
-use Rattle.kc_types.specs.Limits.{byte_limit}
 use Rattle.kc_lines.specs.Lines.{IsOneLine}
-use Rattle.kc_model.specs.State.{State}
 use Rattle.kc_trace.specs.declared.header.Position.{Position}
 use Rattle.kc_trace.specs.Header.{IsPosition, position_line}
 use Rattle.kc_trace.specs.HeadReading.{position_in, words_in}
 use Rattle.kc_trace.proofs.HeadWords.{position_spelled, position_again, position_fits}
-use Rattle.kc_state_text.specs.StateText.{state_header, second_header, volume_line, header_of, state_text, placed_text, placed_state_text}
-use Rattle.kc_state_text.specs.Refused.{HasNone, HasHeader, IsRefusedState, IsRefusedAfter, IsRefusedPlaced}
+use Rattle.kc_state_text.specs.StateText.{state_header, second_header, volume_line, header_of, placed_text}
+use Rattle.kc_state_text.specs.Refused.{HasNone, HasHeader}
 use Rattle.kc_state_text.specs.Reading.{BeginsAs}
-use Rattle.kc_state_text.specs.Faults.{fault_after}
-use Rattle.kc_state_text.specs.declared.fault.StateFault.{StateFault}
-use Rattle.kc_state_text.proofs.Lines.{cut-same, no-newline}
-use Rattle.kc_state_text.proofs.Appended.{placed-after}
+use Rattle.kc_state_text.proofs.Lines.{cut-same}
 
 -- ---- the line of a position
 
@@ -32,11 +27,7 @@ volumes-same p q a b is-p is-q e =
     let both = cut-same (position_line p) (position_line q) a b (position_fits p is-p).0 (position_fits q is-q).0 (sym (volume-cut p a) ∙ e ∙ volume-cut q b) in
     (some-same p q (sym (position_again p is-p) ∙ ap (λ l. position_in (words_in l)) both.0 ∙ position_again q is-q), both.1)
 
--- a text of one line that does not end begins with no such line
-pub no-volume-end : (text : List ℕ) → IsOneLine text → HasNone IsPosition volume_line text
-no-volume-end text one position more is e = no-newline (position_line position) more text one (e ∙ volume-cut position more)
-
--- nor does one whose first line is not read as one
+-- a text whose first line is not read as such a line begins with none
 pub no-volume : (text line rest : List ℕ) → IsOneLine line → text ≡ line ++ 10 ∷ rest → position_in (words_in line) ≡ None → HasNone IsPosition volume_line text
 no-volume text line rest one cut none position more is e =
     let both = cut-same line (position_line position) rest more one (position_fits position is).0 (sym cut ∙ e ∙ volume-cut position more) in
@@ -52,15 +43,17 @@ volume-begins text line rest position cut some =
 pub not-both : (a b : List ℕ) → state_header ++ a ≡ second_header ++ b → ⊥
 not-both a b e = let digit : 49 ≡ 50 = ap (λ (l : List ℕ). get_or l 12 0) e in absurd (omega (arith, digit))
 
-pub placed-header : (text a b : List ℕ) (position : Position) → text ≡ second_header ++ a → BeginsAs IsPosition volume_line a position b → HasHeader text (Some position) b
-placed-header text a b position whole begins = record { whole = whole ∙ ap (λ (l : List ℕ). second_header ++ l) begins.whole; is = begins.is }
-
 -- a text has one header
 pub headers-same : (p q : Option Position) (a b : List ℕ) → IfSome p IsPosition → IfSome q IsPosition → header_of p ++ a ≡ header_of q ++ b → (p ≡ q) × (a ≡ b)
 headers-same None None a b is-p is-q e = (refl, ap (drop 14) e)
 headers-same None (Some q) a b is-p is-q e = absurd (not-both a (volume_line q ++ b) e)
 headers-same (Some p) None a b is-p is-q e = absurd (not-both b (volume_line p ++ a) (sym e))
 headers-same (Some p) (Some q) a b is-p is-q e = let both = volumes-same p q a b is-p is-q (ap (drop 14) e) in (ap Some both.0, both.1)
+
+-- what a text with the first header is with a position or none
+pub placed-after : (position : Option Position) (rest : List ℕ) → placed_text position (state_header ++ rest) ≡ header_of position ++ rest
+placed-after None rest = refl
+placed-after (Some position) rest = refl
 
 -- a text is no shorter than with the first header in the place of its own
 pub first-short : (text rest : List ℕ) (position : Option Position) → HasHeader text position rest → length (state_header ++ rest) ≤ length text
@@ -69,10 +62,3 @@ first-short text rest position has = rw has.whole (by_position position)
     by_position : (position : Option Position) → length (state_header ++ rest) ≤ length (header_of position ++ rest)
     by_position None = omega arith
     by_position (Some p) = let long = length-append (volume_line p) rest in omega (arith, long)
-
--- a state's text with the first header in the place of its own, and with its own
-pub placed-read : (text rest : List ℕ) (position : Option Position) (m : State) → HasHeader text position rest → state_header ++ rest ≡ state_text m → text ≡ placed_state_text position m
-placed-read text rest position m has is = has.whole ∙ sym (placed-after position rest) ∙ ap (placed_text position) is
-
-pub placed-refused : (text rest : List ℕ) (position : Option Position) (fault : StateFault) → HasHeader text position rest → IsRefusedState (state_header ++ rest) fault → IsRefusedPlaced text (fault_after position fault)
-placed-refused text rest position fault has refused = inr (record { position = position; rest = rest; header = has; why = fault; refused = refused; same = refl })

@@ -1,5 +1,5 @@
 //! The lines between the header and the dump.
-ghost use Rattle.std.specs.Prelude.{ℕ, List, ◌≡◌, ◌≤◌, ◌<◌, ◌+◌, ◌^◌, ◌++◌, length, codes, MatchOption, MatchResult};
+ghost use Rattle.std.specs.Prelude.{◌≡◌, ◌≤◌, ◌<◌, ◌+◌, ◌^◌, ◌++◌, length, MatchOption, MatchResult};
 ghost use Rattle.kc_types.specs.Limits.{byte_limit};
 ghost use Rattle.kc_model.specs.Lawful.{IsPage};
 ghost use Rattle.kc_model.specs.Volumes.{IsDigest};
