@@ -142,7 +142,7 @@ LacksHeader text (Slot v) = ⊥
 LacksHeader text (Frame f) = ⊥
 LacksHeader text Memory = ⊥
 
--- the text has a header, and with the first in its place it is refused for this reason, but that lines may come later
+-- the text has a header, and with the first in its place it is refused, for this reason but for the number of a line
 pub record IsRefusedAfter (text : List ℕ) (fault : StateFault) : Type 0 where
   pub position : Option Position
   pub rest : List ℕ

@@ -142,8 +142,8 @@ fn read_all_pages<'a>(
     Ok((pages, rest))
 }
 
-/// Reads all lines between the header and the dump, in what follows the header; also returns what follows them. The
-/// header counts as one line.
+/// Reads all lines between the header and the dump, in what follows the header; also returns what follows them. In the
+/// numbers of lines the header counts as one.
 pub fn read_front(alloc: Global, rest: &[u8]) -> Result<(Front, &[u8]), StateFault>
     requires { length (state_header ++ rest.now) ≤ byte_limit }
     ensures { MatchResult result

@@ -58,7 +58,7 @@ fn told_of(front: Front, dump: Dump) -> Told
     }
 }
 
-/// Reads the whole description in what follows the header. The header counts as one line.
+/// Reads the whole description in what follows the header. In the numbers of lines the header counts as one.
 fn read_told(alloc: Global, rest: &[u8]) -> Result<Told, StateFault>
     requires { length (state_header ++ rest.now) ≤ byte_limit }
     ensures { MatchResult result (IsTextOf (state_header ++ rest.now)) (IsRefusedState (state_header ++ rest.now)) }
@@ -84,7 +84,8 @@ fn unlawful_fault(why: Unlawful) -> StateFault
     }
 }
 
-/// Makes the core whose state's text this is, after its header, by several threads. The header counts as one line.
+/// Makes the core whose state's text this is, after its header, by several threads. In the numbers of lines the header
+/// counts as one.
 fn read_core(
     rt: &(impl Threads + Sync),
     alloc: Global,
@@ -147,8 +148,8 @@ pub struct ReadState {
     pub position: Option<Position>,
 }
 
-/// Makes the core whose state's text this is, of at most 1,073,741,824 bytes, and reads the position that it has or has
-/// not. Only `Memory` is a fault that says nothing about the text. The pages are hashed by several threads, this many
+/// Makes the core whose state's text this is, of at most 1,073,741,824 bytes, and reads the position, if the text has
+/// one. Only `Memory` is a fault that says nothing about the text. The pages are hashed by several threads, this many
 /// side by side, and compared with their digests.
 pub fn read_state(
     rt: &(impl Threads + Sync),
