@@ -4,7 +4,7 @@ mod Gathered
 mod Followed
 mod Taken
 mod Fronts
-mod Placed
+pub mod Placed
 mod PageWords
 mod Chained
 pub mod Appended
