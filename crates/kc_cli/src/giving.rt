@@ -153,7 +153,7 @@ fn give_state<K: Sink>(
     ensures fault { IfErr result (λ fault. (fault ≡ TextFault.Memory) ⊎ (fault ≡ TextFault.Write)) }
 {
     // All memory that writing takes is there before the first byte is written.
-    let Ok(pieces) = StatePieces::new(rt, alloc, core, lanes) else {
+    let Ok(pieces) = StatePieces::new(rt, alloc, core, None, lanes) else {
         return Err(TextFault::Memory);
     };
     let Ok(mut piece) = empty_piece(alloc) else {

@@ -258,7 +258,7 @@ fn difference_in<S: Source>(
     ensures fault { IfErr result (λ fault. (fault ≡ TextFault.Memory) ⊎ (fault ≡ TextFault.Read)) }
 {
     let text = read_secret(alloc, to)?;
-    match difference_from_state(rt, alloc, core, text.as_slice(), lanes) {
+    match difference_from_state(rt, alloc, core, None, text.as_slice(), lanes) {
         Ok(line) => Ok(line),
         Err(_) => Err(TextFault::Memory),
     }

@@ -7,7 +7,6 @@ ghost use Rattle.kc_model.specs.Lawful.{IsLawful};
 ghost use Rattle.kc_config_text.specs.ConfigText.{config_in};
 ghost use Rattle.kc_config_text.specs.declared.config_text.ConfigTextFault.{ConfigTextFault};
 ghost use Rattle.kc_state_text.specs.Refused.{IsRefusedState};
-ghost use Rattle.kc_state_text.specs.declared.fault.StateFault.{StateFault};
 ghost use Rattle.kc_texts.specs.Ends.{ReadFailed};
 ghost use Rattle.kc_faults.specs.Origins.{BeginsIn, expected_of};
 ghost use Rattle.kc_faults.specs.Outcomes.{IsConfigFault, IsStartFault};
@@ -19,7 +18,7 @@ use kc_core::KCore;
 use kc_digests::Lanes;
 use kc_dumping::StateForm;
 use kc_faults::{Origin, TextFault};
-use kc_state_text::{read_state, state_digest};
+use kc_state_text::{StateFault, read_state, state_digest};
 use kc_texts::{Source, read_secret, read_whole};
 use kc_trace::Expected;
 use sha2::{Digest, Sha256};
@@ -63,7 +62,7 @@ fn blank_digest(alloc: Global, core: &KCore, is_named: bool) -> Result<Option<[u
     if !is_named {
         return Ok(None);
     }
-    match state_digest(alloc, core, StateForm::Blank) {
+    match state_digest(alloc, core, None, StateForm::Blank) {
         Ok(digest) => Ok(Some(digest)),
         Err(_) => Err(TextFault::Memory),
     }
@@ -112,7 +111,7 @@ fn boot_core<C: Source>(alloc: Global, start: &mut C, is_named: bool) -> Result<
     })
 }
 
-/// The core in the state of a text.
+/// The core in the state of a text. A text with a position is refused as one without a header.
 fn core_in(
     rt: &(impl Threads + Sync),
     alloc: Global,
@@ -125,8 +124,11 @@ fn core_in(
     ensures state { (fault : StateFault) → result ≡ Err (TextFault.State fault) → IsRefusedState text.now fault }
     ensures fault { IfErr result IsStateFault }
 {
-    let core = read_state(rt, alloc, text, lanes)?;
-    Ok(core)
+    let read = read_state(rt, alloc, text, lanes)?;
+    if read.position.is_some() {
+        return Err(TextFault::State(StateFault::NoHeader));
+    }
+    Ok(read.core)
 }
 
 /// Reads the text of a state to its end: the core in that state.

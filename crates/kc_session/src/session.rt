@@ -147,7 +147,8 @@ impl Session {
     }
 
     /// Opens a session with the core in the state that a text of up to 1,073,741,824 bytes describes, asked nothing yet; else
-    /// gives the text's first fault, or `Memory`, which may come whatever the text is.
+    /// gives the text's first fault, or `Memory`, which may come whatever the text is. A text with a position is refused as
+    /// one without a header.
     pub fn resume(alloc: Global, text: &[u8]) -> Result<Session, StateFault>
         requires { length text.now ≤ byte_limit }
         // What is read is the state's one text.
@@ -156,7 +157,11 @@ impl Session {
         ensures core { IfOk result (λ session. IsCoreState session.log.state) }
         ensures refused { IfErr result (IsRefusedState text.now) }
     {
-        let core = read_state_alone(alloc, text)?;
+        let read = read_state_alone(alloc, text)?;
+        if read.position.is_some() {
+            return Err(StateFault::NoHeader);
+        }
+        let core = read.core;
         match Session::of(alloc, core) {
             Ok(session) => Ok(session),
             Err(_) => Err(StateFault::Memory),

@@ -43,15 +43,15 @@ slot-written rest start a b c d is-a is-b is-c is-d =
     ∙ regrouped-slot start (codes "slot") v i (10 ∷ [])
     ∙ ap (λ (l : List ℕ). start ++ (codes "slot" ++ (l ++ 10 ∷ []))) (sym words)
 
-regrouped-sizes : (start h k a b c d e : List ℕ) → (((((start ++ (h ++ k)) ++ a) ++ b) ++ c) ++ d) ++ e ≡ start ++ (h ++ (k ++ ((a ++ (b ++ (c ++ d))) ++ e)))
-regrouped-sizes start h k a b c d e = simp append_assoc
+regrouped-sizes : (start k a b c d e : List ℕ) → (((((start ++ k) ++ a) ++ b) ++ c) ++ d) ++ e ≡ start ++ (k ++ ((a ++ (b ++ (c ++ d))) ++ e))
+regrouped-sizes start k a b c d e = simp append_assoc
 
-pub sizes-written : (s : Sizes) (start t1 t2 t3 t4 t5 t6 : List ℕ) → t1 ≡ start ++ codes "kcore-state 1\nconfig" → t2 ≡ t1 ++ (32 ∷ decimal s.slots) → t3 ≡ t2 ++ (32 ∷ decimal s.frames) → t4 ≡ t3 ++ (32 ∷ decimal s.host) → t5 ≡ t4 ++ (32 ∷ decimal s.approved)
-    → t6 ≡ t5 ++ 10 ∷ [] → t6 ≡ start ++ (state_header ++ sizes_line s)
+pub sizes-written : (s : Sizes) (start t1 t2 t3 t4 t5 t6 : List ℕ) → t1 ≡ start ++ codes "config" → t2 ≡ t1 ++ (32 ∷ decimal s.slots) → t3 ≡ t2 ++ (32 ∷ decimal s.frames) → t4 ≡ t3 ++ (32 ∷ decimal s.host) → t5 ≡ t4 ++ (32 ∷ decimal s.approved)
+    → t6 ≡ t5 ++ 10 ∷ [] → t6 ≡ start ++ sizes_line s
 sizes-written s start t1 t2 t3 t4 t5 t6 e1 e2 e3 e4 e5 e6 =
     e6 ∙ ap (λ (l : List ℕ). l ++ 10 ∷ []) (e5 ∙ ap (λ (l : List ℕ). l ++ (32 ∷ decimal s.approved)) (e4 ∙ ap (λ (l : List ℕ). l ++ (32 ∷ decimal s.host)) (e3 ∙ ap (λ (l : List ℕ). l ++ (32 ∷ decimal s.frames)) (e2 ∙ ap (λ (l : List ℕ). l ++ (32 ∷ decimal s.slots)) e1))))
-    ∙ regrouped-sizes start state_header (codes "config") (32 ∷ decimal s.slots) (32 ∷ decimal s.frames) (32 ∷ decimal s.host) (32 ∷ decimal s.approved) (10 ∷ [])
-    ∙ ap (λ (l : List ℕ). start ++ (state_header ++ (codes "config" ++ ((32 ∷ (decimal s.slots ++ (32 ∷ (decimal s.frames ++ (32 ∷ (decimal s.host ++ (32 ∷ l))))))) ++ 10 ∷ [])))) (sym (append-nil (decimal s.approved)))
+    ∙ regrouped-sizes start (codes "config") (32 ∷ decimal s.slots) (32 ∷ decimal s.frames) (32 ∷ decimal s.host) (32 ∷ decimal s.approved) (10 ∷ [])
+    ∙ ap (λ (l : List ℕ). start ++ (codes "config" ++ ((32 ∷ (decimal s.slots ++ (32 ∷ (decimal s.frames ++ (32 ∷ (decimal s.host ++ (32 ∷ l))))))) ++ 10 ∷ []))) (sym (append-nil (decimal s.approved)))
 
 lines-mapped : {X Y : Type 0} (f : Y → List ℕ) (g : X → Y) (xs : List X) → flat_map f (map g xs) ≡ flat_map (λ x. f (g x)) xs
 lines-mapped f g [] = refl
@@ -67,12 +67,3 @@ regrouped h s a b p d = simp append_assoc
 -- the lines before those of the pages, those of the pages, and the dump are the text
 pub whole-text : (m : State) → front_begin m ++ (flat_map page_line (map (λ (frame : Frame). frame.bytes) m.frames) ++ dump_text (dump_of m)) ≡ state_text m
 whole-text m = regrouped state_header (sizes_line (sizes_of (rest_of m))) (flat_map approved_line m.config.approved) (flat_map slot_line (map slot_rest m.slots)) (flat_map page_line (map (λ (frame : Frame). frame.bytes) m.frames)) (dump_text (dump_of m))
-
-regrouped-front : (t h s a b : List ℕ) → (((t ++ (h ++ s)) ++ a) ++ b) ≡ t ++ (h ++ (s ++ (a ++ b)))
-regrouped-front t h s a b = simp append_assoc
-
-pub front-written : (m : State) (t0 t1 t2 t3 : List ℕ) → t0 ≡ [] → t1 ≡ t0 ++ (state_header ++ sizes_line (sizes_of (rest_of m))) → t2 ≡ t1 ++ flat_map approved_line m.config.approved → t3 ≡ t2 ++ flat_map slot_line (map slot_rest m.slots) → t3 ≡ front_begin m
-front-written m t0 t1 t2 t3 e0 e1 e2 e3 =
-    e3 ∙ ap (λ (l : List ℕ). l ++ flat_map slot_line (map slot_rest m.slots)) (e2 ∙ ap (λ (l : List ℕ). l ++ flat_map approved_line m.config.approved) e1)
-    ∙ regrouped-front t0 state_header (sizes_line (sizes_of (rest_of m))) (flat_map approved_line m.config.approved) (flat_map slot_line (map slot_rest m.slots))
-    ∙ ap (λ (l : List ℕ). l ++ front_begin m) e0

@@ -17,7 +17,7 @@ use Rattle.kc_state_text.specs.declared.sizes.Sizes as numbers
 use Rattle.kc_state_text.specs.declared.fault.StateFault.{StateFault}
 use Rattle.kc_state_text.specs.declared.fault.StateFault.TheVariants.{NoHeader, BadLine, Missing, Sizes, Found, Slot, Frame, Memory}
 use Rattle.kc_state_text.specs.StateText.{Front, state_header, sizes_words, sizes_line, approved_words, approved_line, slot_words, slot_line, page_words, page_line, front_text, front_of}
-use Rattle.kc_state_text.specs.Refused.{AreSizes, IsSlotLine, IsFront, IsWholeFront, BeginsWith, StopsBefore, IsTextOf, IsRefusedState, line_count}
+use Rattle.kc_state_text.specs.Refused.{AreSizes, IsSlotLine, IsFront, IsWholeFront, BeginsWith, StopsBefore, IsDumpFault, IsTextOf, IsRefusedState, line_count}
 use Rattle.kc_state_text.specs.Reading.{BeginsAs, AreRead, Lacks, StopsAmong, IsFrontFault}
 use Rattle.kc_state_text.specs.Faults.{dump_fault}
 use Rattle.kc_state_text.proofs.Lines.{line-long}
@@ -57,7 +57,7 @@ module _ (text r0 r1 : List ℕ) (sizes : numbers.Sizes) (header : text ≡ stat
   )
 
   pub approved-stop : (fault : StateFault) → StopsAmong IsDigest approved_line 3 sizes.approved r1 fault → IsFrontFault text fault
-  approved-stop NoHeader w = absurd w
+  approved-stop NoHeader w = w
   approved-stop (BadLine n) w = approved-lack n w
   approved-stop (Missing f) w = w
   approved-stop Sizes w = w
@@ -80,7 +80,7 @@ module _ (text r0 r1 : List ℕ) (sizes : numbers.Sizes) (header : text ≡ stat
     )
 
     pub slots-stop : (fault : StateFault) → StopsAmong IsSlotLine slot_line (3 + sizes.approved) sizes.slots r2 fault → IsFrontFault text fault
-    slots-stop NoHeader w = absurd w
+    slots-stop NoHeader w = w
     slots-stop (BadLine n) w = slots-lack n w
     slots-stop (Missing f) w = w
     slots-stop Sizes w = w
@@ -103,7 +103,7 @@ module _ (text r0 r1 : List ℕ) (sizes : numbers.Sizes) (header : text ≡ stat
       )
 
       pub pages-stop : (fault : StateFault) → StopsAmong IsPage page_line (3 + sizes.approved + sizes.slots) sizes.frames r3 fault → IsFrontFault text fault
-      pages-stop NoHeader w = absurd w
+      pages-stop NoHeader w = w
       pages-stop (BadLine n) w = pages-lack n w
       pages-stop (Missing f) w = w
       pages-stop Sizes w = w
@@ -132,7 +132,7 @@ front-short text rest f b =
 
 -- why reading the lines stops is why the text is not a state's
 pub front-refused : (text : List ℕ) (fault : StateFault) → IsFrontFault text fault → IsRefusedState text fault
-front-refused text NoHeader w = w
+front-refused text NoHeader w = absurd w
 front-refused text (BadLine n) w = inl w
 front-refused text (Missing f) w = absurd w
 front-refused text Sizes w = absurd w
@@ -165,6 +165,23 @@ dump-line-low rest fault n e r = low (subst (IsRefusedDump rest) e r)
         let c = ap length r.2 in
         let k = s.why.0 in
         omega (arith, m, w, a, b, c, k)
+
+-- a bad line is one of the text, or one of the two after it
+pub bad-line-low : (text : List ℕ) (fault : StateFault) (n : ℕ) → fault ≡ BadLine n → IsRefusedState text fault → n ≤ length text + 2
+bad-line-low text fault n e r = low (subst (IsRefusedState text) e r)
+  where
+    low : IsRefusedState text (BadLine n) → n ≤ length text + 2
+    low (inl (inl stop)) = let second = stop.0 in omega (arith, second)
+    low (inl (inr stop)) = let short = front-short text stop.1 stop.0 stop.2 in let here = stop.4 in omega (arith, short, here)
+    low (inr stop) = by_dump stop.why
+      where
+        by_dump : IsDumpFault stop.front stop.rest (BadLine n) → n ≤ length text + 2
+        by_dump (inl why) = let short = front-short text stop.rest stop.front stop.begins in let here = why.1 in omega (arith, short, here)
+        by_dump (inr why) =
+            let short = front-short text stop.rest stop.front stop.begins in
+            let few = dump-line-low stop.rest (dump.BadLine why.0) why.0 refl why.1 in
+            let here = why.2 in
+            omega (arith, short, few, here)
 
 pub dump-refused : (text rest : List ℕ) (f : Front) (fault : DumpFault) → BeginsWith text f rest → IsWholeFront f → IsRefusedDump rest fault → IsRefusedState text (dump_fault (line_count f) fault)
 dump-refused text rest f dump.NoHeader b w r = inr (record { front = f; rest = rest; begins = b; whole = w; why = inl (r, refl) })

@@ -4,10 +4,12 @@ mod Gathered
 mod Followed
 mod Taken
 mod Fronts
+pub mod Placed
 mod PageWords
 mod Chained
 pub mod Appended
 mod OneText
+mod OnePlaced
 mod OneRun
 mod Refusals
 pub mod ToCome

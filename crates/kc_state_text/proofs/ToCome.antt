@@ -1,5 +1,5 @@
 -- What was given of a state's text and what is still to come are the whole text.
-use Rattle.std.proofs.Common.{ℕ, ◌≡◌, ◌<◌, ◌≤◌, ◌+◌, List, [], ◌++◌, length, map, refl, sym, ap, ◌∙◌, append_assoc}
+use Rattle.std.proofs.Common.{ℕ, ◌≡◌, ◌<◌, ◌≤◌, ◌+◌, List, [], ◌++◌, length, map, drop, Option, Some, None, refl, sym, ap, ◌∙◌, append_assoc}
 use Rattle.std.specs.List.{flat_map}
 use Rattle.std.proofs.lemmas.List.{drop_more, drop_all, length-map}
 use Rattle.std.proofs.Math.ListN.{get_or-map}
@@ -9,11 +9,12 @@ use Rattle.kc_model.specs.Blanking.{blank_frame}
 use Rattle.kc_dump_text.specs.DumpText.{dump_text}
 use Rattle.kc_dumping.specs.Dumping.{dump_of}
 use Rattle.kc_state.specs.Told.{slot_rest}
+use Rattle.kc_trace.specs.declared.header.Position.{Position}
 use Rattle.kc_dumping.specs.Form.{in_form}
 use Rattle.kc_dumping.specs.declared.form.StateForm.{StateForm}
 use Rattle.kc_dumping.specs.declared.form.StateForm.TheVariants.{Whole, Blank}
 use Rattle.kc_state_text.proofs.Appended.{whole-text}
-use Rattle.kc_state_text.specs.StateText.{state_header, sizes_line, approved_line, slot_line, page_line, front_begin, state_text}
+use Rattle.kc_state_text.specs.StateText.{state_header, header_of, sizes_line, approved_line, slot_line, page_line, front_begin, state_text, placed_text, placed_state_text}
 use Rattle.kc_state_text.specs.Pieces.{Pieces, page_lines, to_come}
 
 abbrev bytes_of : Frame → List ℕ
@@ -50,6 +51,15 @@ front_in Blank m =
     ap (λ (n : ℕ). state_header ++ (sizes_line (record { slots = length (map slot_rest m.slots); frames = n; host = m.config.host; approved = length m.config.approved })
     ++ (flat_map approved_line m.config.approved ++ flat_map slot_line (map slot_rest m.slots)))) long
 
+-- what follows the first lines of a text stays, whatever position they say
+placed-more : (position : Option Position) (m : State) (more : List ℕ) → placed_text position (front_begin m) ++ more ≡ placed_text position (front_begin m ++ more)
+placed-more None m more = refl
+placed-more (Some position) m more = append_assoc (header_of (Some position)) (drop 14 (front_begin m)) more
+
 -- the lines before those of the pages, the pages from the first on, and the dump are the whole text
-pub whole_in : (form : StateForm) (m : State) → front_begin m ++ (page_lines (in_form form m) 0 ++ dump_text (dump_of (in_form form m))) ≡ state_text (in_form form m)
-whole_in form m = ap (λ (l : List ℕ). l ++ (page_lines (in_form form m) 0 ++ dump_text (dump_of (in_form form m)))) (front_in form m) ∙ whole-text (in_form form m)
+whole_first : (form : StateForm) (m : State) → front_begin m ++ (page_lines (in_form form m) 0 ++ dump_text (dump_of (in_form form m))) ≡ state_text (in_form form m)
+whole_first form m = ap (λ (l : List ℕ). l ++ (page_lines (in_form form m) 0 ++ dump_text (dump_of (in_form form m)))) (front_in form m) ∙ whole-text (in_form form m)
+
+pub whole_in : (form : StateForm) (position : Option Position) (m : State)
+    → placed_text position (front_begin m) ++ (page_lines (in_form form m) 0 ++ dump_text (dump_of (in_form form m))) ≡ placed_state_text position (in_form form m)
+whole_in form position m = placed-more position m (page_lines (in_form form m) 0 ++ dump_text (dump_of (in_form form m))) ∙ ap (placed_text position) (whole_first form m)

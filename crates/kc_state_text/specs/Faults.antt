@@ -6,6 +6,7 @@ use Rattle.kc_state.specs.declared.unlawful.Unlawful.{Unlawful}
 use Rattle.kc_state.specs.declared.unlawful.Unlawful.TheVariants as unlawful
 use Rattle.kc_dump_text.specs.declared.fault.DumpFault.{DumpFault}
 use Rattle.kc_dump_text.specs.declared.fault.DumpFault.TheVariants as dump
+use Rattle.kc_trace.specs.declared.header.Position.{Position}
 
 -- what is wrong with a state if this is wrong with its dump, which comes after this many lines
 abbrev pub dump_fault : ℕ → DumpFault → StateFault
@@ -21,6 +22,13 @@ unlawful_fault (unlawful.Found finding) = Found finding
 unlawful_fault (unlawful.Slot v) = Slot v
 unlawful_fault (unlawful.Frame f) = Frame f
 unlawful_fault unlawful.Memory = Memory
+
+-- what is wrong with a text with this position or none, if this is wrong with the text without it: there each line
+-- after the header comes one line earlier
+abbrev pub fault_after : Option Position → StateFault → StateFault
+fault_after None fault = fault
+fault_after (Some position) (BadLine n) = BadLine (n + 1)
+fault_after (Some position) fault = fault
 
 -- why a text is not a state's, up to the number of a line, a frame or a slot; the text of a finding follows
 abbrev pub state_fault_words : StateFault → List ℕ

@@ -8,7 +8,7 @@ use Rattle.kc_model.specs.State.{Vcpu, Image}
 use Rattle.kc_model.specs.Lawful.{IsPage}
 use Rattle.kc_state_text.specs.declared.fault.StateFault.{StateFault}
 use Rattle.kc_state_text.specs.declared.fault.StateFault.TheVariants.{NoHeader, BadLine, Missing, Sizes, Found, Slot, Frame, Memory}
-use Rattle.kc_state_text.specs.StateText.{state_header, is_zero}
+use Rattle.kc_state_text.specs.StateText.{is_zero}
 use Rattle.kc_state_text.specs.Refused.{IsVcpuWord, AreImageWords, HasNone, StopsBefore}
 
 abbrev pub IsNumber : ℕ → Type 0
@@ -87,9 +87,9 @@ StopsAmong Is spelled first count text (Slot v) = ⊥
 StopsAmong Is spelled first count text (Frame f) = ⊥
 StopsAmong Is spelled first count text Memory = Unit {0}
 
--- reading the lines before the dump stops for this reason
+-- reading the lines between the header and the dump stops for this reason
 abbrev pub IsFrontFault : List ℕ → StateFault → Type 0
-IsFrontFault text NoHeader = (rest : List ℕ) → text ≡ state_header ++ rest → ⊥
+IsFrontFault text NoHeader = ⊥
 IsFrontFault text (BadLine n) = StopsBefore text n
 IsFrontFault text (Missing f) = ⊥
 IsFrontFault text Sizes = ⊥

@@ -1,5 +1,5 @@
 -- Which text is which state's, and why a text is not a state's.
-use Rattle.std.specs.Prelude.{ℕ, ◌≡◌, ◌<◌, ◌≤◌, ◌+◌, ◌^◌, ◌⊎◌, List, [], ◌++◌, length, All, Some, false, None}
+use Rattle.std.specs.Prelude.{ℕ, ◌≡◌, ◌<◌, ◌≤◌, ◌+◌, ◌^◌, ◌⊎◌, List, [], ◌++◌, length, All, Option, Some, false, None, IfSome}
 use Rattle.kc_types.specs.Limits.{frame_limit, slot_limit, gfn_limit, vcpu_limit, image_limit, digest_limit}
 use Rattle.kc_model.specs.State.{Vcpu, Image}
 use Rattle.kc_model.specs.Lawful.{IsPage}
@@ -12,10 +12,13 @@ use Rattle.kc_state.specs.Unlawful.{IsUnlawful}
 use Rattle.kc_state.specs.declared.unlawful.Unlawful.{Unlawful}
 use Rattle.kc_state.specs.declared.unlawful.Unlawful.TheVariants as unlawful
 use Rattle.kc_model.specs.Volumes.{IsDigest}
+use Rattle.kc_trace.specs.declared.header.Position.{Position}
+use Rattle.kc_trace.specs.Header.{IsPosition}
 use Rattle.kc_state_text.specs.declared.fault.StateFault.{StateFault}
 use Rattle.kc_state_text.specs.declared.fault.StateFault.TheVariants.{NoHeader, BadLine, Missing, Sizes, Found, Slot, Frame, Memory}
 use Rattle.kc_state_text.specs.declared.sizes.Sizes as numbers
-use Rattle.kc_state_text.specs.StateText.{Front, state_header, sizes_line, approved_line, slot_line, page_line, front_text, front_of, told_text}
+use Rattle.kc_state_text.specs.Faults.{fault_after}
+use Rattle.kc_state_text.specs.StateText.{Front, state_header, second_header, volume_line, header_of, sizes_line, approved_line, slot_line, page_line, front_text, front_of, told_text}
 
 -- which numbers the line of sizes may have: none above the limits of every configuration
 pub record AreSizes (sizes : numbers.Sizes) : Type 0 where
@@ -110,7 +113,7 @@ pub record IsTextOf (text : List ℕ) (t : Told) : Type 0 where
 abbrev pub TellsNone : List ℕ → Unlawful → Type 0
 TellsNone text why = (t : Told) × IsTextOf text t × IsUnlawful t why
 
--- the text is not a lawful state's, and this is the first reason
+-- the text is not that of a lawful state without a position, and this is the first reason
 abbrev pub IsRefusedState : List ℕ → StateFault → Type 0
 IsRefusedState text NoHeader = (rest : List ℕ) → text ≡ state_header ++ rest → ⊥
 IsRefusedState text (BadLine n) = StopsBefore text n ⊎ StopsWithin text (BadLine n)
@@ -120,3 +123,34 @@ IsRefusedState text (Found finding) = TellsNone text (unlawful.Found finding)
 IsRefusedState text (Slot v) = TellsNone text (unlawful.Slot v)
 IsRefusedState text (Frame f) = TellsNone text (unlawful.Frame f)
 IsRefusedState text Memory = Unit {0}
+
+-- ---- texts with a position or none
+
+-- the text has the header of this position or none, and the rest follows
+pub record HasHeader (text : List ℕ) (position : Option Position) (rest : List ℕ) : Type 0 where
+  pub whole : text ≡ header_of position ++ rest
+  pub is : IfSome position IsPosition
+
+-- the text has neither header, or not the line of a position after the second
+abbrev pub LacksHeader : List ℕ → StateFault → Type 0
+LacksHeader text NoHeader = ((rest : List ℕ) → text ≡ state_header ++ rest → ⊥) × ((rest : List ℕ) → text ≡ second_header ++ rest → ⊥)
+LacksHeader text (BadLine n) = (n ≡ 2) × ((rest : List ℕ) × (text ≡ second_header ++ rest) × HasNone IsPosition volume_line rest)
+LacksHeader text (Missing f) = ⊥
+LacksHeader text Sizes = ⊥
+LacksHeader text (Found finding) = ⊥
+LacksHeader text (Slot v) = ⊥
+LacksHeader text (Frame f) = ⊥
+LacksHeader text Memory = ⊥
+
+-- the text has a header, and with the first in its place it is refused, for this reason but for the number of a line
+pub record IsRefusedAfter (text : List ℕ) (fault : StateFault) : Type 0 where
+  pub position : Option Position
+  pub rest : List ℕ
+  pub header : HasHeader text position rest
+  pub why : StateFault
+  pub refused : IsRefusedState (state_header ++ rest) why
+  pub same : fault ≡ fault_after position why
+
+-- the text is not that of a lawful state, with a position or none, and this is the first reason
+abbrev pub IsRefusedPlaced : List ℕ → StateFault → Type 0
+IsRefusedPlaced text fault = LacksHeader text fault ⊎ IsRefusedAfter text fault

@@ -1,14 +1,16 @@
 -- How a state is spelled: a line for each thing that a dump leaves out, and then its dump.
-use Rattle.std.specs.Prelude.{ℕ, Bool, if◌then◌else◌, List, [], ◌∷◌, ◌++◌, length, map, codes, Option, Some, None, ◌==◌}
+use Rattle.std.specs.Prelude.{ℕ, Bool, if◌then◌else◌, List, [], ◌∷◌, ◌++◌, length, map, drop, codes, Option, Some, None, ◌==◌}
 use Rattle.std.specs.Fmt.{decimal}
 use Rattle.std.specs.List.{flat_map, list_all}
 use Rattle.hex.specs.Hex.{encode_lower}
 use Rattle.kc_model.specs.State.{State, Vcpu, Image}
 use Rattle.kc_dump_text.specs.DumpText.{line, dump_text}
 use Rattle.kc_state.specs.Told.{Told, Rest, SlotRest, slot_rest, rest_of, told_of}
+use Rattle.kc_trace.specs.declared.header.Position.{Position}
+use Rattle.kc_trace.specs.Header.{position_line}
 use Rattle.kc_state_text.specs.declared.sizes.Sizes.{Sizes}
 
--- the first line of each state, with its newline
+-- the first line of a state without a position, with its newline
 abbrev pub state_header : List ℕ
 state_header = codes "kcore-state 1" ++ 10 ∷ []
 
@@ -88,7 +90,7 @@ front_of rest = record { sizes = sizes_of rest; approved = rest.approved; slots 
 abbrev pub told_text : Told → List ℕ
 told_text t = front_text (front_of t.rest) ++ dump_text t.dump
 
--- the one spelling of a state
+-- the one spelling of a state without a position
 abbrev pub state_text : State → List ℕ
 state_text m = told_text (told_of m)
 
@@ -97,3 +99,27 @@ abbrev pub front_begin : State → List ℕ
 front_begin m =
     state_header ++ (sizes_line (sizes_of (rest_of m))
     ++ (flat_map approved_line m.config.approved ++ flat_map slot_line (map slot_rest m.slots)))
+
+-- ---- a state with a position: that of the volume that goes on from it
+
+-- the first line of a state with a position, with its newline
+abbrev pub second_header : List ℕ
+second_header = codes "kcore-state 2" ++ 10 ∷ []
+
+-- the line after it, which says the position, with its newline
+abbrev pub volume_line : Position → List ℕ
+volume_line position = position_line position ++ 10 ∷ []
+
+-- the lines before that of the sizes, for this position or none
+abbrev pub header_of : Option Position → List ℕ
+header_of None = state_header
+header_of (Some position) = second_header ++ volume_line position
+
+-- the text of a state without a position, and what it is with this one
+abbrev pub placed_text : Option Position → List ℕ → List ℕ
+placed_text None text = text
+placed_text (Some position) text = header_of (Some position) ++ drop 14 text
+
+-- the one spelling of a state with this position or none
+abbrev pub placed_state_text : Option Position → State → List ℕ
+placed_state_text position m = placed_text position (state_text m)

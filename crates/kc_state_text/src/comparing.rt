@@ -1,13 +1,14 @@
 //! A text compared with that of a core's state, a piece at a time.
 ghost use Rattle.std.specs.Prelude.{ℕ, List, MatchOption, MatchResult, ◌≡◌, ◌≢◌, ◌==◌, ◌<◌, ◌≤◌, ◌++◌, length, slice_index, take, vec_capacity, IfOk};
 ghost use Rattle.std.specs.List.{count_by};
-ghost use Rattle.kc_state_text.specs.StateText.{state_text};
+ghost use Rattle.kc_state_text.specs.StateText.{placed_state_text};
 ghost use Rattle.kc_state_text.specs.Pieces.{longest_page_line, to_come};
 ghost use Rattle.kc_state_text.specs.Differences.{PartAfter, IsDifference};
 
 use crate::pieces::StatePieces;
 use kc_core::KCore;
 use kc_digests::Lanes;
+use kc_trace::Position;
 use kc_types::{Memory, SecretBytes};
 use std::alloc::Global;
 use std::thread::Threads;
@@ -78,20 +79,21 @@ fn newlines(bytes: &[u8]) -> usize
     count
 }
 
-/// The number of the first line of a text, from 1, that differs from the text of a core's state; `None` if it is that
-/// text. The state's text is written piece by piece and compared, and the memory that held a piece is wiped. `Memory`
-/// if memory runs out.
+/// The number of the first line of a text, from 1, that differs from the text of a core's state with this position or
+/// none; `None` if it is that text. The state's text is written piece by piece and compared, and the memory that held a
+/// piece is wiped. `Memory` if memory runs out.
 pub fn difference_from_state(
     rt: &(impl Threads + Sync),
     alloc: Global,
     core: &KCore,
+    position: Option<Position>,
     text: &[u8],
     lanes: Lanes,
 ) -> Result<Option<usize>, Memory>
     // No clause can rule out that memory runs out: a test compares states.
-    ensures { IfOk result (λ line. IsDifference line text.now (state_text core.now)) }
+    ensures { IfOk result (λ line. IsDifference line text.now (placed_state_text position core.now)) }
 {
-    let pieces = StatePieces::new(rt, alloc, core, lanes)?;
+    let pieces = StatePieces::new(rt, alloc, core, position, lanes)?;
     let mut piece = Vec::with_capacity(alloc, PIECE)?;
     let difference = difference(core, pieces, &mut piece, text);
     let _zeroed = SecretBytes::new(piece);

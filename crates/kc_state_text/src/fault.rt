@@ -10,9 +10,9 @@ use std::alloc::AllocFailed;
 /// Why a text is not a lawful state's. Lines are read in order, and the first fault counts.
 #[derive(Clone, Copy, Debug, PartialEq, Eq)]
 pub enum StateFault {
-    /// The text does not begin with the header and its newline.
+    /// The text begins with neither header and its newline.
     NoHeader,
-    /// The line of this number, counted from 1 with the header as the first, may not be there.
+    /// The line of this number, counted from 1 with that of the header as the first, may not be there.
     BadLine(u32),
     /// In the dump, the line of this frame is due, and another frame's line is there, or none.
     Missing(u32),

@@ -1,5 +1,5 @@
-//! The lines before the dump.
-ghost use Rattle.std.specs.Prelude.{ℕ, List, ◌≡◌, ◌≤◌, ◌<◌, ◌+◌, ◌^◌, ◌++◌, length, codes, MatchOption, MatchResult};
+//! The lines between the header and the dump.
+ghost use Rattle.std.specs.Prelude.{◌≡◌, ◌≤◌, ◌<◌, ◌+◌, ◌^◌, ◌++◌, length, MatchOption, MatchResult};
 ghost use Rattle.kc_types.specs.Limits.{byte_limit};
 ghost use Rattle.kc_model.specs.Lawful.{IsPage};
 ghost use Rattle.kc_model.specs.Volumes.{IsDigest};
@@ -16,7 +16,7 @@ use kc_state::SlotRest;
 use std::alloc::Global;
 use std::marker::Model;
 
-/// What the lines before the dump say.
+/// What the lines between the header and the dump say.
 #[derive(Drop)]
 pub struct Front {
     pub sizes: Sizes,
@@ -42,21 +42,6 @@ impl Front {
         ensures { result ≡ line_count self.now }
     {
         2 + self.approved.len() as u32 + self.slots.len() as u32 + self.pages.len() as u32
-    }
-}
-
-/// What follows the header, if the text begins with it.
-fn after_header(text: &[u8]) -> Option<&[u8]>
-    ensures { MatchOption result ((rest : List ℕ) → text.now ≡ state_header ++ rest → ⊥) (λ rest. text.now ≡ state_header ++ rest.now) }
-{
-    if text.len() < 14 {
-        return None;
-    }
-    let (head, rest) = text.split_at(14);
-    if head == b"kcore-state 1\n".as_slice() {
-        Some(rest)
-    } else {
-        None
     }
 }
 
@@ -157,16 +142,14 @@ fn read_all_pages<'a>(
     Ok((pages, rest))
 }
 
-/// Reads all lines before the dump; also returns what follows them.
-pub fn read_front(alloc: Global, text: &[u8]) -> Result<(Front, &[u8]), StateFault>
-    requires { length text.now ≤ byte_limit }
+/// Reads all lines between the header and the dump, in what follows the header; also returns what follows them. In the
+/// numbers of lines the header counts as one.
+pub fn read_front(alloc: Global, rest: &[u8]) -> Result<(Front, &[u8]), StateFault>
+    requires { length (state_header ++ rest.now) ≤ byte_limit }
     ensures { MatchResult result
-        (λ read. BeginsWith text.now read.0 read.1.now × IsWholeFront read.0)
-        (λ fault. IsFrontFault text.now fault) }
+        (λ read. BeginsWith (state_header ++ rest.now) read.0 read.1.now × IsWholeFront read.0)
+        (λ fault. IsFrontFault (state_header ++ rest.now) fault) }
 {
-    let Some(rest) = after_header(text) else {
-        return Err(StateFault::NoHeader);
-    };
     let Some((sizes, rest)) = sizes_at(rest) else {
         return Err(StateFault::BadLine(2));
     };

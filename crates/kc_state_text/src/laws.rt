@@ -1,5 +1,5 @@
 //! Laws of the definitions.
-ghost use Rattle.std.specs.Prelude.{◌≡◌, ◌≤◌, ℕ, List, length, All};
+ghost use Rattle.std.specs.Prelude.{◌≡◌, ◌≤◌, ℕ, List, Option, length, All, IfSome};
 ghost use Rattle.kc_types.specs.Configuration.{Configuration, IsConfiguration};
 ghost use Rattle.kc_types.specs.Limits.{byte_limit};
 ghost use Rattle.kc_model.specs.Boot.{boot};
@@ -7,22 +7,26 @@ ghost use Rattle.kc_model.specs.State.{State};
 ghost use Rattle.kc_state_text.specs.declared.fault.StateFault.{StateFault as Fault};
 ghost use Rattle.kc_state_text.specs.declared.fault.StateFault.TheVariants.{Memory};
 ghost use Rattle.kc_model.specs.Volumes.{IsDigest, IsCoreState, Volume, AreReplayedFrom};
-ghost use Rattle.kc_state_text.specs.StateText.{state_text};
-ghost use Rattle.kc_state_text.specs.Refused.{IsRefusedState};
+ghost use Rattle.kc_trace.specs.declared.header.Position.{Position};
+ghost use Rattle.kc_trace.specs.Header.{IsPosition};
+ghost use Rattle.kc_state_text.specs.StateText.{state_text, placed_state_text};
+ghost use Rattle.kc_state_text.specs.Refused.{IsRefusedPlaced};
 ghost use Rattle.kc_state_text.specs.Runs.{IsOneRun};
 
 use kc_state::laws as states;
 
-/// No text is that of two states.
+/// No text is that of two states, nor of two positions, nor of a position and of none.
 pub fn one_text()
-    ensures { (m n : State) → IsCoreState m → IsCoreState n → length (state_text m) ≤ byte_limit → state_text m ≡ state_text n → m ≡ n }
+    ensures { (p q : Option Position) (m n : State) → IfSome p IsPosition → IfSome q IsPosition → IsCoreState m → IsCoreState n
+        → length (placed_state_text p m) ≤ byte_limit → placed_state_text p m ≡ placed_state_text q n → (p ≡ q) × (m ≡ n) }
 {
     states::one_state()
 }
 
-/// What is refused is not a lawful state's text.
+/// What is refused is not a lawful state's text, with any position or without one.
 pub fn refused()
-    ensures { (text : List ℕ) (fault : Fault) → (fault ≡ Memory → ⊥) → IsRefusedState text fault → (m : State) → IsCoreState m → length text ≤ byte_limit → text ≡ state_text m → ⊥ }
+    ensures { (text : List ℕ) (fault : Fault) → (fault ≡ Memory → ⊥) → IsRefusedPlaced text fault → (p : Option Position) (m : State) → IfSome p IsPosition → IsCoreState m
+        → length text ≤ byte_limit → text ≡ placed_state_text p m → ⊥ }
 {
     states::unlawful()
 }

@@ -1,7 +1,9 @@
 //! States as text.
 //!
-//! - how a state is spelled: `specs/StateText.antt`; why a text is not a state: `specs/Refused.antt`
-//! - how a state's text is read: `src/reader.rt`, `src/front.rt`; how it is written a piece at a time: `src/pieces.rt`
+//! - how a state is spelled, with the position of the volume that goes on from it or without one:
+//!   `specs/StateText.antt`; why a text is not a state: `specs/Refused.antt`
+//! - how a state's text is read: `src/reader.rt`, `src/header.rt`, `src/front.rt`; how it is written a piece at a time:
+//!   `src/pieces.rt`
 //! - where a text differs from that of a core's state: `specs/Differences.antt`, `src/comparing.rt`
 //! - that state texts are enough for volumes to be one run: `src/laws.rt`
 #![tactic(auto)]
@@ -9,6 +11,7 @@
 mod comparing;
 mod fault;
 mod front;
+mod header;
 pub mod laws;
 mod line_reader;
 mod pages;
@@ -22,5 +25,5 @@ mod writing;
 pub use comparing::difference_from_state;
 pub use fault::StateFault;
 pub use pieces::StatePieces;
-pub use reader::{read_state, read_state_alone};
+pub use reader::{ReadState, read_state, read_state_alone};
 pub use whole::{state_digest, whole_text};

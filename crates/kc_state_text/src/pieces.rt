@@ -2,7 +2,7 @@
 ghost use Rattle.std.specs.Prelude.{◌≡◌, ◌<◌, ◌≤◌, ◌+◌, ◌++◌, ◌↔◌, [], length, vec_len, vec_capacity, IsTrue, IfOk};
 ghost use Rattle.kc_dumping.specs.Dumping.{dump_of};
 ghost use Rattle.kc_dumping.specs.Form.{in_form};
-ghost use Rattle.kc_state_text.specs.StateText.{state_text};
+ghost use Rattle.kc_state_text.specs.StateText.{placed_state_text};
 ghost use Rattle.kc_state_text.specs.Pieces.{longest_page_line, to_come};
 
 use crate::writing::{LONGEST_PAGE_LINE, push_page, write_front};
@@ -13,6 +13,7 @@ use kc_dump_text::write_dump;
 use kc_dumping::{StateForm, bytes_in, dump, dump_alone};
 use kc_lines::push_bytes;
 use kc_page::PageBytes;
+use kc_trace::Position;
 use kc_types::Memory;
 use std::alloc::Global;
 use std::marker::Model;
@@ -71,7 +72,7 @@ impl Left {
     }
 }
 
-/// The text of a core's state in a form, some of which was given already.
+/// The text of a core's state in a form, with a position or none, some of which was given already.
 #[derive(Drop)]
 pub struct StatePieces {
     form: StateForm,
@@ -101,13 +102,14 @@ impl StatePieces {
     fn begun(
         alloc: Global,
         core: &KCore,
+        position: Option<Position>,
         form: StateForm,
         dump: &Dump,
     ) -> Result<StatePieces, Memory>
         requires { dump.now ≡ dump_of (in_form form core.now) }
-        ensures { IfOk result (λ pieces. to_come core.now pieces ≡ state_text (in_form form core.now)) }
+        ensures { IfOk result (λ pieces. to_come core.now pieces ≡ placed_state_text position (in_form form core.now)) }
     {
-        let front = write_front(alloc, core)?;
+        let front = write_front(alloc, core, position)?;
         let dump = write_dump(alloc, dump)?;
         Ok(StatePieces {
             form,
@@ -118,26 +120,32 @@ impl StatePieces {
         })
     }
 
-    /// Makes the whole text, nothing of which was given. All memory that it needs is taken here: `Memory` if memory
-    /// runs out. The pages are hashed by several threads, this many side by side.
+    /// Makes the whole text, with this position or none, nothing of which was given. All memory that it needs is taken
+    /// here: `Memory` if memory runs out. The pages are hashed by several threads, this many side by side.
     pub fn new(
         rt: &(impl Threads + Sync),
         alloc: Global,
         core: &KCore,
+        position: Option<Position>,
         lanes: Lanes,
     ) -> Result<StatePieces, Memory>
-        ensures { IfOk result (λ pieces. to_come core.now pieces ≡ state_text core.now) }
+        ensures { IfOk result (λ pieces. to_come core.now pieces ≡ placed_state_text position core.now) }
     {
         let dumped = dump(rt, alloc, core, lanes)?;
-        StatePieces::begun(alloc, core, StateForm::Whole, &dumped)
+        StatePieces::begun(alloc, core, position, StateForm::Whole, &dumped)
     }
 
     /// Makes the whole text in a form, as `new` does, on this thread alone.
-    pub fn alone(alloc: Global, core: &KCore, form: StateForm) -> Result<StatePieces, Memory>
-        ensures { IfOk result (λ pieces. to_come core.now pieces ≡ state_text (in_form form core.now)) }
+    pub fn alone(
+        alloc: Global,
+        core: &KCore,
+        position: Option<Position>,
+        form: StateForm,
+    ) -> Result<StatePieces, Memory>
+        ensures { IfOk result (λ pieces. to_come core.now pieces ≡ placed_state_text position (in_form form core.now)) }
     {
         let dumped = dump_alone(alloc, core, form)?;
-        StatePieces::begun(alloc, core, form, &dumped)
+        StatePieces::begun(alloc, core, position, form, &dumped)
     }
 
     /// An upper bound for the number of bytes that are still to come.

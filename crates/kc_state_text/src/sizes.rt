@@ -1,4 +1,4 @@
-//! The numbers of a state's second line.
+//! The numbers of the line of sizes, the first after a state's header.
 
 /// How many slots and frames there are, how many frames were the host's at boot, and how many digests are approved.
 #[derive(Clone, Copy, Debug, PartialEq, Eq)]

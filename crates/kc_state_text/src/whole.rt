@@ -3,13 +3,14 @@ ghost use Rattle.std.specs.Prelude.{◌≡◌, ◌≤◌, ◌++◌, ℕ, List, v
 ghost use Rattle.sha2.specs.Sha256.{sha256};
 ghost use Rattle.sha2.specs.Hashers.{Holds256};
 ghost use Rattle.kc_dumping.specs.Form.{in_form};
-ghost use Rattle.kc_state_text.specs.StateText.{state_text};
+ghost use Rattle.kc_state_text.specs.StateText.{placed_state_text};
 ghost use Rattle.kc_state_text.specs.Pieces.{longest_page_line, to_come};
 
 use crate::pieces::StatePieces;
 use crate::writing::push_short;
 use kc_core::KCore;
 use kc_dumping::StateForm;
+use kc_trace::Position;
 use kc_types::{Memory, SecretBytes};
 use sha2::{Digest, Sha256};
 use std::alloc::Global;
@@ -37,13 +38,18 @@ fn push_pieces(
     }
 }
 
-/// Makes the text of a core's state in a form; memory for it is taken once. `Memory` if memory runs out. What held
-/// pieces of it is wiped, and so is the text when it is dropped.
-pub fn whole_text(alloc: Global, core: &KCore, form: StateForm) -> Result<SecretBytes, Memory>
+/// Makes the text of a core's state in a form, with this position or none; memory for it is taken once. `Memory` if
+/// memory runs out. What held pieces of it is wiped, and so is the text when it is dropped.
+pub fn whole_text(
+    alloc: Global,
+    core: &KCore,
+    position: Option<Position>,
+    form: StateForm,
+) -> Result<SecretBytes, Memory>
     // No clause can rule out that memory runs out: tests ask for states.
-    ensures { IfOk result (λ text. text ≡ state_text (in_form form core.now)) }
+    ensures { IfOk result (λ text. text ≡ placed_state_text position (in_form form core.now)) }
 {
-    let pieces = StatePieces::alone(alloc, core, form)?;
+    let pieces = StatePieces::alone(alloc, core, position, form)?;
     let mut piece = Vec::with_capacity(alloc, PIECE)?;
     let mut text = Vec::with_capacity(alloc, pieces.most(core))?;
     let pushed = push_pieces(&mut text, core, pieces, &mut piece);
@@ -71,14 +77,19 @@ fn hash_pieces(hasher: &mut Sha256, core: &KCore, pieces: StatePieces, piece: &m
     }
 }
 
-/// Computes the SHA-256 digest of the text of a core's state in a form: what `sha256sum` prints for it. The text is
-/// made a piece at a time, and never in memory as a whole. `Memory` if memory runs out. What held pieces of it is
-/// wiped.
-pub fn state_digest(alloc: Global, core: &KCore, form: StateForm) -> Result<[u8; 32], Memory>
+/// Computes the SHA-256 digest of the text of a core's state in a form, with this position or none: what `sha256sum`
+/// prints for it. The text is made a piece at a time, and never in memory as a whole. `Memory` if memory runs out. What
+/// held pieces of it is wiped.
+pub fn state_digest(
+    alloc: Global,
+    core: &KCore,
+    position: Option<Position>,
+    form: StateForm,
+) -> Result<[u8; 32], Memory>
     // No clause can rule out that memory runs out: tests ask for digests.
-    ensures { IfOk result (λ digest. digest ≡ sha256 (state_text (in_form form core.now))) }
+    ensures { IfOk result (λ digest. digest ≡ sha256 (placed_state_text position (in_form form core.now))) }
 {
-    let pieces = StatePieces::alone(alloc, core, form)?;
+    let pieces = StatePieces::alone(alloc, core, position, form)?;
     let mut piece = Vec::with_capacity(alloc, PIECE)?;
     let mut hasher = Sha256::new();
     hash_pieces(&mut hasher, core, pieces, &mut piece);

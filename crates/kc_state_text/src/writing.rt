@@ -5,12 +5,13 @@ ghost use Rattle.kc_types.specs.Configuration.{slot_count};
 ghost use Rattle.kc_model.specs.State.{slot_at};
 ghost use Rattle.kc_dump_text.specs.DumpText.{spaced};
 ghost use Rattle.kc_state.specs.Told.{slot_rest, rest_of};
-ghost use Rattle.kc_state_text.specs.StateText.{state_header, sizes_of, sizes_line, approved_line, vcpu_words, vcpus_words, image_words, images_words, slot_line, page_line, front_begin};
+ghost use Rattle.kc_state_text.specs.StateText.{header_of, placed_text, sizes_of, sizes_line, approved_line, vcpu_words, vcpus_words, image_words, images_words, slot_line, page_line, front_begin};
 
 use crate::sizes::Sizes;
 use kc_core::KCore;
 use kc_lines::{push_bytes, push_digits, push_number};
 use kc_page::PageBytes;
+use kc_trace::{Position, push_position};
 use kc_types::{Image, Memory, VCPU_LIMIT, Vcpu};
 use std::alloc::Global;
 
@@ -141,12 +142,27 @@ fn sizes_of(core: &KCore) -> Sizes
     }
 }
 
-/// Appends the header and the line of sizes.
-fn push_sizes(text: &mut Vec<u8>, sizes: Sizes) -> Result<(), Memory>
-    ensures { OnOk result (text.new.items ≡ text.old.items ++ (state_header ++ sizes_line sizes)) }
+/// Appends the header, and the line of the position if there is one.
+fn push_header(text: &mut Vec<u8>, position: Option<Position>) -> Result<(), Memory>
+    ensures { OnOk result (text.new.items ≡ text.old.items ++ header_of position) }
 {
-    text.reserve(65)?;
-    push_bytes(text, b"kcore-state 1\nconfig");
+    text.reserve(97)?;
+    match position {
+        None => push_bytes(text, b"kcore-state 1\n"),
+        Some(position) => {
+            push_bytes(text, b"kcore-state 2\n");
+            push_position(text, position);
+        }
+    }
+    Ok(())
+}
+
+/// Appends the line of sizes.
+fn push_sizes(text: &mut Vec<u8>, sizes: Sizes) -> Result<(), Memory>
+    ensures { OnOk result (text.new.items ≡ text.old.items ++ sizes_line sizes) }
+{
+    text.reserve(51)?;
+    push_bytes(text, b"config");
     push_number(text, sizes.slots);
     push_number(text, sizes.frames);
     push_number(text, sizes.host);
@@ -155,13 +171,18 @@ fn push_sizes(text: &mut Vec<u8>, sizes: Sizes) -> Result<(), Memory>
     Ok(())
 }
 
-/// Makes the lines of a core's state before those of its pages: at most 300,000 bytes. `Memory` if memory cannot be
-/// had.
-pub fn write_front(alloc: Global, core: &KCore) -> Result<Vec<u8>, Memory>
+/// Makes the lines of a core's state, with this position or none, before those of its pages: at most 300,000 bytes.
+/// `Memory` if memory cannot be had.
+pub fn write_front(
+    alloc: Global,
+    core: &KCore,
+    position: Option<Position>,
+) -> Result<Vec<u8>, Memory>
     // No clause can rule out that memory runs out: a test writes states.
-    ensures { IfOk result (λ text. text.items ≡ front_begin core.now) }
+    ensures { IfOk result (λ text. text.items ≡ placed_text position (front_begin core.now)) }
 {
     let mut text = Vec::new(alloc);
+    push_header(&mut text, position)?;
     push_sizes(&mut text, sizes_of(core))?;
     push_approved(&mut text, core.config().approved())?;
     push_slots(&mut text, core)?;

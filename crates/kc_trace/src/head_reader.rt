@@ -156,9 +156,9 @@ fn position_of(number: u32, word: &[u8]) -> Option<Position>
     }
 }
 
-/// Reads the line of a position.
+/// Reads the line of a position, without its newline; `None` if it is not such a line.
 #[tactic(auto, unfolding(crate::specs::HeadReading::position_in))]
-fn read_position(line: &[u8]) -> Option<Position>
+pub fn read_position(line: &[u8]) -> Option<Position>
     ensures { result ≡ position_in (words_in line.now) }
 {
     let mut words = LineWords::new(line);

@@ -84,11 +84,12 @@ fn push_all_approved(text: &mut Vec<u8>, digests: &[[u8; 32]])
     }
 }
 
-/// Appends the line of a position and its newline.
+/// Appends the line of a position and its newline, at most 83 bytes, for which there is room: memory does not grow.
 #[tactic(auto, unfolding(crate::specs::Header::position_line))]
-fn push_position(text: &mut Vec<u8>, position: Position)
+pub fn push_position(text: &mut Vec<u8>, position: Position)
     requires { vec_len text.old + 83 ≤ vec_capacity text.old }
     ensures items { text.new.items ≡ text.old.items ++ (position_line position ++ 10 ∷ []) }
+    ensures len { vec_len text.new ≤ vec_len text.old + 83 }
     ensures capacity { vec_capacity text.old ≤ vec_capacity text.new }
 {
     match position {

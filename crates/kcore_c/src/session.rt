@@ -274,7 +274,7 @@ pub fn state(
     let Some(session) = core.take(alloc) else {
         return Status::Closed;
     };
-    let told = whole_text(alloc, session.core(), form);
+    let told = whole_text(alloc, session.core(), None, form);
     core.put(session);
     match told {
         Ok(text) => {
@@ -341,7 +341,7 @@ pub fn blank_digest(alloc: Global, core: &mut Handle, out: &mut [u8], used: &mut
         core.put(session);
         return Status::NoRoom;
     }
-    let told = state_digest(alloc, session.core(), StateForm::Blank);
+    let told = state_digest(alloc, session.core(), None, StateForm::Blank);
     core.put(session);
     match told {
         Ok(told) => {

@@ -1,5 +1,5 @@
-use Rattle.kc_state_text.proofs.OneText.{one-text}
+use Rattle.kc_state_text.proofs.OnePlaced.{one-placed}
 use Rattle.kc_state_text.proofs.laws.one_text.Goals as goal
 
 pub returns : goal.returns
-returns c = one-text c.one_state.ensures
+returns c = one-placed c.one_state.ensures

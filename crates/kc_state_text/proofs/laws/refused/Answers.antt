@@ -1,5 +1,5 @@
-use Rattle.kc_state_text.proofs.OneText.{no-state}
+use Rattle.kc_state_text.proofs.OnePlaced.{not-placed}
 use Rattle.kc_state_text.proofs.laws.refused.Goals as goal
 
 pub returns : goal.returns
-returns c = no-state c.unlawful.ensures
+returns c = not-placed c.unlawful.ensures

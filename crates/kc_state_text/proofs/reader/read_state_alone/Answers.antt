@@ -1,5 +1,11 @@
-use Rattle.kc_state_text.proofs.Refusals.{unlawful-refused}
+use Rattle.std.proofs.Common.{◌++◌, arith}
+use Rattle.kc_state_text.specs.StateText.{state_header}
+use Rattle.kc_state_text.proofs.Fronts.{bad-line-low}
+use Rattle.kc_state_text.proofs.Placed.{first-short}
 use Rattle.kc_state_text.proofs.reader.read_state_alone.Goals as goal
 
-pub returns-in-Err-clause-refused : goal.returns-in-Err-clause-refused
-returns-in-Err-clause-refused c = rw c.unlawful_fault.ensures (unlawful-refused c.args.text.now c.in_ok-told.told c.in-Err.why c.in_ok-told.ensures c.in-Err.ensures.unlawful)
+pub fault_after-requires : goal.fault_after-requires
+fault_after-requires c n e =
+    let low = bad-line-low (state_header ++ c.in_ok-position.rest.now) c.in-Err.fault n e c.in-Err.ensures.refused in
+    let short = first-short c.args.text.now c.in_ok-position.rest.now c.in_ok-position.position c.in_ok-position.ensures in
+    omega (arith, low, short, c.requires)
