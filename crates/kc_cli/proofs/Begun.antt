@@ -16,6 +16,7 @@ use Rattle.kc_texts.specs.Ends.{Seen}
 use Rattle.kc_faults.specs.Outcomes.{TellsTexts}
 use Rattle.kc_faults.specs.declared.origin.Origin.TheVariants as origins
 use Rattle.kc_faults.specs.declared.fault.TextFault.{TextFault}
+use Rattle.kc_trace.specs.declared.expected.Expected.TheVariants.{First}
 use Rattle.kc_faults.proofs.Told.{boots, texts_trace}
 use Rattle.kc_trace.specs.declared.fault.TraceFault.TheVariants as traces
 use Rattle.kc_live.specs.declared.stop.LiveCause.{LiveCause}
@@ -33,7 +34,7 @@ begins_live (Some config_text) (Some trace_text) old new config calls made read 
 -- no text is refused for what a live run of few calls is refused for
 pub live_refused : {A : Type 0} (start trace : Seen) (unread : Type 0) (config : Configuration) (calls : List Call) (f : TextFault) → IfSome start.had (λ text. config_in text ≡ Ok config) → length calls ≤ call_limit → IsLiveFault config calls f → TellsTexts {A = A} origins.Boot start trace unread (Err f)
 live_refused start trace unread config calls f known few is =
-    texts_trace origins.Boot start trace unread (boot config) f (boots start.had config known)
+    texts_trace origins.Boot start trace unread (boot config) First f (boots start.had config known)
     (λ said same. absurd (let many = (is.trace said same).1 in omega (arith, few, many))) is.config is.state
     (is.config _, λ same. (let many = (is.trace traces.Memory same).1 in omega (arith, few, many)), is.state _, is.dump)
 

@@ -7,7 +7,8 @@ use Rattle.kc_model.specs.Next.{next, replies_from}
 use Rattle.kc_remarks.specs.declared.denials.Answered.{Answered}
 use Rattle.kc_remarks.specs.Denials.{AreCounts, IsAnsweredBy}
 use Rattle.kc_remarks.proofs.Counts.{outside_is, naming_is}
-use Rattle.kc_trace.specs.Trace.{IsTrace}
+use Rattle.kc_trace.specs.Expected.{IsTraceThere}
+use Rattle.kc_trace.specs.declared.expected.Expected.{Expected}
 use Rattle.kc_faults.specs.declared.origin.Origin.{Origin}
 use Rattle.kc_faults.specs.Origins.{BeginsIn}
 use Rattle.kc_cli.specs.Answers.{AreAnsweredFrom, AreAnswered}
@@ -27,12 +28,12 @@ answered_by m calls answered count denials =
     }
 
 -- they are those of the source's trace
-pub answered_from : (source : Option (List ℕ)) (m : State) (calls : List Call) (answered : Answered) → IfSome source (λ text. IsTrace text calls) → answered.calls ≡ length calls → AreCounts (replies_from m calls) answered.denials → IfSome source (λ text. AreAnsweredFrom m text answered)
-answered_from None m calls answered traced count denials = tt
-answered_from (Some text) m calls answered traced count denials = (calls, traced, answered_by m calls answered count denials)
+pub answered_from : (source : Option (List ℕ)) (m : State) (expected : Expected) (calls : List Call) (answered : Answered) → IfSome source (λ text. IsTraceThere m.config expected text calls) → answered.calls ≡ length calls → AreCounts (replies_from m calls) answered.denials → IfSome source (λ text. AreAnsweredFrom m expected text answered)
+answered_from None m expected calls answered traced count denials = tt
+answered_from (Some text) m expected calls answered traced count denials = (calls, traced, answered_by m calls answered count denials)
 
 -- and they begin in the state that the other text is of
-pub are_answered : (origin : Origin) (start trace : Option (List ℕ)) (m : State) (answered : Answered) → IfSome start (λ text. BeginsIn origin text m) → IfSome trace (λ text. AreAnsweredFrom m text answered) → AreAnswered origin start trace answered
-are_answered origin None trace m answered s t = tt
-are_answered origin (Some start) None m answered s t = tt
-are_answered origin (Some start) (Some trace) m answered s t = (m, s, t)
+pub are_answered : (origin : Origin) (start trace : Option (List ℕ)) (m : State) (expected : Expected) (answered : Answered) → IfSome start (λ text. BeginsIn origin text m expected) → IfSome trace (λ text. AreAnsweredFrom m expected text answered) → AreAnswered origin start trace answered
+are_answered origin None trace m expected answered s t = tt
+are_answered origin (Some start) None m expected answered s t = tt
+are_answered origin (Some start) (Some trace) m expected answered s t = (m, expected, s, t)

@@ -9,12 +9,18 @@ use Rattle.kc_model.specs.State.{State}
 use Rattle.kc_model.specs.Lawful.{IsLawful}
 use Rattle.kc_model.proofs.Lawful.LawfulTraces.{lawful-after}
 use Rattle.kc_model.proofs.Promises.{promises_kept}
+use Rattle.kc_model.proofs.States.Sizes.{config-after}
 use Rattle.kc_model.proofs.Redaction.Blank.{audited_blank}
 use Rattle.kc_dumping.proofs.Drawn.{sound-drawn}
 use Rattle.kc_trace.specs.declared.header.Header.{Header}
 use Rattle.kc_trace.specs.declared.expected.Expected.{Expected}
 use Rattle.kc_trace.specs.Trace.{IsTraceUnder}
-use Rattle.kc_trace.specs.Expected.{MayHave}
+use Rattle.kc_trace.specs.Expected.{MayHave, IsHeaderFault}
+use Rattle.kc_trace.specs.declared.expected.HeaderFault.{HeaderFault}
+use Rattle.kc_trace.specs.declared.fault.TraceFault.TheVariants.{Misplaced}
+use Rattle.kc_faults.specs.declared.origin.Origin.{Origin}
+use Rattle.kc_faults.specs.Origins.{BeginsIn, IsRefusedFrom}
+use Rattle.kc_cli.proofs.Placed.{misplaced}
 use Rattle.kc_cli.specs.declared.order.ReplayForm.{ReplayForm}
 use Rattle.kc_cli.specs.declared.order.ReplayForm.TheVariants as forms
 use Rattle.kc_cli.specs.Engine.{IsReplayed, IsKept, kept_more, left_as}
@@ -77,6 +83,20 @@ few_fed a b c xs ys rs ss h k few =
     let same = ap length fed.given ∙ one_each fed.start (xs ++ ys) in
     omega (arith, same, few)
 
+-- the machine of the core that it leaves is that of the start
+left_config : (m core : State) (a b : Replaying) (calls : List Call) (given : List Reply) → a.state ≡ Some m → b.state ≡ Some core → IsFed a b calls given → core.config ≡ m.config
+left_config m core a b calls given from to fed =
+    let same : fed.start ≡ m = some_is fed.start m (sym fed.from ∙ from) in
+    let left : core ≡ state_after m calls = some_is core (state_after m calls) (sym to ∙ fed.state ∙ ap (λ (n : State). Some (state_after n calls)) same) in
+    ap (λ (n : State). n.config) left ∙ config-after m calls
+
+-- the trace was read, and may not have its header
+pub misfed : (origin : Origin) (source : Option (List ℕ)) (form : ReplayForm) (header : Header) (expected : Expected) (first : Option (List ℕ)) (m : State) (a b : Replaying) (kept : List Call) (given : List Reply) (core : State) (wrong : HeaderFault) → a.state ≡ Some m → b.state ≡ Some core
+    → Came form header first a b kept given → IfSome source (λ text. BeginsIn origin text m expected) → IsHeaderFault core.config expected header wrong → IfSome first (λ text. IsRefusedFrom origin source text (Misplaced wrong))
+misfed origin source form header expected None m a b kept given core wrong from to h begins fault = tt
+misfed origin source form header expected (Some text) m a b kept given core wrong from to h begins fault =
+    misplaced origin source (Some text) m expected header h.0 wrong begins h.1 (subst (λ (config : Configuration). IsHeaderFault config expected header wrong) (left_config m core a b h.0 given from to h.2) fault)
+
 -- the replay is of a trace that may have the header which was read
 pub replayed : (form : ReplayForm) (header : Header) (expected : Expected) (first : Option (List ℕ)) (start : State) (a b : Replaying) (kept : List Call) (given : List Reply) (core : State) → IsLawful start → a.state ≡ Some start → b.state ≡ Some core
     → Came form header first a b kept given → MayHave core.config expected header → IfSome first (λ text. IsReplayed form start expected text kept given core)
@@ -88,7 +108,7 @@ replayed form header expected (Some text) start a b kept given core is from to h
     let promises = promises_kept start h.0 is in
     record {
       calls = h.0;
-      traced = (header, subst (λ (config : Configuration). MayHave config expected header) (ap (λ (m : State). m.config) left ∙ promises.config) may, h.1);
+      traced = (header, subst (λ (config : Configuration). MayHave config expected header) (left_config start core a b h.0 given from to fed) may, h.1);
       kept_are = h.3;
       given = fed.given ∙ ap (λ (m : State). replies_from m h.0) same;
       left = left;

@@ -12,4 +12,5 @@ mod Told
 mod Witnessed
 pub mod Sources
 pub mod Counted
+mod Placed
 mod Volumes

@@ -20,7 +20,7 @@ use Rattle.kc_trace.specs.Expected.{MayHave}
 use Rattle.kc_trace.specs.declared.volume_writer.VolumeEntry.{VolumeEntry}
 use Rattle.kc_trace.specs.declared.custody_writer.Heading.{Heading}
 use Rattle.kc_faults.specs.declared.origin.Origin.{Origin}
-use Rattle.kc_faults.specs.Origins.{BeginsIn, expected_of}
+use Rattle.kc_faults.specs.Origins.{BeginsIn}
 use Rattle.kc_texts.specs.Written.{Writes, Begins}
 use Rattle.kc_cli.specs.declared.account.Told.{Told}
 use Rattle.kc_cli.specs.declared.custody.CustodyOrder.{CustodyOrder}
@@ -173,9 +173,9 @@ pub record IsToldOf (account : CustodyAccount) (m : State) (calls : List Call) (
   pub ledger : told.ledger ≡ account.kept.ledger
 
 text_of : (order : CustodyOrder) (account : CustodyAccount) (m : State) (start : List ℕ) (sources : List (Option (List ℕ))) (texts : List (List ℕ)) (told : Told) (text : List ℕ) (h : HasTold order account m sources) → IsToldOf account m (joined h.volumes) told
-    → known sources ≡ Some texts → BeginsIn order.origin start m → account.first ≡ expected_of order.origin start → NamesStart (names_start order.scope.named) order.origin (Some start) m account.start → IsGivenOf order.scope.vm told text
+    → known sources ≡ Some texts → BeginsIn order.origin start m account.first → NamesStart (names_start order.scope.named) order.origin (Some start) m account.start → IsGivenOf order.scope.vm told text
     → IsCustodyText order.origin order.form order.scope start texts text
-text_of order account m start sources texts told text h is all begins first digest given =
+text_of order account m start sources texts told text h is all begins digest given =
     let same = known_are sources texts all in
     let calls = joined h.volumes in
     let entries = entries_in order.scope h.volumes in
@@ -188,9 +188,10 @@ text_of order account m start sources texts told text h is all begins first dige
     (rw (is.config, heading, is.listed_are ∙ ap listed h.entries, is.ledger) at spelled) in
     record {
       first = m;
+      expected = account.first;
       begins = begins;
       volumes = h.volumes;
-      traced = rw (same, first) at h.traced;
+      traced = rw same at h.traced;
       count = told.subject.answered.calls;
       refused = told.subject.answered.denials.total;
       told = notes m calls;
@@ -201,20 +202,20 @@ text_of order account m start sources texts told text h is all begins first dige
 
 -- what the sink took of it is the text of all, if they are known
 pub gives_custody : (order : CustodyOrder) (account : CustodyAccount) (m : State) (start : Option (List ℕ)) (sources : List (Option (List ℕ))) (told : Told) (old new : Option (List ℕ)) (h : HasTold order account m sources) → IsToldOf account m (joined h.volumes) told
-    → IfSome start (λ text. BeginsIn order.origin text m × (account.first ≡ expected_of order.origin text)) → NamesStart (names_start order.scope.named) order.origin start m account.start → GivesAccount account.order.scope.vm told old new → Writes (IsCustodyText order.origin order.form order.scope) start (known sources) old new
+    → IfSome start (λ text. BeginsIn order.origin text m account.first) → NamesStart (names_start order.scope.named) order.origin start m account.start → GivesAccount account.order.scope.vm told old new → Writes (IsCustodyText order.origin order.form order.scope) start (known sources) old new
 gives_custody order account m None sources told old new h is begins digest given = tt
 gives_custody order account m (Some start) sources told old new h is begins digest given =
-    by_texts (known sources) (λ texts all. text_of order account m start sources texts told given.0 h is all begins.0 begins.1 digest (subst (λ (o : CustodyOrder). IsGivenOf o.scope.vm told given.0) h.ordered given.1))
+    by_texts (known sources) (λ texts all. text_of order account m start sources texts told given.0 h is all begins digest (subst (λ (o : CustodyOrder). IsGivenOf o.scope.vm told given.0) h.ordered given.1))
   where
     by_texts : (texts : Option (List (List ℕ))) → ((some : List (List ℕ)) → texts ≡ Some some → IsCustodyText order.origin order.form order.scope start some given.0) → Writes (IsCustodyText order.origin order.form order.scope) (Some start) texts old new
     by_texts None made = tt
     by_texts (Some texts) made = (given.0, made texts refl, given.2)
 
 pub begins_custody : (order : CustodyOrder) (account : CustodyAccount) (m : State) (start : Option (List ℕ)) (sources : List (Option (List ℕ))) (told : Told) (old new : Option (List ℕ)) (h : HasTold order account m sources) → IsToldOf account m (joined h.volumes) told
-    → IfSome start (λ text. BeginsIn order.origin text m × (account.first ≡ expected_of order.origin text)) → NamesStart (names_start order.scope.named) order.origin start m account.start → BeginsAccount account.order.scope.vm told old new → Begins (IsCustodyText order.origin order.form order.scope) start (known sources) old new
+    → IfSome start (λ text. BeginsIn order.origin text m account.first) → NamesStart (names_start order.scope.named) order.origin start m account.start → BeginsAccount account.order.scope.vm told old new → Begins (IsCustodyText order.origin order.form order.scope) start (known sources) old new
 begins_custody order account m None sources told old new h is begins digest given = tt
 begins_custody order account m (Some start) sources told old new h is begins digest given =
-    by_texts (known sources) (λ texts all. text_of order account m start sources texts told given.0 h is all begins.0 begins.1 digest (subst (λ (o : CustodyOrder). IsGivenOf o.scope.vm told given.0) h.ordered given.2))
+    by_texts (known sources) (λ texts all. text_of order account m start sources texts told given.0 h is all begins digest (subst (λ (o : CustodyOrder). IsGivenOf o.scope.vm told given.0) h.ordered given.2))
   where
     by_texts : (texts : Option (List (List ℕ))) → ((some : List (List ℕ)) → texts ≡ Some some → IsCustodyText order.origin order.form order.scope start some given.0) → Begins (IsCustodyText order.origin order.form order.scope) (Some start) texts old new
     by_texts None made = tt
@@ -222,13 +223,13 @@ begins_custody order account m (Some start) sources told old new h is begins dig
 
 -- the counts are of all calls
 pub all_answered : (order : CustodyOrder) (account : CustodyAccount) (m : State) (start : Option (List ℕ)) (sources : List (Option (List ℕ))) (answered : Answered) (h : HasTold order account m sources) → answered.calls ≡ length (joined h.volumes) → answered.denials ≡ account.kept.denials
-    → IfSome start (λ text. BeginsIn order.origin text m × (account.first ≡ expected_of order.origin text)) → AreAllAnswered order.origin start (known sources) answered
+    → IfSome start (λ text. BeginsIn order.origin text m account.first) → AreAllAnswered order.origin start (known sources) answered
 all_answered order account m None sources answered h count denials begins = tt
 all_answered order account m (Some start) sources answered h count denials begins =
-    by_texts (known sources) (λ texts all. rw (known_are sources texts all, begins.1) at h.traced)
+    by_texts (known sources) (λ texts all. rw (known_are sources texts all) at h.traced)
     (answered_by m (joined h.volumes) answered count (subst (λ (counted : Denials). AreCounts (replies_from m (joined h.volumes)) counted) (sym denials)
     (h.kept.counted (let each = one_each m (joined h.volumes) in let at = h.kept.line in let short = h.kept.short in omega (arith, each, at, short)))))
   where
-    by_texts : (texts : Option (List (List ℕ))) → ((some : List (List ℕ)) → texts ≡ Some some → AreVolumes m.config (expected_of order.origin start) (map Some some) h.volumes) → IsAnsweredBy (replies_from m (joined h.volumes)) answered → AreAllAnswered order.origin (Some start) texts answered
+    by_texts : (texts : Option (List (List ℕ))) → ((some : List (List ℕ)) → texts ≡ Some some → AreVolumes m.config account.first (map Some some) h.volumes) → IsAnsweredBy (replies_from m (joined h.volumes)) answered → AreAllAnswered order.origin (Some start) texts answered
     by_texts None traced counted = tt
-    by_texts (Some texts) traced counted = (m, begins.0, h.volumes, traced texts refl, counted)
+    by_texts (Some texts) traced counted = (m, account.first, begins, h.volumes, traced texts refl, counted)

@@ -6,22 +6,24 @@ use Rattle.kc_model.specs.Next.{replies_from}
 use Rattle.kc_remarks.specs.declared.denials.Answered.{Answered}
 use Rattle.kc_remarks.specs.Denials.{IsAnsweredBy}
 use Rattle.kc_faults.specs.declared.origin.Origin.{Origin}
-use Rattle.kc_faults.specs.Origins.{BeginsIn, IsTraceFrom, expected_of}
+use Rattle.kc_faults.specs.Origins.{BeginsIn}
+use Rattle.kc_trace.specs.declared.expected.Expected.{Expected}
+use Rattle.kc_trace.specs.Expected.{IsTraceThere}
 use Rattle.kc_cli.specs.Custody.{Traced, joined, AreVolumes}
 
--- the counts are of the trace's calls, made in order from this state on, which the first text is of
-abbrev pub AreAnsweredFrom : Origin → List ℕ → State → List ℕ → Answered → Type 0
-AreAnsweredFrom origin start_text m trace_text answered = (calls : List Call) × IsTraceFrom origin start_text m trace_text calls × IsAnsweredBy (replies_from m calls) answered
+-- the counts are of the calls of a trace that may have this header, made in order from this state on
+abbrev pub AreAnsweredFrom : State → Expected → List ℕ → Answered → Type 0
+AreAnsweredFrom m expected trace_text answered = (calls : List Call) × IsTraceThere m.config expected trace_text calls × IsAnsweredBy (replies_from m calls) answered
 
 -- the same from the state that the first text is of, if both texts are known
 abbrev pub AreAnswered : Origin → Option (List ℕ) → Option (List ℕ) → Answered → Type 0
 AreAnswered origin None trace answered = Unit {0}
 AreAnswered origin (Some start) None answered = Unit {0}
-AreAnswered origin (Some start_text) (Some trace_text) answered = (m : State) × BeginsIn origin start_text m × AreAnsweredFrom origin start_text m trace_text answered
+AreAnswered origin (Some start_text) (Some trace_text) answered = (m : State) × (expected : Expected) × BeginsIn origin start_text m expected × AreAnsweredFrom m expected trace_text answered
 
 -- the same of the calls of all volumes, one after another
 abbrev pub AreAllAnswered : Origin → Option (List ℕ) → Option (List (List ℕ)) → Answered → Type 0
 AreAllAnswered origin None traces answered = Unit {0}
 AreAllAnswered origin (Some start) None answered = Unit {0}
 AreAllAnswered origin (Some start_text) (Some trace_texts) answered =
-    (m : State) × BeginsIn origin start_text m × (volumes : List Traced) × AreVolumes m.config (expected_of origin start_text) (map Some trace_texts) volumes × IsAnsweredBy (replies_from m (joined volumes)) answered
+    (m : State) × (expected : Expected) × BeginsIn origin start_text m expected × (volumes : List Traced) × AreVolumes m.config expected (map Some trace_texts) volumes × IsAnsweredBy (replies_from m (joined volumes)) answered

@@ -45,7 +45,7 @@ use Rattle.kc_faults.specs.declared.fault.TextFault.{TextFault}
 use Rattle.kc_faults.specs.declared.fault.TextFault.TheVariants as texts
 use Rattle.kc_faults.specs.declared.origin.Origin.{Origin}
 use Rattle.kc_faults.specs.declared.origin.Origin.TheVariants as origins
-use Rattle.kc_faults.specs.Origins.{BeginsIn, expected_of}
+use Rattle.kc_faults.specs.Origins.{BeginsIn}
 use Rattle.kc_cli.specs.declared.account.CustodyForm.{CustodyForm}
 use Rattle.kc_cli.specs.declared.account.CustodyForm.TheVariants.{Changes, Summary, Picture, Html}
 use Rattle.kc_cli.specs.declared.account.Named.{Named}
@@ -191,9 +191,10 @@ IsMadeBlind origin form scope start m volumes count refused text =
 -- the text is made of the notes on all calls of the volumes, and shows nothing of what guests wrote
 pub record IsCustodyText (origin : Origin) (form : CustodyForm) (scope : Scope) (start : List ℕ) (traces : List (List ℕ)) (text : List ℕ) : Type 0 where
   pub first : State
-  pub begins : BeginsIn origin start first
+  pub expected : Expected
+  pub begins : BeginsIn origin start first expected
   pub volumes : List Traced
-  pub traced : AreVolumes first.config (expected_of origin start) (map Some traces) volumes
+  pub traced : AreVolumes first.config expected (map Some traces) volumes
   pub count : ℕ
   pub refused : ℕ
   pub told : List Note
@@ -203,10 +204,10 @@ pub record IsCustodyText (origin : Origin) (form : CustodyForm) (scope : Scope) 
 
 -- the machine that calls begin on has the slot of this number, or has not
 abbrev pub HasSlot : Origin → List ℕ → ℕ → Type 0
-HasSlot origin text number = (m : State) × BeginsIn origin text m × (number < slot_count m.config)
+HasSlot origin text number = (m : State) × (expected : Expected) × BeginsIn origin text m expected × (number < slot_count m.config)
 
 abbrev pub LacksSlot : Origin → List ℕ → ℕ → Type 0
-LacksSlot origin text number = (m : State) × BeginsIn origin text m × (slot_count m.config ≤ number)
+LacksSlot origin text number = (m : State) × (expected : Expected) × BeginsIn origin text m expected × (slot_count m.config ≤ number)
 
 -- what an account of custody, of one slot if it is named, may be refused for after this start
 pub record TellsCustody {A : Type 0} (slot : Option ℕ) (origin : Origin) (start : Option (List ℕ)) (unread : Type 0) (result : Result A TextFault) : Type 0 where

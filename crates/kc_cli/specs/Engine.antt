@@ -19,7 +19,7 @@ use Rattle.kc_state_text.specs.Differences.{IsDifference}
 use Rattle.kc_state_text.specs.declared.fault.StateFault.{StateFault}
 use Rattle.kc_state_text.specs.declared.fault.StateFault.TheVariants as states
 use Rattle.kc_faults.specs.declared.origin.Origin.{Origin}
-use Rattle.kc_faults.specs.Origins.{BeginsIn, IsTraceFrom, expected_of}
+use Rattle.kc_faults.specs.Origins.{BeginsIn}
 use Rattle.kc_faults.specs.Outcomes.{IsTold}
 use Rattle.kc_cli.specs.declared.order.ReplayForm.{ReplayForm}
 use Rattle.kc_cli.specs.declared.order.ReplayForm.TheVariants as forms
@@ -71,7 +71,7 @@ pub record IsReplayed (form : ReplayForm) (start : State) (expected : Expected) 
 abbrev pub AreReplayed : Origin → ReplayForm → Option (List ℕ) → Option (List ℕ) → List Call → List Reply → State → Type 0
 AreReplayed origin form None trace kept replies core = Unit {0}
 AreReplayed origin form (Some start) None kept replies core = Unit {0}
-AreReplayed origin form (Some start_text) (Some trace_text) kept replies core = (start : State) × BeginsIn origin start_text start × IsReplayed form start (expected_of origin start_text) trace_text kept replies core
+AreReplayed origin form (Some start_text) (Some trace_text) kept replies core = (start : State) × (expected : Expected) × BeginsIn origin start_text start expected × IsReplayed form start expected trace_text kept replies core
 
 -- what is written of calls, their replies and the state after them
 abbrev pub written_text : ReplayForm → List Call → List Reply → State → List ℕ
@@ -83,9 +83,10 @@ written_text forms.State calls replies m = state_text m
 -- the text is made of the trace's calls, of the replies of one thread, which takes the trace's calls in order from the state that the first text is of, and of the state that it leaves, with the pages of active VMs zeroed if asked for; the calls keep the promises, and an audit finds nothing in that state
 pub record IsReplayText (origin : Origin) (form : ReplayForm) (blank : Bool) (start_text trace_text text : List ℕ) : Type 0 where
   pub start : State
+  pub expected : Expected
   pub calls : List Call
-  pub begins : BeginsIn origin start_text start
-  pub traced : IsTraceFrom origin start_text start trace_text calls
+  pub begins : BeginsIn origin start_text start expected
+  pub traced : IsTraceThere start.config expected trace_text calls
   pub promises : KeepsPromises start calls
   pub sound : IsSound (dump_of (left_as blank (state_after start calls)))
   pub written : text ≡ written_text form calls (replies_from start calls) (left_as blank (state_after start calls))
@@ -96,4 +97,4 @@ DiffersFromLeft origin blank None trace to line = Unit {0}
 DiffersFromLeft origin blank (Some start_text) None to line = Unit {0}
 DiffersFromLeft origin blank (Some start_text) (Some trace_text) None line = Unit {0}
 DiffersFromLeft origin blank (Some start_text) (Some trace_text) (Some text) line =
-    (start : State) × (calls : List Call) × BeginsIn origin start_text start × IsTraceFrom origin start_text start trace_text calls × IsDifference line text (state_text (left_as blank (state_after start calls)))
+    (start : State) × (expected : Expected) × (calls : List Call) × BeginsIn origin start_text start expected × IsTraceThere start.config expected trace_text calls × IsDifference line text (state_text (left_as blank (state_after start calls)))

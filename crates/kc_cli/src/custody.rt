@@ -8,7 +8,7 @@ ghost use Rattle.kc_trace.specs.declared.fault.TraceFault.{TraceFault};
 ghost use Rattle.kc_trace.specs.Expected.{IsRefusedThere};
 ghost use Rattle.kc_texts.specs.Ends.{Seen, ReadFailed, seen};
 ghost use Rattle.kc_texts.specs.Written.{Writes, Begins};
-ghost use Rattle.kc_faults.specs.Origins.{BeginsIn, expected_of};
+ghost use Rattle.kc_faults.specs.Origins.{BeginsIn};
 ghost use Rattle.kc_faults.specs.Outcomes.{TellsSources, TellsTexts, TellsSink};
 ghost use Rattle.kc_cli.specs.Engine.{IsReplayFault};
 ghost use Rattle.kc_cli.specs.Custody.{IsCustodyText, TellsCustody, NamesStart, names_start, listed, trace_digest};
@@ -175,11 +175,9 @@ impl CustodyAccount {
     ) -> Result<CustodyAccount, TextFault>
         requires { C.failed start.old ≡ false }
         ensures ok { IfOk result (λ account. (m : State)
-            × IfSome (C.left start.old) (λ text. BeginsIn order.origin text m)
+            × IfSome (C.left start.old) (λ text. BeginsIn order.origin text m account.first)
             × NamesStart (names_start order.scope.named) order.origin (C.left start.old) m account.start
             × HasTold order account m []) }
-        ensures first { IfOk result
-            (λ account. IfSome (C.left start.old) (λ text. account.first ≡ expected_of order.origin text)) }
         ensures sources { TellsSources (seen C.failed C.left start.old start.new ∷ []) result }
         ensures texts { (trace : Seen)
             → TellsTexts order.origin (seen C.failed C.left start.old start.new) trace (Unit {0}) result }
@@ -281,17 +279,17 @@ impl CustodyAccount {
             × HasTold order self m sources }
         ensures answered { (order : CustodyOrder) (m : State) (start : Option (List ℕ))
             (sources : List (Option (List ℕ))) → HasTold order self m sources
-            → IfSome start (λ text. BeginsIn order.origin text m × (self.first ≡ expected_of order.origin text))
+            → IfSome start (λ text. BeginsIn order.origin text m self.first)
             → IfOk result (AreAllAnswered order.origin start (known sources)) }
         ensures ok { (order : CustodyOrder) (m : State) (start : Option (List ℕ))
             (sources : List (Option (List ℕ))) → HasTold order self m sources
-            → IfSome start (λ text. BeginsIn order.origin text m × (self.first ≡ expected_of order.origin text))
+            → IfSome start (λ text. BeginsIn order.origin text m self.first)
             → NamesStart (names_start order.scope.named) order.origin start m self.start
             → OnOk result (Writes (IsCustodyText order.origin order.form order.scope) start (known sources)
             (K.taken out.old) (K.taken out.new)) }
         ensures sink { (order : CustodyOrder) (m : State) (start : Option (List ℕ))
             (sources : List (Option (List ℕ))) → HasTold order self m sources
-            → IfSome start (λ text. BeginsIn order.origin text m × (self.first ≡ expected_of order.origin text))
+            → IfSome start (λ text. BeginsIn order.origin text m self.first)
             → NamesStart (names_start order.scope.named) order.origin start m self.start
             → TellsSink (K.failed out.new) (Begins (IsCustodyText order.origin order.form order.scope) start
             (known sources) (K.taken out.old) (K.taken out.new)) (out.new ≡ out.old) result }

@@ -11,6 +11,7 @@ ghost use Rattle.kc_faults.specs.Outcomes.{IsReadingFault, IsConfigFault, TellsS
 use kc_config_text::read_config;
 use kc_faults::{Origin, TextFault};
 use kc_texts::{Source, read_whole, read_whole_trace};
+use kc_trace::{Expected, TraceFault};
 use kc_types::{Call, Config};
 use std::alloc::Global;
 
@@ -37,7 +38,8 @@ pub fn read_configuration<C: Source>(alloc: Global, source: &mut C) -> Result<Co
     Ok(config)
 }
 
-/// Reads a configuration and then a trace, each to its end; the trace only if the configuration is accepted.
+/// Reads a configuration and then a trace of calls that go on from its boot state, each to its end; the trace only if
+/// the configuration is accepted.
 pub fn read_both<C: Source, T: Source>(
     alloc: Global,
     config: &mut C,
@@ -54,6 +56,9 @@ pub fn read_both<C: Source, T: Source>(
     ensures fault { IfErr result IsReadingFault }
 {
     let config = read_configuration(alloc, config)?;
-    let calls = read_whole_trace(alloc, trace)?.calls;
-    Ok((config, calls))
+    let read = read_whole_trace(alloc, trace)?;
+    if let Some(wrong) = Expected::First.fault(&config, &read.header) {
+        return Err(TextFault::Trace(TraceFault::Misplaced(wrong)));
+    }
+    Ok((config, read.calls))
 }

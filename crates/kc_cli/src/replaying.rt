@@ -4,9 +4,7 @@ ghost use Rattle.std.specs.Io.KnownBytes.{IsAtEnd};
 ghost use Rattle.kc_types.specs.Limits.{call_limit};
 ghost use Rattle.kc_types.specs.declared.call.Call.{Call};
 ghost use Rattle.kc_trace.specs.declared.fault.TraceFault.{TraceFault};
-ghost use Rattle.kc_trace.specs.declared.expected.HeaderFault.{HeaderFault};
 ghost use Rattle.kc_trace.specs.Trace.{IsTraceUnder, IsRefused};
-ghost use Rattle.kc_trace.specs.Expected.{MayHave, IsHeaderFault};
 ghost use Rattle.kc_state_text.specs.StateText.{state_text};
 ghost use Rattle.kc_state_text.specs.Differences.{IsDifference};
 ghost use Rattle.kc_texts.specs.Ends.{ReadFailed, seen};
@@ -26,7 +24,7 @@ use kc_remarks::Answered;
 use kc_replay::{OpenGate, ReplayFault, Replayer};
 use kc_state_text::difference_from_state;
 use kc_texts::{CallStream, PIECE, Sink, Source, read_secret};
-use kc_trace::{Expected, Header, TraceFault};
+use kc_trace::{Header, TraceFault};
 use kc_types::{Call, Memory, Reply, WORKER_LIMIT};
 use std::alloc::Global;
 use std::sync::Wait;
@@ -114,27 +112,6 @@ fn wipe_left(rt: &(impl Threads + Sync), replayer: Replayer) {
     }
 }
 
-/// The replay, if its trace may have this header there; otherwise the core is wiped.
-fn placed(
-    rt: &(impl Threads + Sync),
-    expected: Expected,
-    header: &Header,
-    made: Replayed,
-) -> Result<Replayed, TextFault>
-    ensures ok { IfOk result (λ same. (same ≡ made) × MayHave made.core.config expected header.now) }
-    ensures fault { IfErr result (λ fault. (wrong : HeaderFault) × (fault ≡ TextFault.Trace (TraceFault.Misplaced wrong))
-        × IsHeaderFault made.core.config expected header.now wrong) }
-{
-    match expected.fault(made.core.config(), header) {
-        None => Ok(made),
-        Some(wrong) => {
-            let mut core = made.core;
-            core.wipe(rt);
-            Err(TextFault::Trace(TraceFault::Misplaced(wrong)))
-        },
-    }
-}
-
 /// Reads what the calls begin with to its end and a trace as it is replayed by this many workers, and returns the
 /// replies and the core. The number of workers, 1 to 64, is judged before anything is read. If there is no outcome, the
 /// core is wiped.
@@ -176,13 +153,17 @@ fn replay_texts<C: Source, T: Source, R: Threads + Wait + Sync>(
             let Ok(core) = replayer.finish() else {
                 return Err(TextFault::Memory);
             };
-            let made = Replayed {
+            if let Some(wrong) = expected.fault(core.config(), &header) {
+                let mut core = core;
+                core.wipe(rt);
+                return Err(TextFault::Trace(TraceFault::Misplaced(wrong)));
+            }
+            Ok(Replayed {
                 calls,
                 replies,
                 answered,
                 core,
-            };
-            placed(rt, expected, &header, made)
+            })
         },
         Err(fault) => {
             wipe_left(rt, replayer);

@@ -6,9 +6,9 @@ ghost use Rattle.kc_types.specs.Limits.{byte_limit};
 ghost use Rattle.kc_model.specs.Lawful.{IsLawful};
 ghost use Rattle.kc_config_text.specs.ConfigText.{config_in};
 ghost use Rattle.kc_config_text.specs.declared.config_text.ConfigTextFault.{ConfigTextFault};
-ghost use Rattle.kc_state_text.specs.Refused.{IsRefusedState};
+ghost use Rattle.kc_state_text.specs.Refused.{IsRefusedPlaced};
 ghost use Rattle.kc_texts.specs.Ends.{ReadFailed};
-ghost use Rattle.kc_faults.specs.Origins.{BeginsIn, expected_of};
+ghost use Rattle.kc_faults.specs.Origins.{BeginsIn, expected_at};
 ghost use Rattle.kc_faults.specs.Outcomes.{IsConfigFault, IsStartFault};
 ghost use Rattle.kc_cli.specs.Engine.{IsStateFault};
 ghost use Rattle.kc_cli.specs.Custody.{NamesStart};
@@ -20,7 +20,7 @@ use kc_dumping::StateForm;
 use kc_faults::{Origin, TextFault};
 use kc_state_text::{StateFault, read_state, state_digest};
 use kc_texts::{Source, read_secret, read_whole};
-use kc_trace::Expected;
+use kc_trace::{Expected, Position};
 use sha2::{Digest, Sha256};
 use std::alloc::Global;
 use std::thread::Threads;
@@ -70,7 +70,7 @@ fn blank_digest(alloc: Global, core: &KCore, is_named: bool) -> Result<Option<[u
 
 /// The core in the boot state of a configuration.
 fn boot_of(alloc: Global, text: &[u8]) -> Result<KCore, TextFault>
-    ensures ok { IfOk result (λ core. BeginsIn Origin.Boot text.now core) }
+    ensures ok { IfOk result (λ core. BeginsIn Origin.Boot text.now core Expected.First) }
     ensures lawful { IfOk result IsLawful }
     ensures config { (fault : ConfigTextFault) → result ≡ Err (TextFault.Config fault)
         → config_in text.now ≡ Err fault }
@@ -87,9 +87,8 @@ fn boot_of(alloc: Global, text: &[u8]) -> Result<KCore, TextFault>
 /// Reads a configuration to its end: the core in its boot state.
 fn boot_core<C: Source>(alloc: Global, start: &mut C, is_named: bool) -> Result<Begun, TextFault>
     requires { C.failed start.old ≡ false }
-    ensures ok { IfOk result (λ begun. IfSome (C.left start.old) (λ text. BeginsIn Origin.Boot text begun.core)) }
-    ensures expected { IfOk result
-        (λ begun. IfSome (C.left start.old) (λ text. begun.expected ≡ expected_of Origin.Boot text)) }
+    ensures ok { IfOk result
+        (λ begun. IfSome (C.left start.old) (λ text. BeginsIn Origin.Boot text begun.core begun.expected)) }
     ensures digest { IfOk result
         (λ begun. NamesStart is_named Origin.Boot (C.left start.old) begun.core begun.digest) }
     ensures lawful { IfOk result (λ begun. IsLawful begun.core) }
@@ -111,24 +110,34 @@ fn boot_core<C: Source>(alloc: Global, start: &mut C, is_named: bool) -> Result<
     })
 }
 
-/// The core in the state of a text. A text with a position is refused as one without a header.
-fn core_in(
+/// The header that the trace may have which goes on from a state with this position.
+fn expected_at(position: Option<Position>) -> Expected
+    ensures { result ≡ expected_at position }
+{
+    match position {
+        None => Expected::Bare,
+        Some(position) => Expected::At(position),
+    }
+}
+
+/// The core in the state of a text, and which header the trace may have that goes on from it.
+fn start_in(
     rt: &(impl Threads + Sync),
     alloc: Global,
     text: &[u8],
     lanes: Lanes,
-) -> Result<KCore, TextFault>
+) -> Result<Start, TextFault>
     requires { length text.now ≤ byte_limit }
-    ensures ok { IfOk result (λ core. BeginsIn Origin.State text.now core) }
-    ensures lawful { IfOk result IsLawful }
-    ensures state { (fault : StateFault) → result ≡ Err (TextFault.State fault) → IsRefusedState text.now fault }
+    ensures ok { IfOk result (λ start. BeginsIn Origin.State text.now start.core start.expected) }
+    ensures lawful { IfOk result (λ start. IsLawful start.core) }
+    ensures state { (fault : StateFault) → result ≡ Err (TextFault.State fault) → IsRefusedPlaced text.now fault }
     ensures fault { IfErr result IsStateFault }
 {
     let read = read_state(rt, alloc, text, lanes)?;
-    if read.position.is_some() {
-        return Err(TextFault::State(StateFault::NoHeader));
-    }
-    Ok(read.core)
+    Ok(Start {
+        core: read.core,
+        expected: expected_at(read.position),
+    })
 }
 
 /// Reads the text of a state to its end: the core in that state.
@@ -140,29 +149,28 @@ fn read_core<C: Source>(
     is_named: bool,
 ) -> Result<Begun, TextFault>
     requires { C.failed start.old ≡ false }
-    ensures ok { IfOk result (λ begun. IfSome (C.left start.old) (λ text. BeginsIn Origin.State text begun.core)) }
-    ensures expected { IfOk result
-        (λ begun. IfSome (C.left start.old) (λ text. begun.expected ≡ expected_of Origin.State text)) }
+    ensures ok { IfOk result
+        (λ begun. IfSome (C.left start.old) (λ text. BeginsIn Origin.State text begun.core begun.expected)) }
     ensures digest { IfOk result
         (λ begun. NamesStart is_named Origin.State (C.left start.old) begun.core begun.digest) }
     ensures lawful { IfOk result (λ begun. IsLawful begun.core) }
     ensures ended { OnOk result (IsAtEnd (C.left start.new)) }
     ensures mark { OnOk result (C.failed start.new ≡ false) }
     ensures state { (fault : StateFault) → result ≡ Err (TextFault.State fault)
-        → IfSome (C.left start.old) (λ text. IsRefusedState text fault) × IsAtEnd (C.left start.new) }
+        → IfSome (C.left start.old) (λ text. IsRefusedPlaced text fault) × IsAtEnd (C.left start.new) }
     ensures read { result ≡ Err TextFault.Read → ReadFailed (C.failed start.new) (C.left start.old) (C.left start.new) }
     ensures source { C.failed start.new ≡ true → result ≡ Err TextFault.Read }
     ensures fault { IfErr result IsStartFault }
     ensures config { (fault : ConfigTextFault) → result ≡ Err (TextFault.Config fault) → ⊥ }
 {
     let text = read_secret(alloc, start)?;
-    let core = core_in(rt, alloc, text.as_slice(), lanes)?;
+    let Start { core, expected } = start_in(rt, alloc, text.as_slice(), lanes)?;
     // (its memory is given back before the state is hashed)
     let _wiped = text;
     let digest = blank_digest(alloc, &core, is_named)?;
     Ok(Begun {
         core,
-        expected: Expected::Bare,
+        expected,
         digest,
     })
 }
@@ -179,9 +187,8 @@ pub(crate) fn begin<C: Source>(
     is_named: bool,
 ) -> Result<Begun, TextFault>
     requires { C.failed start.old ≡ false }
-    ensures ok { IfOk result (λ begun. IfSome (C.left start.old) (λ text. BeginsIn origin text begun.core)) }
-    ensures expected { IfOk result
-        (λ begun. IfSome (C.left start.old) (λ text. begun.expected ≡ expected_of origin text)) }
+    ensures ok { IfOk result
+        (λ begun. IfSome (C.left start.old) (λ text. BeginsIn origin text begun.core begun.expected)) }
     ensures digest { IfOk result
         (λ begun. NamesStart is_named origin (C.left start.old) begun.core begun.digest) }
     ensures lawful { IfOk result (λ begun. IsLawful begun.core) }
@@ -191,7 +198,7 @@ pub(crate) fn begin<C: Source>(
     ensures config { (fault : ConfigTextFault) → result ≡ Err (TextFault.Config fault) → (origin ≡ Origin.Boot)
         × IfSome (C.left start.old) (λ text. config_in text ≡ Err fault) × IsAtEnd (C.left start.new) }
     ensures state { (fault : StateFault) → result ≡ Err (TextFault.State fault) → (origin ≡ Origin.State)
-        × IfSome (C.left start.old) (λ text. IsRefusedState text fault) × IsAtEnd (C.left start.new) }
+        × IfSome (C.left start.old) (λ text. IsRefusedPlaced text fault) × IsAtEnd (C.left start.new) }
     ensures read { result ≡ Err TextFault.Read → ReadFailed (C.failed start.new) (C.left start.old) (C.left start.new) }
     ensures source { C.failed start.new ≡ true → result ≡ Err TextFault.Read }
     ensures fault { IfErr result IsStartFault }
@@ -211,9 +218,8 @@ pub fn read_start<C: Source>(
     lanes: Lanes,
 ) -> Result<Start, TextFault>
     requires { C.failed start.old ≡ false }
-    ensures ok { IfOk result (λ begun. IfSome (C.left start.old) (λ text. BeginsIn origin text begun.core)) }
-    ensures expected { IfOk result
-        (λ begun. IfSome (C.left start.old) (λ text. begun.expected ≡ expected_of origin text)) }
+    ensures ok { IfOk result
+        (λ begun. IfSome (C.left start.old) (λ text. BeginsIn origin text begun.core begun.expected)) }
     ensures lawful { IfOk result (λ begun. IsLawful begun.core) }
     ensures ended { OnOk result (IsAtEnd (C.left start.new)) }
     ensures mark { OnOk result (C.failed start.new ≡ false) }
@@ -221,7 +227,7 @@ pub fn read_start<C: Source>(
     ensures config { (fault : ConfigTextFault) → result ≡ Err (TextFault.Config fault) → (origin ≡ Origin.Boot)
         × IfSome (C.left start.old) (λ text. config_in text ≡ Err fault) × IsAtEnd (C.left start.new) }
     ensures state { (fault : StateFault) → result ≡ Err (TextFault.State fault) → (origin ≡ Origin.State)
-        × IfSome (C.left start.old) (λ text. IsRefusedState text fault) × IsAtEnd (C.left start.new) }
+        × IfSome (C.left start.old) (λ text. IsRefusedPlaced text fault) × IsAtEnd (C.left start.new) }
     ensures read { result ≡ Err TextFault.Read → ReadFailed (C.failed start.new) (C.left start.old) (C.left start.new) }
     ensures source { C.failed start.new ≡ true → result ≡ Err TextFault.Read }
     ensures fault { IfErr result IsStartFault }

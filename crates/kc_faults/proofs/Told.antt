@@ -1,17 +1,20 @@
 -- What is reported of the ends stays true in the last step of an engine.
-use Rattle.std.proofs.Common.{◌≡◌, ◌≢◌, ◌⊎◌, ℕ, Bool, true, List, Option, Some, None, Result, Ok, Err, inl, inr, refl}
+use Rattle.std.proofs.Common.{◌≡◌, ◌≢◌, ◌⊎◌, ℕ, Bool, true, List, Option, Some, None, Result, Ok, Err, inl, inr, refl, subst}
 use Rattle.std.specs.Prelude.{IfErr, IfSome, is_err, OnErr}
 use Rattle.std.specs.Io.KnownBytes.{IsAtEnd}
 use Rattle.kc_config_text.specs.declared.config_text.ConfigTextFault.{ConfigTextFault}
 use Rattle.kc_trace.specs.declared.fault.TraceFault.{TraceFault}
 use Rattle.kc_trace.specs.declared.fault.TraceFault.TheVariants.{NoHeader, BadLine, NoNewline, TooManyCalls, Misplaced, Memory}
 use Rattle.kc_trace.specs.Trace.{IsRefused}
+use Rattle.kc_trace.specs.declared.expected.Expected.{Expected}
+use Rattle.kc_trace.specs.declared.expected.HeaderFault.{HeaderFault}
+use Rattle.kc_trace.specs.declared.expected.Expected.TheVariants.{First}
 use Rattle.kc_types.specs.Configuration.{Configuration}
 use Rattle.kc_config_text.specs.ConfigText.{config_in}
 use Rattle.kc_model.specs.State.{State}
 use Rattle.kc_model.specs.Boot.{boot}
 use Rattle.kc_state_text.specs.declared.fault.StateFault.{StateFault}
-use Rattle.kc_state_text.specs.Refused.{IsRefusedState}
+use Rattle.kc_state_text.specs.Refused.{IsRefusedPlaced}
 use Rattle.kc_faults.specs.declared.origin.Origin.{Origin}
 use Rattle.kc_faults.specs.declared.origin.Origin.TheVariants as origins
 use Rattle.kc_faults.specs.Origins.{BeginsIn, IsBegun, IsRefusedFrom}
@@ -67,22 +70,22 @@ pub sink_more : {A : Type 0} (failed : Bool) (begun more untouched : Type 0) (re
 sink_more failed begun more untouched result step h = record { write = λ e. let one = h.write e in (one.0, step one.1); failed_is = h.failed_is; kept = h.kept }
 
 -- a source that reports its text reports a start
-pub begun_is : (origin : Origin) (had : Option (List ℕ)) (m : State) → IfSome had (λ text. BeginsIn origin text m) → IsBegun origin had
-begun_is origin None m h = tt
-begun_is origin (Some text) m h = (m, h)
+pub begun_is : (origin : Origin) (had : Option (List ℕ)) (m : State) (expected : Expected) → IfSome had (λ text. BeginsIn origin text m expected) → IsBegun origin had
+begun_is origin None m expected h = tt
+begun_is origin (Some text) m expected h = (m, expected, h)
 
 -- that of a configuration is its boot state
-pub boots : (had : Option (List ℕ)) (config : Configuration) → IfSome had (λ text. config_in text ≡ Ok config) → IfSome had (λ text. BeginsIn origins.Boot text (boot config))
+pub boots : (had : Option (List ℕ)) (config : Configuration) → IfSome had (λ text. config_in text ≡ Ok config) → IfSome had (λ text. BeginsIn origins.Boot text (boot config) First)
 boots None config h = tt
-boots (Some text) config h = (config, h, refl)
+boots (Some text) config h = (config, h, refl, refl)
 
 -- both were read
-pub texts_ok : {A : Type 0} (origin : Origin) (start trace : Seen) (unread : Type 0) (m : State) (x : A) → IfSome start.had (λ text. BeginsIn origin text m) → TellsTexts origin start trace unread (Ok x)
-texts_ok origin start trace unread m x known = record { config_fault = λ f e. absurd cc; state_fault = λ f e. absurd cc; trace_fault = λ f e. absurd cc; after_start = inr (begun_is origin start.had m known); begun = λ f e. absurd cc; told = tt }
+pub texts_ok : {A : Type 0} (origin : Origin) (start trace : Seen) (unread : Type 0) (m : State) (expected : Expected) (x : A) → IfSome start.had (λ text. BeginsIn origin text m expected) → TellsTexts origin start trace unread (Ok x)
+texts_ok origin start trace unread m expected x known = record { config_fault = λ f e. absurd cc; state_fault = λ f e. absurd cc; trace_fault = λ f e. absurd cc; after_start = inr (begun_is origin start.had m expected known); begun = λ f e. absurd cc; told = tt }
 
 -- what the calls begin with was refused
 pub texts_start : {A : Type 0} (origin : Origin) (start trace : Seen) (unread : Type 0) (f : TextFault) → ((said : ConfigTextFault) → f ≡ texts.Config said → (origin ≡ origins.Boot) × IfSome start.had (λ text. config_in text ≡ Err said) × IsAtEnd start.has)
-    → ((said : StateFault) → f ≡ texts.State said → (origin ≡ origins.State) × IfSome start.had (λ text. IsRefusedState text said) × IsAtEnd start.has) → IsStartFault f → unread → TellsTexts {A = A} origin start trace unread (Err f)
+    → ((said : StateFault) → f ≡ texts.State said → (origin ≡ origins.State) × IfSome start.had (λ text. IsRefusedPlaced text said) × IsAtEnd start.has) → IsStartFault f → unread → TellsTexts {A = A} origin start trace unread (Err f)
 texts_start origin start trace unread f config state fault none = record {
   config_fault = λ said e. let is = config said (let same : f ≡ texts.Config said = cc in same) in (is.0, is.1, is.2, none);
   state_fault = λ said e. let is = state said (let same : f ≡ texts.State said = cc in same) in (is.0, is.1, is.2, none);
@@ -106,16 +109,24 @@ known_refused origin start None fault h = tt
 known_refused origin start (Some text) fault h = refused_from origin start text fault h
 
 -- the trace was refused, after a start
-pub texts_trace : {A : Type 0} (origin : Origin) (start trace : Seen) (unread : Type 0) (m : State) (f : TextFault) → IfSome start.had (λ text. BeginsIn origin text m) → ((said : TraceFault) → f ≡ texts.Trace said → IfSome trace.had (λ text. IsRefusedFrom origin start.had text said) × IsAtEnd trace.has)
+pub texts_trace : {A : Type 0} (origin : Origin) (start trace : Seen) (unread : Type 0) (m : State) (expected : Expected) (f : TextFault) → IfSome start.had (λ text. BeginsIn origin text m expected) → ((said : TraceFault) → f ≡ texts.Trace said → IfSome trace.had (λ text. IsRefusedFrom origin start.had text said) × IsAtEnd trace.has)
     → ((said : ConfigTextFault) → f ≢ texts.Config said) → ((said : StateFault) → f ≢ texts.State said) → IsTold f → TellsTexts {A = A} origin start trace unread (Err f)
-texts_trace origin start trace unread m f known refused config state told = record {
+texts_trace origin start trace unread m expected f known refused config state told = record {
   config_fault = λ said e. absurd (config said (let same : f ≡ texts.Config said = cc in same));
   state_fault = λ said e. absurd (state said (let same : f ≡ texts.State said = cc in same));
   trace_fault = λ said e. refused said (let same : f ≡ texts.Trace said = cc in same);
-  after_start = inr (begun_is origin start.had m known);
-  begun = λ said e. begun_is origin start.had m known;
+  after_start = inr (begun_is origin start.had m expected known);
+  begun = λ said e. begun_is origin start.had m expected known;
   told = told;
 }
+
+-- all was read, and the trace's header may not be there
+pub texts_misplaced : {A : Type 0} (origin : Origin) (start trace : Seen) (unread : Type 0) (m : State) (expected : Expected) (wrong : HeaderFault) → IfSome start.had (λ text. BeginsIn origin text m expected) → IfSome trace.had (λ text. IsRefusedFrom origin start.had text (Misplaced wrong)) → IsAtEnd trace.has
+    → TellsTexts {A = A} origin start trace unread (Err (texts.Trace (Misplaced wrong)))
+texts_misplaced origin start trace unread m expected wrong known refused ended =
+    texts_trace origin start trace unread m expected (texts.Trace (Misplaced wrong)) known
+    (λ said same. let is : Misplaced wrong ≡ said = cc in (subst (λ (fault : TraceFault). IfSome trace.had (λ text. IsRefusedFrom origin start.had text fault)) is refused, ended))
+    (λ said e. cc) (λ said e. cc) (λ e. cc, λ e. cc, λ e. cc, λ d e. cc)
 
 pub on_err : {T E P : Type 0} (r : Result T E) → is_err r ≡ true → OnErr r P → P
 on_err (Ok x) e h = cc

@@ -12,7 +12,7 @@ use Rattle.kc_config_text.specs.ConfigText.{config_in}
 use Rattle.kc_texts.specs.Ends.{Seen, HasFailedRead, HasFailed}
 use Rattle.kc_state_text.specs.declared.fault.StateFault.{StateFault}
 use Rattle.kc_state_text.specs.declared.fault.StateFault.TheVariants as states
-use Rattle.kc_state_text.specs.Refused.{IsRefusedState}
+use Rattle.kc_state_text.specs.Refused.{IsRefusedPlaced}
 use Rattle.kc_faults.specs.declared.origin.Origin.{Origin}
 use Rattle.kc_faults.specs.declared.origin.Origin.TheVariants as origins
 use Rattle.kc_faults.specs.Origins.{IsBegun, IsRefusedFrom}
@@ -54,7 +54,7 @@ pub record TellsSources {A : Type 0} (sources : List Seen) (result : Result A Te
 pub record TellsTexts {A : Type 0} (origin : Origin) (start trace : Seen) (unread : Type 0) (result : Result A TextFault) : Type 0 where
   -- the fault of a text is that of all the bytes that its source held, read as what the origin says that they are
   pub config_fault : (fault : ConfigTextFault) → result ≡ Err (texts.Config fault) → (origin ≡ origins.Boot) × IfSome start.had (λ text. config_in text ≡ Err fault) × IsAtEnd start.has × unread
-  pub state_fault : (fault : StateFault) → result ≡ Err (texts.State fault) → (origin ≡ origins.State) × IfSome start.had (λ text. IsRefusedState text fault) × IsAtEnd start.has × unread
+  pub state_fault : (fault : StateFault) → result ≡ Err (texts.State fault) → (origin ≡ origins.State) × IfSome start.had (λ text. IsRefusedPlaced text fault) × IsAtEnd start.has × unread
   pub trace_fault : (fault : TraceFault) → result ≡ Err (texts.Trace fault) → IfSome trace.had (λ text. IsRefusedFrom origin start.had text fault) × IsAtEnd trace.has
   -- the trace is read and judged only after a start
   pub after_start : unread ⊎ IsBegun origin start.had

@@ -110,7 +110,6 @@ impl Position {
             Position::Later { number, .. } => number,
         }
     }
-
 }
 
 /// What is wrong with a position that is to be this one.

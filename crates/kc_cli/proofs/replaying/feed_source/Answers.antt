@@ -38,7 +38,7 @@ returns-in-Ok-finish-clause-ok g c =
     let fed = rw c.deref.ensures.value at c.in-Ok.ensures.fed in
     let grown : c.append.new.self.items ≡ c.loop-replies.replies.items ++ c.in-Ok.more.items = search rules in
     let traced = c.in-Ok-finish.ensures.ok _ _ _ _ more.1 (c.in_ok-part.ensures.last c.if-part.true) in
-    calls_known _ _ _ _ (before.1 ++ c.in_ok-part.part.calls.items) _ _ traced (rw grown (fed_more _ _ _ before.1 c.in_ok-part.part.calls.items _ _ before.3 fed))
+    calls_known _ _ _ _ _ (before.1 ++ c.in_ok-part.part.calls.items) _ _ traced (rw grown (fed_more _ _ _ before.1 c.in_ok-part.part.calls.items _ _ before.3 fed))
     (rw c.in-Ok-keep.ensures (still_kept c.args.form c.loop-replies.calls.items before.1 c.in_ok-part.part.calls.items before.4))
 
 pub returns-in-Ok-finish-clause-few : goal.returns-in-Ok-finish-clause-few

@@ -12,10 +12,11 @@ use Rattle.kc_cli.proofs.telling.Kept.tell.Given as goal
 abbrev pub invariant-loop-witness : goal.invariant-loop-witness
 invariant-loop-witness g l = record {
   read : (bytes : List ℕ) × (calls : List Call) × HasRead l.stream bytes calls (g.T.Source.left l.fn.trace) (g.T.Source.left l.trace)
-      × (l.self.line ≡ l.fn.self.line + length calls) × (l.self.denials.total ≤ l.fn.self.denials.total + length calls) × HasWitnessed l.is_named l.witness calls
+      × (l.self.line ≡ l.fn.self.line + length calls) × (l.self.denials.total ≤ l.fn.self.denials.total + length calls) × HasWitnessed l.is_named l.stream.reader.progress.header l.witness calls
       × ((form : CustodyForm) (start : State) (before : List Call) → IsLawful start → HasKept form start before l.fn.core l.fn.self → HasKept form start (before ++ calls) l.core l.self);
   few : l.stream.total ≤ byte_limit;
   mark : g.T.Source.failed l.trace ≡ false;
+  config : l.core.config ≡ l.fn.core.config;
 }
 
 abbrev pub decreases-loop-witness : goal.decreases-loop-witness
