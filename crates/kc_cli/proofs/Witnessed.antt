@@ -31,7 +31,7 @@ none_seen false volume there = refl
 
 -- ---- the witness of a trace whose header is read before its calls
 
-Keep : Option Header → Option Header → Type 0
+abbrev pub Keep : Option Header → Option Header → Type 0
 Keep before after = (found : Header) → before ≡ Some found → after ≡ Some found
 
 -- it is there already

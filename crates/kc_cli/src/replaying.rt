@@ -144,11 +144,13 @@ fn replay_texts<C: Source, T: Source, R: Threads + Wait + Sync>(
     };
     let mut replayer = replayer;
     match feed_source(rt, alloc, &mut replayer, trace, order.form) {
-        Ok(Fed {
-            header,
-            calls,
-            replies,
-        }) => {
+        Ok(
+            Fed {
+                header,
+                calls,
+                replies,
+            },
+        ) => {
             let answered = Answered::of(&replies);
             let Ok(core) = replayer.finish() else {
                 return Err(TextFault::Memory);

@@ -118,8 +118,8 @@ impl CallStream {
         ensures more { IfOk result (λ part. part.is_last ≡ false → self.old.total < self.new.total) }
         ensures few { self.new.total ≤ byte_limit }
         // Once the header was read it stays.
-        ensures header { (header : Header) → self.old.reader.progress.header ≡ Some header
-            → self.new.reader.progress.header ≡ Some header }
+        ensures header { OnOk result ((header : Header) → self.old.reader.progress.header ≡ Some header
+            → self.new.reader.progress.header ≡ Some header) }
         ensures mark { OnOk result (T.failed source.new ≡ false) }
         ensures read { result ≡ Err ReadFault.Read → (bytes : List ℕ) (calls : List Call) (first : Option (List ℕ))
             → HasRead self.old bytes calls first (T.left source.old)
