@@ -1,5 +1,8 @@
 -- What is said of two sources if there is a third.
-use Rattle.std.proofs.Common.{◌≡◌, Bool, true, false, [], ◌∷◌, Result, Ok, Err, inl, inr}
+use Rattle.std.proofs.Common.{ℕ, ◌≡◌, ◌++◌, ◌∙◌, Bool, true, false, List, [], ◌∷◌, Option, Some, None, Result, Ok, Err, inl, inr, ap, sym, subst}
+use Rattle.std.proofs.lemmas.List.{append-nil}
+use Rattle.std.specs.Prelude.{IfSome}
+use Rattle.std.specs.Io.KnownBytes.{Consumes, IsAtEnd}
 use Rattle.kc_texts.specs.Ends.{ReadFailed, Seen, HasFailedRead, HasFailed}
 use Rattle.kc_faults.specs.Outcomes.{TellsSources, TellsSink}
 use Rattle.kc_faults.specs.declared.fault.TextFault.{TextFault}
@@ -44,3 +47,9 @@ sink_err failed begun more untouched f step h = record {
 -- an answer, of an engine that answers more
 pub sink_ok : {A B : Type 0} (failed : Bool) (begun untouched : Type 0) (x : A) (y : B) → TellsSink failed begun untouched (Ok x) → TellsSink failed begun untouched (Ok y)
 sink_ok failed begun untouched x y h = record { write = λ e. absurd cc; failed_is = λ bad. let e = h.failed_is bad in absurd cc; kept = tt }
+
+-- what holds of all that was read holds of what the source held
+pub of_whole : (P : List ℕ → Type 0) (first now : Option (List ℕ)) (bytes : List ℕ) → Consumes first now bytes → IsAtEnd now → P bytes → IfSome first P
+of_whole P None now bytes read end is = tt
+of_whole P (Some text) None bytes read end is = absurd read
+of_whole P (Some text) (Some rest) bytes read end is = subst P (sym (read ∙ ap (λ (more : List ℕ). bytes ++ more) end ∙ append-nil bytes)) is

@@ -40,9 +40,9 @@ fn witness_under(
     header: Option<&Header>,
 ) -> Result<Option<Witness>, TextFault>
     ensures seen { IfOk result (λ made. (before : Option AnyHeader) (calls : List Call)
-        → ((found : AnyHeader) → before ≡ Some found → option_map (λ header. header.now) header ≡ Some found)
+        → ((found : AnyHeader) → before ≡ Some found → option_map (λ header. header.now) header.entry ≡ Some found)
         → HasWitnessed is_named before witness calls
-        → HasWitnessed is_named (option_map (λ header. header.now) header) made calls) }
+        → HasWitnessed is_named (option_map (λ header. header.now) header.entry) made calls) }
     ensures fault { IfErr result (λ fault. fault ≡ TextFault.Memory) }
 {
     if witness.is_some() {

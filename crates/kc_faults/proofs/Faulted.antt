@@ -8,7 +8,8 @@ use Rattle.kc_state_text.specs.declared.fault.StateFault.{StateFault}
 use Rattle.kc_texts.specs.declared.stream.StreamFault.{StreamFault}
 use Rattle.kc_texts.specs.declared.stream.StreamFault.TheVariants as streams
 use Rattle.kc_faults.specs.declared.fault.TextFault.TheVariants as texts
-use Rattle.kc_faults.specs.Faults.{text_fault}
+use Rattle.kc_state_text.specs.declared.fault.StateFault.TheVariants as states
+use Rattle.kc_faults.specs.Faults.{text_fault, state_fault}
 
 -- a fault of the trace comes from the trace
 pub trace_said : (said : StreamFault) (fault : TraceFault) → text_fault said ≡ texts.Trace fault → said ≡ streams.Trace fault
@@ -25,6 +26,17 @@ pub stream_state : (said : StreamFault) (fault : StateFault) → text_fault said
 stream_state (streams.Trace other) fault e = cc
 stream_state streams.Memory fault e = cc
 stream_state streams.Read fault e = cc
+
+-- a fault of a state's text is that one
+pub state_said : (said fault : StateFault) → state_fault said ≡ texts.State fault → said ≡ fault
+state_said states.NoHeader fault e = let same : states.NoHeader ≡ fault = cc in same
+state_said (states.BadLine n) fault e = let same : states.BadLine n ≡ fault = cc in same
+state_said (states.Missing n) fault e = let same : states.Missing n ≡ fault = cc in same
+state_said states.Sizes fault e = let same : states.Sizes ≡ fault = cc in same
+state_said (states.Found found) fault e = let same : states.Found found ≡ fault = cc in same
+state_said (states.Slot n) fault e = let same : states.Slot n ≡ fault = cc in same
+state_said (states.Frame n) fault e = let same : states.Frame n ≡ fault = cc in same
+state_said states.Memory fault e = absurd cc
 
 pub stream_told : (said : StreamFault) → said ≢ streams.Trace Memory → IsTold (text_fault said)
 stream_told (streams.Trace other) h = (λ e. cc, λ e. let same : other ≡ Memory = cc in h (ap streams.Trace same), λ e. cc, λ d e. cc)

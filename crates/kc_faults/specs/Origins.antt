@@ -12,6 +12,7 @@ use Rattle.kc_trace.specs.Trace.{IsRefused}
 use Rattle.kc_trace.specs.Expected.{IsRefusedThere}
 use Rattle.kc_trace.specs.declared.expected.Expected.{Expected}
 use Rattle.kc_trace.specs.declared.expected.Expected.TheVariants.{Bare, First, At}
+use Rattle.kc_trace.specs.declared.expected.HeaderFault.{HeaderFault}
 use Rattle.kc_trace.specs.declared.fault.TraceFault.{TraceFault}
 use Rattle.kc_trace.specs.declared.fault.TraceFault.TheVariants.{Misplaced}
 use Rattle.kc_faults.specs.declared.origin.Origin.{Origin}
@@ -28,10 +29,14 @@ abbrev pub BeginsIn : Origin → List ℕ → State → Expected → Type 0
 BeginsIn origins.Boot text m expected = (config : Configuration) × (config_in text ≡ Ok config) × (m ≡ boot config) × (expected ≡ First)
 BeginsIn origins.State text m expected = IsCoreState m × (position : Option Position) × IfSome position IsPosition × (text ≡ placed_state_text position m) × (expected ≡ expected_at position)
 
--- the text is not a trace that goes on from what the other text is of, and this is the first reason
+-- the text is a trace whose header may not be where the other text is of the start, and this is wrong with it
+abbrev pub IsMisplaced : Origin → Option (List ℕ) → List ℕ → HeaderFault → Type 0
+IsMisplaced origin None text wrong = Unit {0}
+IsMisplaced origin (Some start) text wrong = (m : State) × (expected : Expected) × BeginsIn origin start m expected × IsRefusedThere m.config expected text (Misplaced wrong)
+
+-- the text is not a trace that goes on from there, and this is the first reason
 abbrev pub IsRefusedFrom : Origin → Option (List ℕ) → List ℕ → TraceFault → Type 0
-IsRefusedFrom origin None text (Misplaced wrong) = Unit {0}
-IsRefusedFrom origin (Some start) text (Misplaced wrong) = (m : State) × (expected : Expected) × BeginsIn origin start m expected × IsRefusedThere m.config expected text (Misplaced wrong)
+IsRefusedFrom origin start text (Misplaced wrong) = IsMisplaced origin start text wrong
 IsRefusedFrom origin start text fault = IsRefused text fault
 
 -- there is a state in which they begin, if the source reports its text

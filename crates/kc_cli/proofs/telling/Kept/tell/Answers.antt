@@ -1,4 +1,4 @@
-use Rattle.std.proofs.Common.{◌<◌, ◌+◌, ◌^◌, ◌++◌, [], List, length, length-append, ap, sym, ◌∙◌, subst, rules, arith}
+use Rattle.std.proofs.Common.{◌<◌, ◌+◌, ◌^◌, ◌++◌, [], List, length, length-append, refl, ap, sym, ◌∙◌, subst, rules, arith}
 use Rattle.std.proofs.lemmas.List.{append-nil}
 use Rattle.kc_types.specs.declared.call.Call.{Call}
 use Rattle.kc_cli.specs.Ledgers.{HasKept}
@@ -13,11 +13,12 @@ loop-witness-init g c = record {
     c.new-stream.ensures.read (g.T.Source.left c.args.trace.now),
     omega arith,
     omega arith,
-    c.in_ok-witness.ensures.seen,
+    rw c.new-stream.ensures.header (refl, refl),
     λ form start before is h. subst (λ (calls : List Call). HasKept form start calls c.args.core.now c.args.self.now) (sym (append-nil before)) h,
   );
   few = search rules;
   mark = c.requires.trace;
+  config = refl;
 }
 
 pub note-requires-clause-lines : goal.note-requires-clause-lines
@@ -42,48 +43,3 @@ note-requires-clause-counts g c =
     let room = c.requires.lines in
     let counts = c.requires.counts in
     omega (arith, few, long, denied, same, room, counts)
-
-pub loop-witness-preserved : goal.loop-witness-preserved
-loop-witness-preserved g c =
-    let before = c.loop-witness.invariant.read in
-    let more = c.in_ok-part.ensures.calls before.0 before.1 (g.T.Source.left c.args.trace.now) before.2 in
-    let calls = c.in_ok-part.part.calls.items in
-    let long = length-append before.1 calls in
-    let at = before.3 in
-    let few = before.4 in
-    let same = ap length c.deref.ensures.value in
-    let noted = c.in-Ok.ensures.few in
-    let short : c.loop-witness.self.line + c.len.result < 2 ^ 32 = let some = more.1.few in let room = c.requires.lines in omega (arith, some, long, at, room) in
-    record {
-      read = (
-        before.0 ++ more.0,
-        before.1 ++ calls,
-        more.1,
-        omega (arith, long, at),
-        omega (arith, long, few, same, noted),
-        (rw c.deref-in-loop-witness.ensures.value at c.note_all.ensures) c.args.is_named before.1 before.5,
-        λ form start first is h. kept_after form start first before.1 calls c.loop-witness.core _ c.loop-witness.self _ is (before.6 form start first is h) ((rw c.deref.ensures.value at c.in-Ok.ensures.kept) form start)
-            (rw c.deref.ensures.value at c.in-Ok.ensures.state) (rw c.deref.ensures.value at c.in-Ok.ensures.denied) (omega (arith, same, noted)) (rw c.deref.ensures.value at c.in-Ok.ensures.counted) (omega arith) short,
-      );
-      few = c.in_ok-part.ensures.few;
-      mark = c.in_ok-part.ensures.mark;
-    }
-
-pub returns-in-Ok-finish-clause-ok : goal.returns-in-Ok-finish-clause-ok
-returns-in-Ok-finish-clause-ok g c =
-    let before = c.loop-witness.invariant.read in
-    let more = c.in_ok-part.ensures.calls before.0 before.1 (g.T.Source.left c.args.trace.now) before.2 in
-    let calls = c.in_ok-part.part.calls.items in
-    let long = length-append before.1 calls in
-    let at = before.3 in
-    let same = ap length c.deref.ensures.value in
-    let noted = c.in-Ok.ensures.few in
-    let short : c.loop-witness.self.line + c.len.result < 2 ^ 32 = let some = more.1.few in let room = c.requires.lines in omega (arith, some, long, at, room) in (
-      before.1 ++ calls,
-      c.in-Ok-finish.ensures.ok _ _ _ _ more.1 (c.in_ok-part.ensures.last c.if-part.true),
-      more.1.few,
-      omega (arith, long, at),
-      c.digest_of.ensures c.args.is_named (before.1 ++ calls) ((rw c.deref-in-loop-witness.ensures.value at c.note_all.ensures) c.args.is_named before.1 before.5),
-      λ form start first is h. kept_after form start first before.1 calls c.loop-witness.core _ c.loop-witness.self _ is (before.6 form start first is h) ((rw c.deref.ensures.value at c.in-Ok.ensures.kept) form start)
-          (rw c.deref.ensures.value at c.in-Ok.ensures.state) (rw c.deref.ensures.value at c.in-Ok.ensures.denied) (omega (arith, same, noted)) (rw c.deref.ensures.value at c.in-Ok.ensures.counted) (omega arith) short,
-    )
