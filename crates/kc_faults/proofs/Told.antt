@@ -1,5 +1,5 @@
 -- What is reported of the ends stays true in the last step of an engine.
-use Rattle.std.proofs.Common.{◌≡◌, ◌≢◌, ◌⊎◌, ℕ, Bool, true, List, Option, Some, None, Result, Ok, Err, inl, inr, refl, subst}
+use Rattle.std.proofs.Common.{◌≡◌, ◌≢◌, ◌⊎◌, ◌<◌, ◌≤◌, arith, ℕ, Bool, true, List, Option, Some, None, Result, Ok, Err, inl, inr, refl, subst}
 use Rattle.std.specs.Prelude.{IfErr, IfSome, is_err, OnErr}
 use Rattle.std.specs.Io.KnownBytes.{IsAtEnd}
 use Rattle.kc_config_text.specs.declared.config_text.ConfigTextFault.{ConfigTextFault}
@@ -10,6 +10,7 @@ use Rattle.kc_trace.specs.declared.expected.Expected.{Expected}
 use Rattle.kc_trace.specs.declared.expected.HeaderFault.{HeaderFault}
 use Rattle.kc_trace.specs.declared.expected.Expected.TheVariants.{First}
 use Rattle.kc_types.specs.Configuration.{Configuration}
+use Rattle.kc_types.specs.Limits.{worker_limit}
 use Rattle.kc_config_text.specs.ConfigText.{config_in}
 use Rattle.kc_model.specs.State.{State}
 use Rattle.kc_model.specs.Boot.{boot}
@@ -36,6 +37,10 @@ pub texts_after : {A B : Type 0} (origin : Origin) (start trace : Seen) (unread 
 texts_after origin start trace unread x (Ok y) h fault = record { config_fault = λ f e. absurd cc; state_fault = λ f e. absurd cc; trace_fault = λ f e. absurd cc; after_start = h.after_start; begun = λ f e. absurd cc; told = tt }
 texts_after origin start trace unread x (Err f) h (inl memory) = record { config_fault = λ g e. absurd cc; state_fault = λ g e. absurd cc; trace_fault = λ g e. absurd cc; after_start = h.after_start; begun = λ g e. absurd cc; told = (λ e. cc, λ e. cc, λ e. cc, λ d e. cc) }
 texts_after origin start trace unread x (Err f) h (inr write) = record { config_fault = λ g e. absurd cc; state_fault = λ g e. absurd cc; trace_fault = λ g e. absurd cc; after_start = h.after_start; begun = λ g e. absurd cc; told = (λ e. cc, λ e. cc, λ e. cc, λ d e. cc) }
+
+may_be : (workers : ℕ) → 0 < workers → workers ≤ worker_limit → (workers ≡ 0) ⊎ (worker_limit < workers) → ⊥
+may_be workers some few (inl none) = absurd (omega (arith, some, none))
+may_be workers some few (inr many) = absurd (omega (arith, few, many))
 
 pub replay_after : {A B : Type 0} (workers : ℕ) (origin : Origin) (start : Option (List ℕ)) (x : A) (last : Result B TextFault) → TellsReplay workers origin start (Ok x) → IfErr last IsLastFault → TellsReplay workers origin start last
 replay_after workers origin start x (Ok y) h fault = record { judged = (λ e. absurd cc, λ bad. let e = h.judged.1 bad in absurd cc); started = λ e. absurd cc; settled = λ e. cc; actor = λ p e. cc; slot = λ n e. cc }
@@ -64,6 +69,13 @@ replay_err workers origin start f h = record {
   actor = λ p e. h.actor p (let same : f ≡ texts.BadActor p = cc in cc);
   slot = λ n e. h.slot n (let same : f ≡ texts.NoSlot n = cc in cc);
 }
+
+-- the number of workers is one that there may be, and all was read
+pub replay_ok : {A : Type 0} (workers : ℕ) (origin : Origin) (start : Option (List ℕ)) (x : A) → 0 < workers → workers ≤ worker_limit → TellsReplay workers origin start (Ok x)
+replay_ok workers origin start x some few = record { judged = (λ e. absurd cc, λ bad. absurd (may_be workers some few bad)); started = λ e. absurd cc; settled = λ e. cc; actor = λ p e. cc; slot = λ n e. cc }
+
+pub replay_trace : {A : Type 0} (workers : ℕ) (origin : Origin) (start : Option (List ℕ)) (fault : TraceFault) → 0 < workers → workers ≤ worker_limit → TellsReplay {A = A} workers origin start (Err (texts.Trace fault))
+replay_trace workers origin start fault some few = record { judged = (λ e. absurd cc, λ bad. absurd (may_be workers some few bad)); started = λ e. absurd cc; settled = λ e. cc; actor = λ p e. cc; slot = λ n e. cc }
 
 -- the sink took a beginning, and more follows from that
 pub sink_more : {A : Type 0} (failed : Bool) (begun more untouched : Type 0) (result : Result A TextFault) → (begun → more) → TellsSink failed begun untouched result → TellsSink failed more untouched result

@@ -1,7 +1,7 @@
-use Rattle.std.proofs.Common.{Err, ap, refl}
+use Rattle.std.proofs.Common.{Err, ap, refl, arith}
 use Rattle.std.proofs.lemmas.Result.{err_from_is_err_and}
 use Rattle.kc_replay.specs.Replayer.{Replaying}
-use Rattle.kc_faults.proofs.Told.{texts_ok, texts_start, texts_trace, texts_misplaced, known_refused}
+use Rattle.kc_faults.proofs.Told.{texts_start, texts_trace, texts_misplaced, known_refused, replay_ok, replay_trace}
 use Rattle.kc_cli.proofs.Fed.{replayed, misfed}
 use Rattle.kc_cli.proofs.Replayed.{are_replayed, answered_so}
 use Rattle.kc_cli.proofs.replaying.replay_texts.Goals as goal
@@ -15,3 +15,39 @@ pub returns-in-Err-clause-texts : goal.returns-in-Err-clause-texts
 returns-in-Err-clause-texts g c =
     let is = c.in-Err.ensures.fault in
     texts_trace c.args.order.origin _ _ _ c.in_ok-core.field-0.core c.in_ok-core.field-0.expected c.in-Err.fault c.in_ok-core.ensures.ok (λ said same. let is = c.in-Err.ensures.trace said (ap Err same) in (known_refused _ _ _ said is.0, is.1)) is.config is.state is.told
+
+pub returns-in-Some-clause-texts : goal.returns-in-Some-clause-texts
+returns-in-Some-clause-texts g c =
+    let start = c.in_ok-core.field-0 in
+    let fed = c.in-Ok-feed_source.field-0 in
+    texts_misplaced _ _ _ _ start.core start.expected c.in-Some.wrong c.in_ok-core.ensures.ok
+    (misfed _ _ _ fed.header start.expected _ start.core c.in-Ok.replayer c.feed_source.new.replayer fed.calls.items fed.replies.items c.in-Ok-finish.core c.in-Some.wrong (ap (λ (r : Replaying). r.state) c.in-Ok.ensures.start) c.in-Ok-finish.ensures.core c.in-Ok-feed_source.ensures.ok c.in_ok-core.ensures.ok (rw c.config.ensures.value at c.in-Some.ensures))
+    c.in-Ok-feed_source.ensures.ended
+
+pub returns-in-Some-clause-replay : goal.returns-in-Some-clause-replay
+returns-in-Some-clause-replay g c =
+    let some = c.if-order-eq0.false in
+    let few = c.if-order-gt-WORKER_LIMIT.false in
+    replay_trace _ _ _ _ (omega (arith, some)) (omega (arith, few))
+
+pub returns-in_default-fault-clause-replay : goal.returns-in_default-fault-clause-replay
+returns-in_default-fault-clause-replay g c =
+    let some = c.if-order-eq0.false in
+    let few = c.if-order-gt-WORKER_LIMIT.false in
+    replay_ok _ _ _ _ (omega (arith, some)) (omega (arith, few))
+
+pub returns-in_default-fault-clause-ok : goal.returns-in_default-fault-clause-ok
+returns-in_default-fault-clause-ok g c =
+    let start = c.in_ok-core.field-0 in
+    let fed = c.in-Ok-feed_source.field-0 in
+    are_replayed _ _ _ _ start.core start.expected fed.calls.items fed.replies.items c.in-Ok-finish.core c.in_ok-core.ensures.ok
+    (replayed _ fed.header start.expected _ start.core c.in-Ok.replayer c.feed_source.new.replayer fed.calls.items fed.replies.items c.in-Ok-finish.core c.in_ok-core.ensures.lawful (ap (λ (r : Replaying). r.state) c.in-Ok.ensures.start) c.in-Ok-finish.ensures.core c.in-Ok-feed_source.ensures.ok (rw c.config.ensures.value at c.in_default-fault.ensures))
+
+pub returns-in_default-fault-clause-answered : goal.returns-in_default-fault-clause-answered
+returns-in_default-fault-clause-answered g c =
+    let start = c.in_ok-core.field-0 in
+    let fed = c.in-Ok-feed_source.field-0 in
+    answered_so c.args.order.origin c.args.order.form _ _ fed.calls.items fed.replies.items c.in-Ok-finish.core _
+    (are_replayed _ _ _ _ start.core start.expected fed.calls.items fed.replies.items c.in-Ok-finish.core c.in_ok-core.ensures.ok
+    (replayed _ fed.header start.expected _ start.core c.in-Ok.replayer c.feed_source.new.replayer fed.calls.items fed.replies.items c.in-Ok-finish.core c.in_ok-core.ensures.lawful (ap (λ (r : Replaying). r.state) c.in-Ok.ensures.start) c.in-Ok-finish.ensures.core c.in-Ok-feed_source.ensures.ok (rw c.config.ensures.value at c.in_default-fault.ensures)))
+    (rw c.deref.ensures.value at c.of-answered.ensures)

@@ -9,8 +9,8 @@ use Rattle.kc_texts.specs.Streamed.{HasRead}
 use Rattle.kc_cli.proofs.telling.Kept.tell.Given as goal
 
 -- what is kept is also of the calls that came so far, and so is what the witness has seen
-abbrev pub invariant-loop-witness : goal.invariant-loop-witness
-invariant-loop-witness g l = record {
+abbrev pub invariant-loop-stream : goal.invariant-loop-stream
+invariant-loop-stream g l = record {
   read : (bytes : List ℕ) × (calls : List Call) × HasRead l.stream bytes calls (g.T.Source.left l.fn.trace) (g.T.Source.left l.trace)
       × (l.self.line ≡ l.fn.self.line + length calls) × (l.self.denials.total ≤ l.fn.self.denials.total + length calls) × HasWitnessed l.is_named l.stream.reader.progress.header l.witness calls
       × ((form : CustodyForm) (start : State) (before : List Call) → IsLawful start → HasKept form start before l.fn.core l.fn.self → HasKept form start (before ++ calls) l.core l.self);
@@ -19,5 +19,5 @@ invariant-loop-witness g l = record {
   config : l.core.config ≡ l.fn.core.config;
 }
 
-abbrev pub decreases-loop-witness : goal.decreases-loop-witness
-decreases-loop-witness g l = byte_limit - l.stream.total
+abbrev pub decreases-loop-stream : goal.decreases-loop-stream
+decreases-loop-stream g l = byte_limit - l.stream.total
