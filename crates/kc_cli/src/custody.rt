@@ -11,7 +11,8 @@ ghost use Rattle.kc_texts.specs.Written.{Writes, Begins};
 ghost use Rattle.kc_faults.specs.Origins.{BeginsIn};
 ghost use Rattle.kc_faults.specs.Outcomes.{TellsSources, TellsTexts, TellsSink};
 ghost use Rattle.kc_cli.specs.Engine.{IsReplayFault};
-ghost use Rattle.kc_cli.specs.Custody.{IsCustodyText, TellsCustody, NamesStart, names_start, listed, trace_digest};
+ghost use Rattle.kc_cli.specs.Custody.{Traced, IsCustodyText, TellsCustody, NamesStart, names_start, listed, trace_digest, trace_named};
+ghost use Rattle.kc_cli.specs.Ledgers.{digest_if};
 ghost use Rattle.kc_cli.specs.Answers.{AreAllAnswered};
 ghost use Rattle.kc_cli.specs.Headings.{start_by, digests_by, heading_by};
 ghost use Rattle.kc_cli.specs.Volumes.{known, HasTold, IsFull};
@@ -73,6 +74,13 @@ fn digests_by(
             start: start_by(start, origin),
         }),
     }
+}
+
+/// The digest by which a volume is named, if it is, of the digest that it has because it is named or has a head.
+fn digest_named(digest: Option<[u8; 32]>, is_named: bool) -> Option<[u8; 32]>
+    ensures { (volume : Traced) → digest ≡ digest_if is_named volume → result ≡ trace_named is_named volume }
+{
+    if is_named { digest } else { None }
 }
 
 /// The digest of the one trace, if it is asked for.
@@ -252,7 +260,7 @@ impl CustodyAccount {
         let entry = VolumeEntry {
             line,
             calls: self.kept.line - line,
-            digest: if is_named { digest } else { None },
+            digest: digest_named(digest, is_named),
         };
         match self.entries.push(entry) {
             Ok(()) => Ok(()),

@@ -1,4 +1,4 @@
-use Rattle.kc_cli.proofs.Witnessed.{sees_more, sees_nothing}
+use Rattle.kc_cli.proofs.Witnessed.{sees_more}
 use Rattle.kc_cli.proofs.telling.note_all.Goals as goal
 
 pub returns-in-Some : goal.returns-in-Some

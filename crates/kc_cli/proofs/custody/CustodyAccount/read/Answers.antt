@@ -1,7 +1,38 @@
-use Rattle.std.proofs.Common.{refl, arith}
+use Rattle.std.specs.Prelude.{IfSome}
+use Rattle.std.proofs.Common.{◌≡◌, Err, ap, refl, sym, subst, arith, inl, ◌∙◌}
+use Rattle.std.proofs.lemmas.Result.{err_from_is_err_and}
+use Rattle.kc_types.specs.Configuration.{Configuration}
+use Rattle.kc_model.specs.State.{State}
+use Rattle.kc_model.proofs.States.Sizes.{config-after}
+use Rattle.kc_trace.specs.declared.fault.TraceFault.{TraceFault}
+use Rattle.kc_trace.specs.declared.fault.TraceFault.TheVariants.{Misplaced}
+use Rattle.kc_trace.specs.Expected.{MayHave, IsHeaderFault, IsRefusedThere, expected_after}
+use Rattle.kc_cli.specs.Custody.{Traced, joined}
+use Rattle.kc_cli.proofs.Placed.{misplaced_there, known_refused_there, next_is}
 use Rattle.kc_cli.proofs.Volumes.{read_more}
 use Rattle.kc_cli.proofs.custody.CustodyAccount.read.Goals as goal
 
 pub returns-in-Ok-clause-ok : goal.returns-in-Ok-clause-ok
 returns-in-Ok-clause-ok g c = λ order m sources h.
-    ?
+    let told = c.in_ok-header.ensures.ok in
+    let at = told.3 in
+    let volume : Traced = record { header = c.in_ok-header.field-0.header; calls = told.0 } in
+    let config = ap (λ (n : State). n.config) h.kept.left ∙ config-after m (joined h.volumes) in
+    let may = subst (λ (x : Configuration). MayHave x c.args.self.now.expected volume.header) (c.in_ok-header.ensures.config ∙ config) (rw c.config.ensures.value at c.in_default.ensures) in
+    read_more order c.args.self.now _ m sources (g.T.Source.left c.args.trace.now) volume _ h refl refl (c.after-self.ensures ∙ ap (expected_after volume.header) told.4 ∙ next_is _ volume) may told.1 told.2 told.3 (λ before kept. told.5 order.form m before h.lawful kept)
+    c.in-Ok.ensures.items refl (omega (arith, at)) (rw (c.names_trace-is_named.ensures, h.ordered) at (c.digest_named.ensures volume told.4)) (omega arith)
+
+pub returns-in_err-header-clause-trace : goal.returns-in_err-header-clause-trace
+returns-in_err-header-clause-trace g c = λ fault e.
+    let made = err_from_is_err_and c.from_residual.result c.from_residual.ensures.1 in
+    let is = c.in_err-header.ensures.trace fault (ap Err (sym made.2) ∙ sym made.1 ∙ e) in
+    inl (known_refused_there _ _ _ fault is.0, is.1)
+
+pub returns-in-Some-clause-trace : goal.returns-in-Some-clause-trace
+returns-in-Some-clause-trace g c = λ fault e.
+    let told = c.in_ok-header.ensures.ok in
+    let header = c.in_ok-header.field-0.header in
+    let expected = c.args.self.now.expected in
+    let same : Misplaced c.in-Some.wrong ≡ fault = cc in
+    let is = subst (λ (x : Configuration). IsHeaderFault x expected header c.in-Some.wrong) c.in_ok-header.ensures.config (rw c.config.ensures.value at c.in-Some.ensures) in
+    inl (subst (λ (f : TraceFault). IfSome (g.T.Source.left c.args.trace.now) (λ text. IsRefusedThere c.args.self.now.core.config expected text f)) same (misplaced_there _ expected header _ told.0 c.in-Some.wrong told.1 is), c.in_ok-header.ensures.ended)
