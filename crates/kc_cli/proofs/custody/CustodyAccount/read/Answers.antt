@@ -7,6 +7,7 @@ use Rattle.kc_model.proofs.States.Sizes.{config-after}
 use Rattle.kc_trace.specs.declared.fault.TraceFault.{TraceFault}
 use Rattle.kc_trace.specs.declared.fault.TraceFault.TheVariants.{Misplaced}
 use Rattle.kc_trace.specs.Expected.{MayHave, IsHeaderFault, IsRefusedThere, expected_after}
+use Rattle.kc_faults.specs.declared.fault.TextFault.TheVariants as texts
 use Rattle.kc_cli.specs.Custody.{Traced, joined}
 use Rattle.kc_cli.proofs.Placed.{misplaced_there, known_refused_there, next_is}
 use Rattle.kc_cli.proofs.Volumes.{read_more}
@@ -25,7 +26,8 @@ returns-in-Ok-clause-ok g c = λ order m sources h.
 pub returns-in_err-header-clause-trace : goal.returns-in_err-header-clause-trace
 returns-in_err-header-clause-trace g c = λ fault e.
     let made = err_from_is_err_and c.from_residual.result c.from_residual.ensures.1 in
-    let is = c.in_err-header.ensures.trace fault (ap Err (sym made.2) ∙ sym made.1 ∙ e) in
+    let same : c.in_err-header.field-0.0 ≡ texts.Trace fault = (let both = ap Err (sym made.2) ∙ sym made.1 ∙ e in cc) in
+    let is = c.in_err-header.ensures.trace fault (ap Err same) in
     inl (known_refused_there _ _ _ fault is.0, is.1)
 
 pub returns-in-Some-clause-trace : goal.returns-in-Some-clause-trace
