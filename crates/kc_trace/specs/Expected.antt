@@ -1,4 +1,4 @@
--- Which header the trace has to have that goes on from a state, and what is wrong with another one.
+-- Which header the trace has to have that goes on from a state, and how a header may differ from it.
 use Rattle.std.specs.Prelude.{ℕ, ◌≡◌, ◌≢◌, ◌+◌, List, Option, Some}
 use Rattle.kc_types.specs.Configuration.{Configuration}
 use Rattle.kc_trace.specs.declared.header.Position.{Position}
@@ -76,7 +76,7 @@ IsHeaderFault config (At place) header wrong = IsHeadFault config place header w
 IsHeaderFault config (After number digest) header wrong = IsHeadFault config (position.Later (number + 1) digest) header wrong
 IsHeaderFault config expected header wrong = ⊥
 
--- the text is not a trace that is expected there, and this is the first reason: it is none, or its header is another one
+-- the text is not a trace that is expected there, and this is the first reason: it is not a trace, or its header differs
 abbrev pub IsRefusedThere : Configuration → Expected → List ℕ → TraceFault → Type 0
 IsRefusedThere config expected text (Misplaced wrong) = (header : Header) × (calls : List Call) × IsTraceUnder header text calls × IsHeaderFault config expected header wrong
 IsRefusedThere config expected text fault = IsRefused text fault

@@ -8,15 +8,15 @@ use Rattle.kc_trace.specs.declared.fault.TraceFault.TheVariants as traces
 
 -- what is wrong with a header
 abbrev pub header_fault_words : HeaderFault → List ℕ
-header_fault_words (headers.Machine parts.Version) = codes "trace of another machine: version"
-header_fault_words (headers.Machine parts.Frames) = codes "trace of another machine: frames"
-header_fault_words (headers.Machine parts.Core) = codes "trace of another machine: core"
-header_fault_words (headers.Machine parts.Host) = codes "trace of another machine: host"
-header_fault_words (headers.Machine parts.Leaves) = codes "trace of another machine: leaves"
-header_fault_words (headers.Machine parts.Approved) = codes "trace of another machine: approved"
+header_fault_words (headers.Machine parts.Version) = codes "machine of the trace differs: version"
+header_fault_words (headers.Machine parts.Frames) = codes "machine of the trace differs: frames"
+header_fault_words (headers.Machine parts.Core) = codes "machine of the trace differs: core"
+header_fault_words (headers.Machine parts.Host) = codes "machine of the trace differs: host"
+header_fault_words (headers.Machine parts.Leaves) = codes "machine of the trace differs: leaves"
+header_fault_words (headers.Machine parts.Approved) = codes "machine of the trace differs: approved"
 header_fault_words headers.NotFirst = codes "trace is not the first volume"
-header_fault_words headers.Number = codes "trace is another volume: number"
-header_fault_words headers.Digest = codes "trace is another volume: digest"
+header_fault_words headers.Number = codes "volume of the trace differs: number"
+header_fault_words headers.Digest = codes "volume of the trace differs: digest"
 header_fault_words headers.Missing = codes "trace has no head, and one is expected"
 header_fault_words headers.Unexpected = codes "trace has a head, and none is expected"
 

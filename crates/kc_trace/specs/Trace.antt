@@ -48,14 +48,14 @@ Stops text fault =
 abbrev pub GoesOnWith : List (List ℕ) → List ℕ → Type 0
 GoesOnWith lines line = (header : Header) × (more : List (List ℕ)) × IsHeader header × (header_lines header ≡ lines ++ line ∷ more)
 
--- after some lines of a header, which has another one then, the text has a line that no header has there; this is its
--- number, counted from 1
+-- the text begins with some lines of a header that has more, and its next line is one that no header has there; this is
+-- its number, counted from 1
 abbrev pub StopsInHeader : List ℕ → ℕ → Type 0
 StopsInHeader text number =
     (lines : List (List ℕ)) × (line : List ℕ) × (after : List ℕ) × (0 < length lines) × ((next : List ℕ) × GoesOnWith lines next) × (text ≡ ended_lines lines ++ (line ++ 10 ∷ after)) × IsOneLine line
     × (GoesOnWith lines line → ⊥) × (number ≡ length lines + 1)
 
--- the text does not begin with a whole header, and has no line that no header has there after another one
+-- the text does not begin with a whole header, and no line is wrong after the lines of a header
 pub record LacksHeader (text : List ℕ) : Type 0 where
   pub none : (header : Header) (rest : List ℕ) → IsHeader header → text ≡ trace_header header ++ rest → ⊥
   pub line : (number : ℕ) → StopsInHeader text number → ⊥

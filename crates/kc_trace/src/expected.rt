@@ -21,7 +21,7 @@ pub enum Expected {
     After { number: u32, digest: [u8; 32] },
 }
 
-/// What is different first in the machine that a head names.
+/// The first part in which the machine that a head names differs.
 #[derive(Clone, Copy, Debug, PartialEq, Eq)]
 pub enum MachinePart {
     Version,
@@ -36,17 +36,17 @@ pub enum MachinePart {
 /// Why the header of a trace is not the one that is expected.
 #[derive(Clone, Copy, Debug, PartialEq, Eq)]
 pub enum HeaderFault {
-    /// The head names another machine.
+    /// The machine that the head names differs.
     Machine(MachinePart),
     /// The head says that the trace is a later volume, and the first one is expected.
     NotFirst,
-    /// The head has another volume's number.
+    /// The number of the volume differs.
     Number,
-    /// The head has another digest of the volume before it.
+    /// The digest of the volume before it differs.
     Digest,
     /// There is no head, and one is expected.
     Missing,
-    /// There is a head, and it is not known what it has to say.
+    /// There is a head, and none is expected.
     Unexpected,
 }
 
@@ -57,15 +57,15 @@ impl HeaderFault {
         ensures short { length result.now ≤ 40 }
     {
         match self {
-            HeaderFault::Machine(MachinePart::Version) => "trace of another machine: version",
-            HeaderFault::Machine(MachinePart::Frames) => "trace of another machine: frames",
-            HeaderFault::Machine(MachinePart::Core) => "trace of another machine: core",
-            HeaderFault::Machine(MachinePart::Host) => "trace of another machine: host",
-            HeaderFault::Machine(MachinePart::Leaves) => "trace of another machine: leaves",
-            HeaderFault::Machine(MachinePart::Approved) => "trace of another machine: approved",
+            HeaderFault::Machine(MachinePart::Version) => "machine of the trace differs: version",
+            HeaderFault::Machine(MachinePart::Frames) => "machine of the trace differs: frames",
+            HeaderFault::Machine(MachinePart::Core) => "machine of the trace differs: core",
+            HeaderFault::Machine(MachinePart::Host) => "machine of the trace differs: host",
+            HeaderFault::Machine(MachinePart::Leaves) => "machine of the trace differs: leaves",
+            HeaderFault::Machine(MachinePart::Approved) => "machine of the trace differs: approved",
             HeaderFault::NotFirst => "trace is not the first volume",
-            HeaderFault::Number => "trace is another volume: number",
-            HeaderFault::Digest => "trace is another volume: digest",
+            HeaderFault::Number => "volume of the trace differs: number",
+            HeaderFault::Digest => "volume of the trace differs: digest",
             HeaderFault::Missing => "trace has no head, and one is expected",
             HeaderFault::Unexpected => "trace has a head, and none is expected",
         }
@@ -79,7 +79,7 @@ fn are_same(digests: &[[u8; 32]], others: &[[u8; 32]]) -> bool
     digests == others
 }
 
-/// What is different first in another machine.
+/// The first part in which two machines differ.
 fn machine_difference(config: &Config, other: &Config) -> Option<MachinePart>
     ensures { MatchOption result (config.now ≡ other.now) (λ part. DiffersIn part config.now other.now) }
 {
