@@ -1,6 +1,6 @@
 //! What the core is started with.
-ghost use Rattle.std.specs.Prelude.{◌≡◌, ◌<◌, ◌≤◌, ◌↔◌, IsSome, IfSome, IfOk};
-ghost use Rattle.kc_types.specs.Limits.{frame_limit, slot_limit, leaf_limit};
+ghost use Rattle.std.specs.Prelude.{◌≡◌, ◌<◌, ◌≤◌, ◌↔◌, length, IsSome, IfSome, IfOk};
+ghost use Rattle.kc_types.specs.Limits.{frame_limit, slot_limit, leaf_limit, digest_limit};
 ghost use Rattle.kc_types.specs.Configuration.{IsConfiguration, boot_owner, slot_count};
 ghost use Rattle.kc_types.specs.ConfigFaults.{Configures};
 
@@ -214,9 +214,10 @@ impl Config {
         }
     }
 
-    /// The approved digests.
+    /// The approved digests, at most 64.
     pub fn approved(&self) -> &[[u8; 32]]
-        ensures { result.now ≡ self.now.approved }
+        ensures value { result.now ≡ self.now.approved }
+        ensures few { length result.now ≤ digest_limit }
     {
         self.approved.digests.as_slice()
     }

@@ -16,7 +16,7 @@ tested : (c : After-is_approved) → is_approved_digest c.args.config.now (get_o
 tested c =
     let digest = (get_or c.args.images.now c.loop-i.i none).digest in
     sym (approved-is c.is_approved.result c.new-approved.result digest c.is_approved.ensures
-    ∙ ap (list_any (λ other. same_bytes other digest)) (c.new-approved.ensures ∙ c.approved.ensures))
+    ∙ ap (list_any (λ other. same_bytes other digest)) (c.new-approved.ensures ∙ c.approved.ensures.value))
 
 pub returns-then-not-is_approved : goal.returns-then-not-is_approved
 returns-then-not-is_approved c =
