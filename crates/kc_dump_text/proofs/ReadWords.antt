@@ -14,13 +14,13 @@ use Rattle.kc_types.specs.declared.owner.Owner.{Owner}
 use Rattle.kc_types.specs.declared.owner.Owner.TheVariants.{Core, Host, Free, Vm}
 use Rattle.kc_types.specs.declared.slot.Phase.{Phase}
 use Rattle.kc_types.specs.declared.slot.Phase.TheVariants.{Empty, Booting, Active, Dead}
-use Rattle.kc_lines.specs.Words.{number_in, is_lower_digit, data_of}
+use Rattle.kc_lines.specs.Words.{number_in, digest_in}
 use Rattle.kc_lines.proofs.Numbers.{number_of-decimal, number_is_decimal}
-use Rattle.kc_lines.proofs.Digits.{data_is_spelled, read_as_spelled, no_digits}
+use Rattle.kc_lines.proofs.Digests.{digest_again, digest_is}
 use Rattle.kc_lines.proofs.Words.{is_word, map_some, then_some, chosen, name_is, decimal_is_word, encoded_is_word}
 use Rattle.kc_dump.specs.Ranges.{is_below, is_owner}
 use Rattle.kc_dump_text.specs.DumpText.{or_dash, bit, phase_word, owner_word}
-use Rattle.kc_dump_text.specs.Words.{under, below_of, choose, nothing, or_dash_of, bit_of, phase_of, owner_of, digest_in}
+use Rattle.kc_dump_text.specs.Words.{under, below_of, choose, nothing, or_dash_of, bit_of, phase_of, owner_of}
 use Rattle.kc_dump_text.proofs.Limits.{few-slots}
 
 -- ---- readers of a word, and of words
@@ -114,20 +114,8 @@ pub record DigestFits (bytes : List ℕ) : Type 0 where
   pub long : length bytes ≡ 32
   pub each : All (λ b. b < 256) bytes
 
-pub digest-read : (word bytes : List ℕ) → length word ≡ 64 → word ≡ encode_lower bytes → All (λ b. b < 256) bytes → digest_in word ≡ Some bytes
-unfolding digest_in
-digest-read word bytes long spelled each = rw (eq-eqb (length word) 64 long) (read_as_spelled word bytes (omega (arith, long)) (omega (arith, long)) spelled each)
-
-pub no-digest : (word : List ℕ) → length word ≡ 64 → list_all is_lower_digit word ≡ false → digest_in word ≡ None
-unfolding digest_in
-no-digest word long e = rw (eq-eqb (length word) 64 long) (no_digits word e)
-
-pub digest-to : (bytes : List ℕ) → DigestFits bytes → digest_in (encode_lower bytes) ≡ Some bytes
-digest-to bytes fits = digest-read (encode_lower bytes) bytes (omega (arith, fits.long, length-encode_with lower_digits bytes)) refl fits.each
-
 pub digest-reads : (bytes : List ℕ) → DigestFits bytes → Reads is_word digest_in (encode_lower bytes) bytes
-digest-reads bytes fits = record { passes = encoded_is_word bytes (record { nonempty = omega (arith, fits.long); within = omega (arith, fits.long); each_byte = fits.each }); found = digest-to bytes fits }
+digest-reads bytes fits = record { passes = encoded_is_word bytes (record { nonempty = omega (arith, fits.long); within = omega (arith, fits.long); each_byte = fits.each }); found = digest_again bytes fits.long fits.each }
 
 pub digest-from : (word bytes : List ℕ) → digest_in word ≡ Some bytes → word ≡ encode_lower bytes
-unfolding digest_in
-digest-from word bytes e = elim (chosen (length word == 64) (data_of word) None (Some bytes) e) [ inl h ↦ (data_is_spelled word bytes h.1).0 | inr h ↦ absurd cc ]
+digest-from word bytes e = (digest_is word bytes e).spelled

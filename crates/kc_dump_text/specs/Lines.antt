@@ -8,7 +8,7 @@ use Rattle.kc_dump.specs.declared.line.FrameLine.{FrameLine}
 use Rattle.kc_lines.specs.Words.{number_in, at_end}
 use Rattle.kc_dump_text.specs.declared.dump_line.DumpLine.{DumpLine}
 use Rattle.kc_dump_text.specs.declared.dump_line.DumpLine.TheVariants.{SizeOf, FreeOf, VmOf, LeafOf, EntryOf, FrameOf}
-use Rattle.kc_dump_text.specs.Words.{nothing, below_of, or_dash_of, bit_of, phase_of, owner_of, digest_in}
+use Rattle.kc_dump_text.specs.Words.{nothing, below_of, or_dash_of, bit_of, phase_of, owner_of}
 
 -- the first word is read, and then the words after it, in a way that may depend on its value
 abbrev pub then_word : {X Y : Type 0} → (List ℕ → Option X) → (X → List (List ℕ) → Option Y) → List (List ℕ) → Option Y

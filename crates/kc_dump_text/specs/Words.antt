@@ -6,7 +6,7 @@ use Rattle.kc_types.specs.declared.owner.Owner.{Owner}
 use Rattle.kc_types.specs.declared.owner.Owner.TheVariants.{Core, Host, Free, Vm}
 use Rattle.kc_types.specs.declared.slot.Phase.{Phase}
 use Rattle.kc_types.specs.declared.slot.Phase.TheVariants.{Empty, Booting, Active, Dead}
-use Rattle.kc_lines.specs.Words.{number_in, data_of}
+use Rattle.kc_lines.specs.Words.{number_in}
 
 -- a number that is below the limit
 abbrev pub under : ℕ → ℕ → Option ℕ
@@ -39,7 +39,3 @@ phase_of = choose (codes "empty") Empty (choose (codes "booting") Booting (choos
 -- the words of an owner
 abbrev pub owner_of : List ℕ → Option Owner
 owner_of = choose (codes "core") Core (choose (codes "host") Host (choose (codes "free") Free (λ word. option_map Vm (below_of slot_limit word))))
-
--- the 32 bytes that the lower case digits spell
-unfoldable pub digest_in : List ℕ → Option (List ℕ)
-digest_in word = if length word == 64 then data_of word else None

@@ -20,5 +20,4 @@ mod writer;
 
 pub use fault::DumpFault;
 pub use reader::read_dump;
-pub use words::read_digest;
 pub use writer::write_dump;

@@ -4,11 +4,10 @@ ghost use Rattle.kc_dump_text.specs.Lines.{size_line, ends_of, free_line, vm_lin
 
 use crate::dump_line::DumpLine;
 use crate::words::{
-    read_bit, read_digest, read_frame, read_frame_or_dash, read_gfn, read_gfn_or_dash, read_owner,
-    read_phase,
+    read_bit, read_frame, read_frame_or_dash, read_gfn, read_gfn_or_dash, read_owner, read_phase,
 };
 use kc_dump::FrameLine;
-use kc_lines::{LineWords, read_number};
+use kc_lines::{LineWords, read_digest, read_number};
 use kc_types::Ends;
 
 fn read_size_line(mut words: LineWords) -> Option<DumpLine>

@@ -1,9 +1,9 @@
 //! How the words of a dump's line are read.
 ghost use Rattle.std.specs.Prelude.{◌≡◌};
 ghost use Rattle.kc_types.specs.Limits.{frame_limit, slot_limit, gfn_limit};
-ghost use Rattle.kc_dump_text.specs.Words.{below_of, or_dash_of, bit_of, phase_of, owner_of, digest_in};
+ghost use Rattle.kc_dump_text.specs.Words.{below_of, or_dash_of, bit_of, phase_of, owner_of};
 
-use kc_lines::{decode_into, read_number};
+use kc_lines::read_number;
 use kc_types::{FrameNo, Gfn, Owner, Phase, VmId};
 
 pub fn read_frame(word: &[u8]) -> Option<FrameNo>
@@ -83,18 +83,5 @@ pub fn read_owner(word: &[u8]) -> Option<Owner>
         Some(Owner::Free)
     } else {
         Some(Owner::Vm(read_vm(word)?))
-    }
-}
-
-/// The 32 bytes that 64 lower case digits spell.
-#[tactic(auto, using(kc_lines::proofs::Digits::no_digits), unfolding(crate::specs::Words::digest_in))]
-pub fn read_digest(word: &[u8]) -> Option<[u8; 32]>
-    ensures { result ≡ digest_in word.now }
-{
-    let mut digest = [0; 32];
-    if word.len() == 64 && decode_into(word, &mut digest) {
-        Some(digest)
-    } else {
-        None
     }
 }

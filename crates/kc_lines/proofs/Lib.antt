@@ -1,6 +1,7 @@
 pub mod Searches
 pub mod Numbers
 pub mod Digits
+pub mod Digests
 pub mod Words
 pub mod Newlines
 pub mod Encoded

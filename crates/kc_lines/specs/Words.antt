@@ -43,6 +43,10 @@ is_data_word word = list_all is_lower_digit word && not (length word == 0) && na
 unfoldable pub data_of : List ℕ → Option (List ℕ)
 data_of word = if is_data_word word then result_ok (decode_of word) else None
 
+-- the 32 bytes that the 64 lower case digits spell
+unfoldable pub digest_in : List ℕ → Option (List ℕ)
+digest_in word = if length word == 64 then data_of word else None
+
 -- a zero for each byte, if there are any
 abbrev pub blanked_data : Option (List ℕ) → Option (List ℕ)
 blanked_data found = option_map (λ bytes. replicate (length bytes) 0) found

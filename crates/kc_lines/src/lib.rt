@@ -12,6 +12,7 @@ mod room;
 
 pub use line_words::LineWords;
 pub use reading::{
-    decode_into, read_blanked, read_data, read_number, split_line, split_number, split_word,
+    decode_into, read_blanked, read_data, read_digest, read_number, split_line, split_number,
+    split_word,
 };
 pub use room::{push_bytes, push_digits, push_number};

@@ -7,7 +7,7 @@ ghost use Rattle.hex.specs.Hex.{encode_lower};
 ghost use Rattle.kc_types.specs.Bytes.{short_size};
 ghost use Rattle.kc_types.specs.Limits.{page_size};
 ghost use Rattle.kc_lines.specs.Lines.{IsOneLine};
-ghost use Rattle.kc_lines.specs.Words.{has_no_leading_zero, number_in, IsLastNumber, IsFirstNumber, is_lower_digit, digit_value, data_of, blanked_data};
+ghost use Rattle.kc_lines.specs.Words.{has_no_leading_zero, number_in, IsLastNumber, IsFirstNumber, is_lower_digit, digit_value, data_of, blanked_data, digest_in};
 
 use kc_types::{Data, PAGE_SIZE, SHORT_SIZE};
 use memchr::memchr;
@@ -247,4 +247,17 @@ pub fn read_blanked(alloc: Global, word: &[u8]) -> Result<Option<Data>, AllocErr
         return Ok(Some(make_short_zeros(len)));
     }
     Ok(Data::try_new(vec![in alloc; 0u8; len]?))
+}
+
+/// The 32 bytes that 64 lower case digits spell.
+#[tactic(auto, using(crate::proofs::Digits::no_digits), unfolding(crate::specs::Words::digest_in))]
+pub fn read_digest(word: &[u8]) -> Option<[u8; 32]>
+    ensures { result ≡ digest_in word.now }
+{
+    let mut digest = [0; 32];
+    if word.len() == 64 && decode_into(word, &mut digest) {
+        Some(digest)
+    } else {
+        None
+    }
 }

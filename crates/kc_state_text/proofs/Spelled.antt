@@ -11,12 +11,13 @@ use Rattle.kc_types.specs.Bytes.{IsData}
 use Rattle.kc_types.specs.Limits.{frame_limit, slot_limit, gfn_limit, digest_limit}
 use Rattle.kc_model.specs.State.{Vcpu, Image}
 use Rattle.kc_model.specs.Lawful.{IsPage}
-use Rattle.kc_lines.specs.Words.{number_in, data_of}
+use Rattle.kc_lines.specs.Words.{number_in, data_of, digest_in}
 use Rattle.kc_lines.proofs.Words.{is_word, chosen, map_some, then_some, name_is, decimal_is_word, encoded_is_word}
 use Rattle.kc_lines.proofs.Numbers.{number_of-decimal}
 use Rattle.kc_lines.proofs.Digits.{data_of-encode_lower}
-use Rattle.kc_dump_text.specs.Words.{below_of, under, digest_in}
-use Rattle.kc_dump_text.proofs.ReadWords.{number-from, under-from, under-to, digest-to}
+use Rattle.kc_lines.proofs.Digests.{digest_again}
+use Rattle.kc_dump_text.specs.Words.{below_of, under}
+use Rattle.kc_dump_text.proofs.ReadWords.{number-from, under-from, under-to}
 use Rattle.kc_state.specs.Told.{SlotRest}
 use Rattle.kc_model.specs.Volumes.{IsDigest}
 use Rattle.kc_state_text.specs.declared.sizes.Sizes.{Sizes}
@@ -114,7 +115,7 @@ pub approved-same : (a b : List ℕ) → IsDigest a → IsDigest b → approved_
 approved-same a b x y e = let word : encode_lower a ≡ encode_lower b = cc in digits-same a b (data-digest a x) (data-digest b y) word
 
 pub approved-to : (digest : List ℕ) → IsDigest digest → digest_in (encode_lower digest) ≡ Some digest
-approved-to digest is = digest-to digest (record { long = is.long; each = is.each })
+approved-to digest is = digest_again digest is.long is.each
 
 -- ---- virtual processors
 

@@ -8,12 +8,10 @@ use Rattle.std.specs.Fmt.{decimal}
 use Rattle.hex.specs.Hex.{encode_lower}
 use Rattle.kc_types.specs.Limits.{frame_limit, slot_limit, digest_limit}
 use Rattle.kc_model.specs.State.{Vcpu}
-use Rattle.kc_lines.specs.Words.{number_in, data_of}
+use Rattle.kc_lines.specs.Words.{number_in, digest_in}
 use Rattle.kc_lines.proofs.Words.{chosen}
 use Rattle.kc_lines.proofs.Numbers.{number_of-decimal, number_is_decimal}
-use Rattle.kc_dump_text.specs.Words.{digest_in}
-use Rattle.kc_dump_text.proofs.ReadWords.{digest-from}
-use Rattle.kc_lines.proofs.Digits.{data_is_spelled}
+use Rattle.kc_lines.proofs.Digests.{digest_is}
 use Rattle.kc_model.specs.Volumes.{IsDigest}
 use Rattle.kc_state_text.specs.declared.sizes.Sizes.{Sizes}
 use Rattle.kc_state_text.specs.Words.{vcpu_in}
@@ -48,16 +46,7 @@ vcpu-read None words word rest e f = λ vcpu more is g.
 vcpu-read (Some vcpu) words word rest e f = let from = vcpu-from word vcpu (sym f) in record { is = from.0; whole = e ∙ ap (λ (w : List ℕ). w ∷ rest) from.1 }
 
 is-digest : (word digest : List ℕ) → digest_in word ≡ Some digest → IsDigest digest
-unfolding digest_in
-is-digest word digest e =
-    elim (chosen (length word == 64) (data_of word) None (Some digest) e) [
-      | inl h ↦
-          let d = data_is_spelled word digest h.1 in
-          let long = eqb-true (length word) 64 h.0 in
-          let size = ap length d.0 ∙ length-encode_with lower_digits digest in
-          record { long = omega (arith, long, size); each = d.1.each_byte }
-      | inr h ↦ absurd cc
-    ]
+is-digest word digest e = let is = digest_is word digest e in record { long = is.long; each = is.each }
 
 -- ---- the sizes
 
@@ -109,5 +98,5 @@ module _ (name : List ℕ) (words : List (List ℕ)) where
   pub digest-is-read : (digest word : List ℕ) (first rest : List (List ℕ)) → words ≡ name ∷ first → first ≡ word ∷ rest → rest ≡ [] → digest_in word ≡ Some digest → IsWhole IsDigest (after_name name approved_words) words digest
   digest-is-read digest word first rest e f n some = record {
     is = is-digest word digest some;
-    whole = e ∙ ap (λ (ws : List (List ℕ)). name ∷ ws) (f ∙ (λ i. digest-from word digest some i ∷ n i));
+    whole = e ∙ ap (λ (ws : List (List ℕ)). name ∷ ws) (f ∙ (λ i. (digest_is word digest some).spelled i ∷ n i));
   }

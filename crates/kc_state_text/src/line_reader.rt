@@ -10,8 +10,7 @@ ghost use Rattle.kc_state_text.specs.Refused.{AreSizes, IsVcpuWord, AreImageWord
 use crate::sizes::Sizes;
 use crate::words::{take_name, take_number, take_number_to};
 use arrayvec::ArrayVec;
-use kc_dump_text::read_digest;
-use kc_lines::{LineWords, read_number};
+use kc_lines::{LineWords, read_digest, read_number};
 use kc_state::SlotRest;
 use kc_types::{
     DIGEST_LIMIT, FRAME_LIMIT, GFN_LIMIT, IMAGE_LIMIT, Image, SLOT_LIMIT, VCPU_LIMIT, Vcpu,

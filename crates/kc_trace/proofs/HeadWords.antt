@@ -24,12 +24,12 @@ use Rattle.kc_types.specs.declared.config.ConfigFault.TheVariants.{Frames, CoreH
 use Rattle.kc_types.specs.declared.version.Version.{Version}
 use Rattle.kc_types.specs.declared.version.Version.TheVariants as version
 use Rattle.kc_model.specs.Ranged.{IsWord}
-use Rattle.kc_lines.specs.Words.{number_in, data_of, at_end}
+use Rattle.kc_lines.specs.Words.{number_in, digest_in, at_end}
 use Rattle.kc_lines.proofs.Numbers.{number_of-decimal, number_is_decimal}
 use Rattle.std.proofs.lemmas.Fmt.{decimal_digit, length-decimal-le}
-use Rattle.kc_lines.proofs.Digits.{data_is_spelled, read_as_spelled}
+use Rattle.kc_lines.proofs.Digests.{digest_again, digest_is}
 use Rattle.kc_lines.proofs.Words.{is_word, chosen, map_some, then_some, name_is, width, split_join, join_is_one_line, length-join, decimal_is_word, encoded_is_word}
-use Rattle.kc_trace.specs.HeadReading.{◌>>=◌, take_name, take_word, take_number, take_pair, take_digest, digest_in, words_in, first_of, later_of, position_of, position_in, approved_in, version_numbered, begun_if, machine_of, machine_by, machine_in}
+use Rattle.kc_trace.specs.HeadReading.{◌>>=◌, take_name, take_word, take_number, take_pair, take_digest, words_in, first_of, later_of, position_of, position_in, approved_in, version_numbered, begun_if, machine_of, machine_by, machine_in}
 
 -- ---- a name and numbers
 
@@ -57,26 +57,8 @@ head_ended head =
 
 -- ---- digests
 
-pub digest_read : (word bytes : List ℕ) → length word ≡ 64 → word ≡ encode_lower bytes → All (λ b. b < 256) bytes → digest_in word ≡ Some bytes
-unfolding digest_in
-digest_read word bytes long spelled each = rw (eq-eqb (length word) 64 long) (read_as_spelled word bytes (omega (arith, long)) (omega (arith, long)) spelled each)
-
-pub digest_again : (digest : List ℕ) → IsDigest digest → digest_in (encode_lower digest) ≡ Some digest
-digest_again digest is = digest_read (encode_lower digest) digest (omega (arith, is.long, length-encode_with lower_digits digest)) refl is.each
-
 digest_is_data : (digest : List ℕ) → IsDigest digest → IsData digest
 digest_is_data digest is = let long = is.long in record { nonempty = omega (arith, long); within = omega (arith, long); each_byte = is.each }
-
-digest_is : (word digest : List ℕ) → digest_in word ≡ Some digest → (word ≡ encode_lower digest) × IsDigest digest
-unfolding digest_in
-digest_is word digest e = elim (chosen (length word == 64) (data_of word) None (Some digest) e) [
-  | inl h ↦
-      let bytes = data_is_spelled word digest h.1 in
-      let long : length word ≡ 64 = eqb-true _ _ h.0 in
-      let size : length word ≡ 2 * length digest = ap length bytes.0 ∙ length-encode_with lower_digits digest in
-      (bytes.0, record { long = omega (arith, long, size); each = bytes.1.each_byte })
-  | inr h ↦ absurd cc
-]
 
 -- ---- words that are taken
 
@@ -106,11 +88,14 @@ pair_taken words taken e =
     let same : ((first.0.0, second.0.0), second.0.1) ≡ taken = cc in
     (number_taken words first.0 first.1).0 ∙ ap (λ ws. decimal first.0.0 ∷ ws) (number_taken first.0.1 second.0 second.1).0 ∙ ap (λ (p : (ℕ × ℕ) × List (List ℕ)). decimal p.0.0 ∷ decimal p.0.1 ∷ p.1) same
 
+digest_found : (word digest : List ℕ) → digest_in word ≡ Some digest → (word ≡ encode_lower digest) × IsDigest digest
+digest_found word digest e = let is = digest_is word digest e in (is.spelled, record { long = is.long; each = is.each })
+
 digest_taken : (words : List (List ℕ)) (taken : List ℕ × List (List ℕ)) → take_digest words ≡ Some taken → (words ≡ encode_lower taken.0 ∷ taken.1) × IsDigest taken.0
 digest_taken [] taken e = absurd cc
 digest_taken (word ∷ words) taken e =
     let digest = map_some (λ digest. (digest, words)) (digest_in word) taken e in
-    let spelled = digest_is word digest.0 digest.1 in
+    let spelled = digest_found word digest.0 digest.1 in
     (subst (λ (p : List ℕ × List (List ℕ)). word ∷ words ≡ encode_lower p.0 ∷ p.1) digest.2 (ap (λ w. w ∷ words) spelled.0), subst (λ (p : List ℕ × List (List ℕ)). IsDigest p.0) digest.2 spelled.1)
 
 none_left : (words : List (List ℕ)) (end : Unit {0}) → at_end words ≡ Some end → words ≡ []
@@ -140,7 +125,7 @@ position_is number word position fits e = elim (chosen (bytes_eq word (codes "-"
   | inr h ↦
       let digest = then_some (later_of number) (digest_in word) position h.1 in
       let later = later_is number digest.0 position digest.2 in
-      let spelled = digest_is word digest.0 digest.1 in
+      let spelled = digest_found word digest.0 digest.1 in
       (ap (λ w. decimal number ∷ w ∷ []) spelled.0 ∙ ap position_words (sym later.1), subst IsPosition (sym later.1) (later.0, fits, spelled.1))
 ]
 
@@ -171,7 +156,7 @@ no_dash digest is = false_from_ne_true (bytes_eq (encode_lower digest) (codes "-
 
 position_words_again : (position : Position) → IsPosition position → (take_number (position_words position) >>= λ number. take_word number.1 >>= λ word. at_end word.1 >>= λ end. position_of number.0 word.0) ≡ Some position
 position_words_again First is = let one : number_in (codes "1") ≡ Some 1 = ap number_in (sym (decimal_digit 1 (omega arith))) ∙ number_of-decimal 1 (omega arith) in rw one refl
-position_words_again (Later number after) is = rw (number_of-decimal number is.1, no_dash after is.2, digest_again after is.2, le-leb 2 number is.0) refl
+position_words_again (Later number after) is = rw (number_of-decimal number is.1, no_dash after is.2, digest_again after is.2.long is.2.each, le-leb 2 number is.0) refl
 
 pub position_again : (position : Position) → IsPosition position → position_in (words_in (position_line position)) ≡ Some position
 unfolding position_in position_line
@@ -197,7 +182,7 @@ approved_words_are digest is = rw (encoded_is_word digest (digest_is_data digest
 
 approved_words_again : (digest : List ℕ) → IsDigest digest → approved_in (codes "approved" ∷ encode_lower digest ∷ []) ≡ Some digest
 unfolding approved_in
-approved_words_again digest is = rw (digest_again digest is) refl
+approved_words_again digest is = rw (digest_again digest is.long is.each) refl
 
 pub approved_again : (digest : List ℕ) → IsDigest digest → approved_in (words_in (approved_line digest)) ≡ Some digest
 unfolding approved_line

@@ -8,7 +8,7 @@ use Rattle.kc_trace.specs.Header.{Begun}
 use Rattle.kc_types.specs.ConfigFaults.{fault_of}
 use Rattle.kc_types.specs.declared.version.Version.{Version}
 use Rattle.kc_types.specs.declared.version.Version.TheVariants as version
-use Rattle.kc_lines.specs.Words.{number_in, data_of, at_end}
+use Rattle.kc_lines.specs.Words.{number_in, digest_in, at_end}
 use Rattle.kc_trace.specs.declared.header.Position.{Position}
 use Rattle.kc_trace.specs.declared.header.Position.TheVariants.{First, Later}
 use Rattle.kc_trace.specs.declared.header.Head.{Head}
@@ -47,10 +47,6 @@ take_pair words = do
   first ← take_number words
   second ← take_number first.1
   Some ((first.0, second.0), second.1)
-
--- the 32 bytes that 64 lower case digits spell
-unfoldable pub digest_in : List ℕ → Option (List ℕ)
-digest_in word = if length word == 64 then data_of word else None
 
 -- the next word as a digest
 abbrev pub take_digest : List (List ℕ) → Option (List ℕ × List (List ℕ))

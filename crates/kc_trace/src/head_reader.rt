@@ -1,10 +1,10 @@
 //! Reading the lines of a header one after another: the first, and those of the head that may follow it.
 ghost use Rattle.std.specs.Prelude.{◌≡◌, ◌++◌, IfOk, IfSome, MatchOption, None, Some};
 ghost use Rattle.kc_trace.specs.Header.{IsHeader, trace_header};
-ghost use Rattle.kc_trace.specs.HeadReading.{take_name, take_word, take_number, take_pair, take_digest, digest_in, words_in, version_numbered, machine_in, approved_in, position_of, position_in, first_line_read, machine_line_read, next_line, next_number, is_nothing};
+ghost use Rattle.kc_trace.specs.HeadReading.{take_name, take_word, take_number, take_pair, take_digest, words_in, version_numbered, machine_in, approved_in, position_of, position_in, first_line_read, machine_line_read, next_line, next_number, is_nothing};
 
 use crate::header::{Head, Header, Position};
-use kc_lines::{LineWords, decode_into, read_number, split_line};
+use kc_lines::{LineWords, read_digest, read_number, split_line};
 use kc_types::{Config, DIGEST_LIMIT, Memory, Version};
 use std::alloc::Global;
 use std::marker::Model;
@@ -35,19 +35,6 @@ fn take_pair(words: &mut LineWords) -> Option<(u32, u32)>
     let first = take_number(words)?;
     let second = take_number(words)?;
     Some((first, second))
-}
-
-/// The 32 bytes that 64 lower case digits spell.
-#[tactic(auto, using(kc_lines::proofs::Digits::no_digits), unfolding(crate::specs::HeadReading::digest_in))]
-fn read_digest(word: &[u8]) -> Option<[u8; 32]>
-    ensures { result ≡ digest_in word.now }
-{
-    let mut digest = [0; 32];
-    if word.len() == 64 && decode_into(word, &mut digest) {
-        Some(digest)
-    } else {
-        None
-    }
 }
 
 /// The version of a machine's rules by its number.

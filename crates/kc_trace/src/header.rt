@@ -1,21 +1,10 @@
 //! The headers of traces, and what one of header 3 says: which machine its calls are made on, and where in a history
 //! they come.
-ghost use Rattle.std.specs.Prelude.{◌≡◌, ◌≤◌, length, IfOk};
-ghost use Rattle.kc_types.specs.Limits.{digest_limit};
+ghost use Rattle.std.specs.Prelude.{◌≡◌, ◌≤◌, IfOk};
 ghost use Rattle.kc_trace.specs.Header.{has_head, first_call_line};
 
 use kc_types::{Config, Memory};
 use std::alloc::Global;
-
-/// How many digests a configuration approves.
-pub(crate) fn approved_count(config: &Config) -> u32
-    ensures value { result ≡ length config.now.approved }
-    ensures few { result ≤ digest_limit }
-{
-    // (what is returned of the frames says that a configuration keeps its limits)
-    let _frames = config.frames();
-    config.approved().len() as u32
-}
 
 /// Where in a history a trace comes: which of its volumes it is.
 #[derive(Clone, Copy, Debug, PartialEq, Eq)]
@@ -87,7 +76,7 @@ impl Header {
         match self {
             Header::One => 2,
             Header::Two => 2,
-            Header::Three(head) => 4 + approved_count(&head.config),
+            Header::Three(head) => 4 + head.config.approved().len() as u32,
         }
     }
 }

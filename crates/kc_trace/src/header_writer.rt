@@ -2,11 +2,10 @@
 ghost use Rattle.std.specs.Prelude.{◌≡◌, ◌≤◌, ◌+◌, ◌*◌, ◌++◌, ◌∷◌, [], length, vec_len, vec_capacity};
 ghost use Rattle.std.specs.Fmt.{decimal};
 ghost use Rattle.std.specs.List.{flat_map};
-ghost use Rattle.kc_types.specs.Limits.{digest_limit};
 ghost use Rattle.kc_trace.specs.Spelling.{longest_call};
 ghost use Rattle.kc_trace.specs.Header.{version_number, machine_numbers, machine_line, approved_line, position_line, head_lines, ended_lines, trace_header};
 
-use crate::header::{Head, Header, Position, approved_count};
+use crate::header::{Head, Header, Position};
 use kc_lines::{push_bytes, push_digits, push_number};
 use kc_types::{Config, Version};
 
@@ -30,7 +29,7 @@ fn machine_numbers(config: &Config) -> [u32; 7]
         config.core(),
         config.host(),
         config.leaves(),
-        approved_count(config),
+        config.approved().len() as u32,
     ]
 }
 
@@ -106,8 +105,7 @@ pub fn push_position(text: &mut Vec<u8>, position: Position)
 
 /// Appends the lines of a head, each with its newline.
 fn push_head(text: &mut Vec<u8>, head: &Head)
-    requires room { vec_len text.old + 4903 ≤ vec_capacity text.old }
-    requires few { length head.now.config.approved ≤ digest_limit }
+    requires { vec_len text.old + 4903 ≤ vec_capacity text.old }
     ensures items { text.new.items ≡ text.old.items ++ ended_lines (head_lines head.now) }
     ensures capacity { vec_capacity text.old ≤ vec_capacity text.new }
 {
@@ -129,7 +127,6 @@ pub fn push_header(text: &mut Vec<u8>, header: &Header)
         Header::Two => push_bytes(text, b"kcore-trace 2\n"),
         Header::Three(head) => {
             push_bytes(text, b"kcore-trace 3\n");
-            let _count = approved_count(&head.config);
             push_head(text, head);
         },
     }

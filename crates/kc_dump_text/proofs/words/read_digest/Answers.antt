@@ -1,6 +1,0 @@
-use Rattle.std.proofs.Common.{sym}
-use Rattle.kc_dump_text.proofs.ReadWords.{digest-read}
-use Rattle.kc_dump_text.proofs.words.read_digest.Goals as goal
-
-pub returns-then-decode_into : goal.returns-then-decode_into
-returns-then-decode_into c = sym (digest-read c.args.word.now c.decode_into.new.bytes c.if-word-eq64.true (c.decode_into.ensures.spelled c.if-decode_into.true) c.decode_into.ensures.each_byte)
