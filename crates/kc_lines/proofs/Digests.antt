@@ -1,5 +1,5 @@
 -- A digest has one spelling of 64 lower case digits.
-use Rattle.std.proofs.Common.{◌≡◌, ◌*◌, ℕ, List, length, All, Option, Some, None, refl, ap, ◌∙◌, arith, inl, inr}
+use Rattle.std.proofs.Common.{◌≡◌, ◌<◌, ◌*◌, ℕ, List, length, All, Option, Some, None, refl, ap, ◌∙◌, arith, inl, inr}
 use Rattle.std.specs.Prelude.{◌==◌}
 use Rattle.std.proofs.lemmas.Bool.{eqb-true, eq-eqb}
 use Rattle.hex.specs.Hex.{encode_lower, lower_digits}
