@@ -18,6 +18,7 @@ use Rattle.kc_state_text.specs.declared.fault.StateFault.{StateFault}
 use Rattle.kc_state_text.specs.Refused.{IsRefusedPlaced}
 use Rattle.kc_faults.specs.declared.origin.Origin.{Origin}
 use Rattle.kc_faults.specs.declared.origin.Origin.TheVariants as origins
+use Rattle.kc_trace.specs.Expected.{IsRefusedThere}
 use Rattle.kc_faults.specs.Origins.{BeginsIn, IsBegun, IsRefusedFrom}
 use Rattle.kc_faults.specs.Outcomes.{IsStartFault, IsTold, TellsSources, TellsTexts, TellsReplay, TellsSink}
 use Rattle.kc_texts.specs.Ends.{Seen}
@@ -119,6 +120,21 @@ refused_from origin start text Memory h = h
 pub known_refused : (origin : Origin) (start trace : Option (List ℕ)) (fault : TraceFault) → IfSome trace (λ text. IsRefused text fault) → IfSome trace (λ text. IsRefusedFrom origin start text fault)
 known_refused origin start None fault h = tt
 known_refused origin start (Some text) fault h = refused_from origin start text fault h
+
+-- a text that is refused where a start leads is refused from it
+refused_where : (origin : Origin) (start : Option (List ℕ)) (m : State) (expected : Expected) (text : List ℕ) (fault : TraceFault) → IfSome start (λ first. BeginsIn origin first m expected) → IsRefusedThere m.config expected text fault → IsRefusedFrom origin start text fault
+refused_where origin start m expected text NoHeader begins is = is
+refused_where origin start m expected text (BadLine n) begins is = is
+refused_where origin start m expected text NoNewline begins is = is
+refused_where origin start m expected text TooManyCalls begins is = is
+refused_where origin None m expected text (Misplaced wrong) begins is = tt
+refused_where origin (Some first) m expected text (Misplaced wrong) begins is = (m, expected, begins, is)
+refused_where origin start m expected text Memory begins is = is
+
+pub known_refused_where : (origin : Origin) (start : Option (List ℕ)) (m : State) (expected : Expected) (trace : Option (List ℕ)) (fault : TraceFault) → IfSome start (λ first. BeginsIn origin first m expected) → IfSome trace (λ text. IsRefusedThere m.config expected text fault)
+    → IfSome trace (λ text. IsRefusedFrom origin start text fault)
+known_refused_where origin start m expected None fault begins is = tt
+known_refused_where origin start m expected (Some text) fault begins is = refused_where origin start m expected text fault begins is
 
 -- the trace was refused, after a start
 pub texts_trace : {A : Type 0} (origin : Origin) (start trace : Seen) (unread : Type 0) (m : State) (expected : Expected) (f : TextFault) → IfSome start.had (λ text. BeginsIn origin text m expected) → ((said : TraceFault) → f ≡ texts.Trace said → IfSome trace.had (λ text. IsRefusedFrom origin start.had text said) × IsAtEnd trace.has)

@@ -5,17 +5,19 @@ use Rattle.std.proofs.Math.Seq.{take-suc}
 use Rattle.std.proofs.lemmas.List.{map-append, append-nil, drop_more}
 use Rattle.std.specs.List.{AllByRecursion}
 use Rattle.std.specs.Io.KnownBytes.{IsAtEnd}
+use Rattle.kc_types.specs.Configuration.{Configuration}
 use Rattle.kc_model.specs.State.{State}
+use Rattle.kc_model.proofs.States.Sizes.{config-after}
 use Rattle.kc_trace.specs.declared.fault.TraceFault.{TraceFault}
 use Rattle.kc_trace.specs.declared.fault.TraceFault.TheVariants.{TooManyCalls}
-use Rattle.kc_trace.specs.Trace.{IsRefused}
+use Rattle.kc_trace.specs.declared.expected.Expected.{Expected}
+use Rattle.kc_trace.specs.Expected.{IsRefusedThere}
 use Rattle.kc_texts.specs.Ends.{Seen, ReadFailed, HasFailedRead, HasFailed}
 use Rattle.kc_faults.specs.declared.fault.TextFault.{TextFault}
 use Rattle.kc_faults.specs.declared.fault.TextFault.TheVariants as texts
 use Rattle.kc_cli.specs.declared.custody.CustodyAccount.{CustodyAccount}
 use Rattle.kc_cli.specs.declared.custody.CustodyOrder.{CustodyOrder}
-use Rattle.kc_types.specs.declared.call.Call.{Call}
-use Rattle.kc_cli.specs.Custody.{joined, AreVolumes}
+use Rattle.kc_cli.specs.Custody.{Traced, joined, expected_last, AreVolumes}
 use Rattle.kc_cli.specs.Engine.{IsReplayFault}
 use Rattle.kc_cli.specs.Volumes.{HasTold, IsFull}
 use Rattle.kc_run.specs.declared.ending.Ending.{Ending}
@@ -45,13 +47,13 @@ pub had_both : (xs ys : List Seen) → had_by (xs ++ ys) ≡ had_by xs ++ had_by
 had_both xs ys = map-append (λ source. source.had) xs ys
 
 -- a volume that is refused after others is refused after all of them
-refused_after : (before : List (Option (List ℕ))) (xs ys : List Seen) (fault : TraceFault) → IsVolumeRefused (before ++ had_by xs) ys fault → IsVolumeRefused before (xs ++ ys) fault
-refused_after before xs ys fault is = record {
+refused_after : (config : Configuration) (expected : Expected) (before : List (Option (List ℕ))) (xs ys : List Seen) (fault : TraceFault) → IsVolumeRefused config expected (before ++ had_by xs) ys fault → IsVolumeRefused config expected before (xs ++ ys) fault
+refused_after config expected before xs ys fault is = record {
   traces = xs ++ is.traces;
   last = is.last;
   split = ap (λ (more : List Seen). xs ++ more) is.split ∙ sym (append_assoc xs is.traces (is.last ∷ []));
   volumes = is.volumes;
-  traced = subst (λ (held : List (Option (List ℕ))). AreVolumes held is.volumes) (append_assoc before (had_by xs) (had_by is.traces) ∙ ap (λ (more : List (Option (List ℕ))). before ++ more) (sym (had_both xs is.traces))) is.traced;
+  traced = subst (λ (held : List (Option (List ℕ))). AreVolumes config expected held is.volumes) (append_assoc before (had_by xs) (had_by is.traces) ∙ ap (λ (more : List (Option (List ℕ))). before ++ more) (sym (had_both xs is.traces))) is.traced;
   fault_is = is.fault_is;
 }
 
@@ -61,12 +63,13 @@ reads_then a b c refused xs ys n k r one more at = record {
   told = λ e order m before h. subst (λ (held : List (Option (List ℕ))). HasTold order c m held) (append_assoc before (had_by xs) (had_by ys) ∙ ap (λ (rest : List (Option (List ℕ))). before ++ rest) (sym (had_both xs ys)))
       (more.told e order m (before ++ had_by xs) (one.told refl order m before h));
   same = λ e. more.same e ∙ one.same refl;
+  first = λ e. more.first e ∙ one.first refl;
   ended = λ e. all_both (λ source. IsAtEnd source.has) xs ys (one.ended refl) (more.ended e);
   refuses = λ ending e order m before h.
       (let is = more.refuses ending e order m (before ++ had_by xs) (one.told refl order m before h) in
       let long = length-append xs ys in
       let last = is.3 in
-      (is.0, is.1, is.2, omega (arith, long, last, at), refused_after before xs ys is.0 is.4));
+      (is.0, is.1, is.2, omega (arith, long, last, at), refused_after m.config a.first before xs ys is.0 (subst (λ (expected : Expected). IsVolumeRefused m.config expected (before ++ had_by xs) ys is.0) (one.first refl) is.4)));
   read = λ e. elim (more.read e) [
     | inl failed ↦ inl (failed_read_after xs ys failed)
     | inr none ↦ inr none
@@ -83,10 +86,11 @@ reads_then a b c refused xs ys n k r one more at = record {
 
 -- a volume is in the account
 pub volume_told : (old new : CustodyAccount) (source : Seen) (number : ℕ) → ((order : CustodyOrder) (m : State) (sources : List (Option (List ℕ))) → HasTold order old m sources → HasTold order new m (sources ++ source.had ∷ []))
-    → new.start ≡ old.start → IsAtEnd source.has → (source.failed ≡ true → ⊥) → ReadsOn old new None (source ∷ []) number (Ok None)
-volume_told old new source number told same ended whole = record {
+    → new.start ≡ old.start → new.first ≡ old.first → IsAtEnd source.has → (source.failed ≡ true → ⊥) → ReadsOn old new None (source ∷ []) number (Ok None)
+volume_told old new source number told same first ended whole = record {
   told = λ e order m before h. told order m before h;
   same = λ e. same;
+  first = λ e. first;
   ended = λ e. (ended, tt);
   refuses = λ ending e. absurd cc;
   read = λ e. absurd cc;
@@ -100,12 +104,20 @@ volume_told old new source number told same ended whole = record {
   started = λ e. cc;
 }
 
+-- refused where the volumes before it led
+refused_last : (order : CustodyOrder) (account : CustodyAccount) (m : State) (before : List (Option (List ℕ))) (source : Option (List ℕ)) (fault : TraceFault) (told : HasTold order account m before)
+    → IfSome source (λ text. IsRefusedThere account.core.config account.expected text fault) → IfSome source (λ text. IsRefusedThere m.config (expected_last account.first told.volumes) text fault)
+refused_last order account m before source fault told is =
+    subst (λ (expected : Expected). IfSome source (λ text. IsRefusedThere m.config expected text fault)) told.next
+    (subst (λ (config : Configuration). IfSome source (λ text. IsRefusedThere config account.expected text fault)) (ap (λ (n : State). n.config) told.kept.left ∙ config-after m (joined told.volumes)) is)
+
 -- a volume is refused
-pub volume_refused : (old new : CustodyAccount) (source : Seen) (number : ℕ) (fault : TraceFault) → (IfSome source.had (λ text. IsRefused text fault) × IsAtEnd source.has) ⊎ ((fault ≡ TooManyCalls) × IsFull old) → (source.failed ≡ true → ⊥)
+pub volume_refused : (old new : CustodyAccount) (source : Seen) (number : ℕ) (fault : TraceFault) → (IfSome source.had (λ text. IsRefusedThere old.core.config old.expected text fault) × IsAtEnd source.has) ⊎ ((fault ≡ TooManyCalls) × IsFull old) → (source.failed ≡ true → ⊥)
     → ReadsOn old new None (source ∷ []) number (Ok (Some (endings.Refused number fault)))
 volume_refused old new source number fault why whole = record {
   told = λ e. absurd cc;
   same = λ e. absurd cc;
+  first = λ e. absurd cc;
   ended = λ e. absurd cc;
   refuses = λ ending e order m before h. (
     fault,
@@ -117,9 +129,9 @@ volume_refused old new source number fault why whole = record {
       last = source;
       split = refl;
       volumes = h.volumes;
-      traced = subst (λ (held : List (Option (List ℕ))). AreVolumes held h.volumes) (sym (append-nil before)) h.traced;
+      traced = subst (λ (held : List (Option (List ℕ))). AreVolumes m.config old.first held h.volumes) (sym (append-nil before)) h.traced;
       fault_is = elim why [
-        | inl is ↦ inl is
+        | inl is ↦ inl (refused_last order old m before source.had fault h is.0, is.1)
         | inr full ↦ inr (full.0, (let line = h.kept.line in let more = full.1 in omega (arith, line, more)))
       ];
     },
@@ -141,6 +153,7 @@ pub volume_failed : (old new : CustodyAccount) (source : Seen) (number : ℕ) (f
 volume_failed old new source number fault read bad is trace started = record {
   told = λ e. absurd cc;
   same = λ e. absurd cc;
+  first = λ e. absurd cc;
   ended = λ e. absurd cc;
   refuses = λ ending e. absurd cc;
   read = λ e. inl (inl (read (let same : fault ≡ texts.Read = cc in same)));
@@ -180,6 +193,7 @@ open_failed old account sources number name refused fault reads (inl is) =
     record {
       told = λ e. absurd cc;
       same = λ e. absurd cc;
+      first = λ e. absurd cc;
       ended = λ e. absurd cc;
       refuses = λ ending e. absurd cc;
       read = λ e. absurd cc;
@@ -195,6 +209,7 @@ open_failed old account sources number name refused fault reads (inr is) =
     record {
       told = λ e. absurd cc;
       same = λ e. absurd cc;
+      first = λ e. absurd cc;
       ended = λ e. absurd cc;
       refuses = λ ending e. absurd cc;
       read = λ e. inr (subst (λ (r : Option (List ℕ)). is_some r ≡ true) (sym some) refl);
@@ -210,6 +225,7 @@ pub none_read : (account : CustodyAccount) (number : ℕ) → ReadsOn account ac
 none_read account number = record {
   told = λ e order m before h. subst (λ (held : List (Option (List ℕ))). HasTold order account m held) (sym (append-nil before)) h;
   same = λ e. refl;
+  first = λ e. refl;
   ended = λ e. tt;
   refuses = λ ending e. absurd cc;
   read = λ e. absurd cc;
@@ -241,15 +257,26 @@ opened_up_to held paths sources n d refused fault opened at lt (inr is) = rw is.
   next = (get_or paths n d, drop (n + 1) paths, ap (λ k. drop k paths) at ∙ drop_more paths n d lt, refl);
 }
 
+-- nothing was read, so what is expected did not change
+none_last : (config : Configuration) (expected : Expected) (volumes : List Traced) → AreVolumes config expected [] volumes → expected_last expected volumes ≡ expected
+none_last config expected [] is = refl
+none_last config expected (volume ∷ volumes) is = absurd is
+
 -- nothing was read, so there were no calls
-no_calls : (volumes : List (List Call)) → AreVolumes [] volumes → length (joined volumes) ≡ 0
-no_calls [] is = refl
-no_calls (calls ∷ volumes) is = absurd is
+no_calls : (config : Configuration) (expected : Expected) (volumes : List Traced) → AreVolumes config expected [] volumes → length (joined volumes) ≡ 0
+no_calls config expected [] is = refl
+no_calls config expected (volume ∷ volumes) is = absurd is
+
+-- the first trace is refused where the start leads
+pub refused_first : (order : CustodyOrder) (account : CustodyAccount) (m : State) (source : Option (List ℕ)) (fault : TraceFault) → HasTold order account m []
+    → IfSome source (λ text. IsRefusedThere account.core.config account.expected text fault) → IfSome source (λ text. IsRefusedThere m.config account.first text fault)
+refused_first order account m source fault told is =
+    subst (λ (expected : Expected). IfSome source (λ text. IsRefusedThere m.config expected text fault)) (none_last m.config account.first told.volumes told.traced) (refused_last order account m [] source fault told is)
 
 pub not_full : (order : CustodyOrder) (account : CustodyAccount) (m : State) → HasTold order account m [] → IsFull account → ⊥
 not_full order account m told full =
     let line = told.kept.line in
-    let none = no_calls told.volumes told.traced in
+    let none = no_calls m.config account.first told.volumes told.traced in
     omega (arith, line, none, full)
 
 -- what an account has to be to be read into, and to be given

@@ -6,7 +6,8 @@ use Rattle.std.specs.Io.KnownBytes.{IsAtEnd}
 use Rattle.kc_model.specs.State.{State}
 use Rattle.kc_remarks.specs.declared.denials.Answered.{Answered}
 use Rattle.kc_trace.specs.declared.fault.TraceFault.{TraceFault}
-use Rattle.kc_trace.specs.Trace.{IsRefused}
+use Rattle.kc_trace.specs.declared.expected.Expected.{Expected}
+use Rattle.kc_trace.specs.Expected.{IsRefusedThere}
 use Rattle.kc_texts.specs.Ends.{Seen, ReadFailed, HasFailedRead, HasFailed}
 use Rattle.kc_texts.specs.Written.{Writes, Begins}
 use Rattle.kc_faults.specs.declared.fault.TextFault.{TextFault}
@@ -14,7 +15,7 @@ use Rattle.kc_faults.specs.declared.fault.TextFault.TheVariants as texts
 use Rattle.kc_faults.specs.declared.origin.Origin.{Origin}
 use Rattle.kc_faults.specs.Origins.{BeginsIn}
 use Rattle.kc_faults.specs.Outcomes.{TellsSources, TellsTexts, TellsSink}
-use Rattle.kc_faults.proofs.Told.{IsLastFault, texts_ok, texts_after, begun_is}
+use Rattle.kc_faults.proofs.Told.{IsLastFault, texts_ok, texts_after, texts_trace, known_refused_where, begun_is}
 use Rattle.kc_cli.specs.declared.custody.CustodyAccount.{CustodyAccount}
 use Rattle.kc_cli.specs.declared.custody.CustodyOrder.{CustodyOrder}
 use Rattle.kc_cli.specs.Answers.{AreAllAnswered}
@@ -34,10 +35,10 @@ use Rattle.kc_run.proofs.Carried.{sink_err}
 
 -- what is said of a text that is given, if it is given to this sink
 pub record Gives (account : CustodyAccount) (ends : Ends) (r : Result Answered TextFault) : Type 0 where
-  pub answered : (order : CustodyOrder) (m : State) (start : Option (List ℕ)) (sources : List (Option (List ℕ))) → HasTold order account m sources → IfSome start (λ text. BeginsIn order.origin text m) → IfOk r (AreAllAnswered order.origin start (known sources))
-  pub ok : (order : CustodyOrder) (m : State) (start : Option (List ℕ)) (sources : List (Option (List ℕ))) → HasTold order account m sources → IfSome start (λ text. BeginsIn order.origin text m) → NamesStart (names_start order.scope.named) order.origin start m account.start
+  pub answered : (order : CustodyOrder) (m : State) (start : Option (List ℕ)) (sources : List (Option (List ℕ))) → HasTold order account m sources → IfSome start (λ text. BeginsIn order.origin text m account.first) → IfOk r (AreAllAnswered order.origin start (known sources))
+  pub ok : (order : CustodyOrder) (m : State) (start : Option (List ℕ)) (sources : List (Option (List ℕ))) → HasTold order account m sources → IfSome start (λ text. BeginsIn order.origin text m account.first) → NamesStart (names_start order.scope.named) order.origin start m account.start
       → OnOk r (Writes (IsCustodyText order.origin order.form order.scope) start (known sources) ends.out.had ends.out.has)
-  pub sink : (order : CustodyOrder) (m : State) (start : Option (List ℕ)) (sources : List (Option (List ℕ))) → HasTold order account m sources → IfSome start (λ text. BeginsIn order.origin text m) → NamesStart (names_start order.scope.named) order.origin start m account.start
+  pub sink : (order : CustodyOrder) (m : State) (start : Option (List ℕ)) (sources : List (Option (List ℕ))) → HasTold order account m sources → IfSome start (λ text. BeginsIn order.origin text m account.first) → NamesStart (names_start order.scope.named) order.origin start m account.start
       → TellsSink ends.out.failed (Begins (IsCustodyText order.origin order.form order.scope) start (known sources) ends.out.had ends.out.has) ends.untouched r
   pub fault : IfErr r IsLastFault
 
@@ -90,6 +91,9 @@ volumes_given {left = left} {failed = failed} order old account m start after en
     digest : NamesStart (names_start order.scope.named) order.origin start.had m account.start
     digest = subst (λ (d : Option (List ℕ)). NamesStart (names_start order.scope.named) order.origin start.had m d) (sym (reads.same refl)) begun.digest
 
+    begins : IfSome start.had (λ text. BeginsIn order.origin text m account.first)
+    begins = subst (λ (expected : Expected). IfSome start.had (λ text. BeginsIn order.origin text m expected)) (sym (reads.first refl)) begun.begins
+
     unfailed : HasFailed (start ∷ ends.input ∷ files) → ⊥
     unfailed = whole start (ends.input ∷ files) begun.mark (λ bad. let e = reads.failed bad in absurd cc)
 
@@ -100,14 +104,14 @@ volumes_given {left = left} {failed = failed} order old account m start after en
     by_result (Ok answered) gives = record {
       files = files;
       opened = opened;
-      ending = (long, (begun.ended, reads.ended refl), gives.ok order m start.had (ends.input.had ∷ held_by ends.held after) told begun.begins digest, gives.answered order m start.had (ends.input.had ∷ held_by ends.held after) told begun.begins);
+      ending = (long, (begun.ended, reads.ended refl), gives.ok order m start.had (ends.input.had ∷ held_by ends.held after) told begins digest, gives.answered order m start.had (ends.input.had ∷ held_by ends.held after) told begins);
       read = λ e. absurd cc;
       failed = λ bad. absurd (unfailed bad);
       unopened = λ none. absurd (shut none);
-      told = texts_ok order.origin start ends.input ends.unread m (endings.Answered answered) begun.begins;
+      told = texts_ok order.origin start ends.input ends.unread m old.first (endings.Answered answered) begun.begins;
       trace = λ fault e. cc;
       custody = custody_told order old m start ends.unread (endings.Answered answered) begun;
-      sink = sink_ok _ _ _ answered (endings.Answered answered) (gives.sink order m start.had (ends.input.had ∷ held_by ends.held after) told begun.begins digest);
+      sink = sink_ok _ _ _ answered (endings.Answered answered) (gives.sink order m start.had (ends.input.had ∷ held_by ends.held after) told begins digest);
     }
     by_result (Err f) gives = record {
       files = files;
@@ -116,10 +120,10 @@ volumes_given {left = left} {failed = failed} order old account m start after en
       read = λ e. absurd (last_read gives.fault e);
       failed = λ bad. absurd (unfailed bad);
       unopened = λ none. absurd (shut none);
-      told = texts_after order.origin start ends.input ends.unread m (Err f) (texts_ok order.origin start ends.input ends.unread m m begun.begins) gives.fault;
+      told = texts_after order.origin start ends.input ends.unread m (Err f) (texts_ok order.origin start ends.input ends.unread m old.first m begun.begins) gives.fault;
       trace = λ fault e. last_trace fault gives.fault e;
       custody = custody_last order.scope.vm order.origin start.had ends.unread f gives.fault;
-      sink = sink_err _ _ _ f (gives.sink order m start.had (ends.input.had ∷ held_by ends.held after) told begun.begins digest);
+      sink = sink_err _ _ _ f (gives.sink order m start.had (ends.input.had ∷ held_by ends.held after) told begins digest);
     }
       where
         last_read : IsLastFault f → ◌≡◌ {A = Result Ending TextFault} (Err f) (Err texts.Read) → ⊥
@@ -139,11 +143,11 @@ volumes_refused order old account m start after ends files ending begun opened r
       (let is = reads.refuses ending refl order m [] begun.told in
       let last = is.3 in
       let number : is.1 ≡ length (ends.input ∷ files) = omega (arith, last) in
-      rw is.2 (number, is.4, untouched));
+      rw is.2 (m, old.first, begun.begins, number, is.4, untouched));
   read = λ e. absurd cc;
   failed = λ bad. absurd (whole start (ends.input ∷ files) begun.mark (λ bad. let e = reads.failed bad in absurd cc) bad);
   unopened = λ none. (let e = reads.unopened none in absurd cc);
-  told = texts_ok order.origin start ends.input ends.unread m ending begun.begins;
+  told = texts_ok order.origin start ends.input ends.unread m old.first ending begun.begins;
   trace = λ fault e. cc;
   custody = custody_told order old m start ends.unread ending begun;
   sink = sink_unused _ _ _ ending mark;
@@ -168,8 +172,8 @@ volumes_failed order old account m start after ends files f begun opened reads m
     config_fault = λ said e. absurd (reads.fault.config said (let same : f ≡ texts.Config said = cc in same));
     state_fault = λ said e. absurd (reads.fault.state said (let same : f ≡ texts.State said = cc in same));
     trace_fault = λ said e. absurd (reads.trace said (let same : f ≡ texts.Trace said = cc in ap Err same));
-    after_start = inr (begun_is order.origin start.had m begun.begins);
-    begun = λ said e. begun_is order.origin start.had m begun.begins;
+    after_start = inr (begun_is order.origin start.had m old.first begun.begins);
+    begun = λ said e. begun_is order.origin start.had m old.first begun.begins;
     told = reads.fault.told;
   };
   trace = λ said e. reads.trace said (let same : f ≡ texts.Trace said = cc in ap Err same);
@@ -179,15 +183,18 @@ volumes_failed order old account m start after ends files f begun opened reads m
 
 -- the one trace is in the account
 pub trace_given : (order : CustodyOrder) (old account : CustodyAccount) (m : State) (start : Seen) (ends : Ends) (r : Result Answered TextFault) → HasBegun order old m start → ends.refused ≡ None
-    → ((order : CustodyOrder) (m : State) (sources : List (Option (List ℕ))) → HasTold order old m sources → HasTold order account m (sources ++ ends.input.had ∷ [])) → account.start ≡ old.start → IsAtEnd ends.input.has → (ends.input.failed ≡ true → ⊥)
+    → ((order : CustodyOrder) (m : State) (sources : List (Option (List ℕ))) → HasTold order old m sources → HasTold order account m (sources ++ ends.input.had ∷ [])) → account.start ≡ old.start → account.first ≡ old.first → IsAtEnd ends.input.has → (ends.input.failed ≡ true → ⊥)
     → Gives account ends r → ReportsTrace order.origin order.form order.scope start ends (answered_as r)
-trace_given order old account m start ends r begun opened more same ended mark gives = by_result r gives
+trace_given order old account m start ends r begun opened more same first ended mark gives = by_result r gives
   where
     told : HasTold order account m (ends.input.had ∷ [])
     told = more order m [] begun.told
 
     digest : NamesStart (names_start order.scope.named) order.origin start.had m account.start
     digest = subst (λ (d : Option (List ℕ)). NamesStart (names_start order.scope.named) order.origin start.had m d) (sym same) begun.digest
+
+    begins : IfSome start.had (λ text. BeginsIn order.origin text m account.first)
+    begins = subst (λ (expected : Expected). IfSome start.had (λ text. BeginsIn order.origin text m expected)) (sym first) begun.begins
 
     unfailed : HasFailed (start ∷ ends.input ∷ []) → ⊥
     unfailed = whole start (ends.input ∷ []) begun.mark only
@@ -199,21 +206,21 @@ trace_given order old account m start ends r begun opened more same ended mark g
     by_result : (r : Result Answered TextFault) → Gives account ends r → ReportsTrace order.origin order.form order.scope start ends (answered_as r)
     by_result (Ok answered) gives = record {
       opened = opened;
-      ending = (answered, refl, gives.answered order m start.had (ends.input.had ∷ []) told begun.begins);
-      written = gives.ok order m start.had (ends.input.had ∷ []) told begun.begins digest;
+      ending = (answered, refl, gives.answered order m start.had (ends.input.had ∷ []) told begins);
+      written = gives.ok order m start.had (ends.input.had ∷ []) told begins digest;
       sources = record { ended = (begun.ended, (ended, tt)); read = λ e. absurd cc; failed = λ bad. absurd (unfailed bad) };
-      told = texts_ok order.origin start ends.input ends.unread m (endings.Answered answered) begun.begins;
+      told = texts_ok order.origin start ends.input ends.unread m old.first (endings.Answered answered) begun.begins;
       custody = custody_told order old m start ends.unread (endings.Answered answered) begun;
-      sink = sink_ok _ _ _ answered (endings.Answered answered) (gives.sink order m start.had (ends.input.had ∷ []) told begun.begins digest);
+      sink = sink_ok _ _ _ answered (endings.Answered answered) (gives.sink order m start.had (ends.input.had ∷ []) told begins digest);
     }
     by_result (Err f) gives = record {
       opened = opened;
       ending = tt;
       written = tt;
       sources = record { ended = tt; read = λ e. absurd (last_read gives.fault e); failed = λ bad. absurd (unfailed bad) };
-      told = texts_after order.origin start ends.input ends.unread m (Err f) (texts_ok order.origin start ends.input ends.unread m m begun.begins) gives.fault;
+      told = texts_after order.origin start ends.input ends.unread m (Err f) (texts_ok order.origin start ends.input ends.unread m old.first m begun.begins) gives.fault;
       custody = custody_last order.scope.vm order.origin start.had ends.unread f gives.fault;
-      sink = sink_err _ _ _ f (gives.sink order m start.had (ends.input.had ∷ []) told begun.begins digest);
+      sink = sink_err _ _ _ f (gives.sink order m start.had (ends.input.had ∷ []) told begins digest);
     }
       where
         last_read : IsLastFault f → ◌≡◌ {A = Result Ending TextFault} (Err f) (Err texts.Read) → ⊥
@@ -222,7 +229,7 @@ trace_given order old account m start ends r begun opened more same ended mark g
 
 -- the one trace is refused, or could not be read
 pub trace_failed : (order : CustodyOrder) (old : CustodyAccount) (m : State) (start : Seen) (ends : Ends) (f : TextFault) → HasBegun order old m start → ends.refused ≡ None → (f ≡ texts.Read → ReadFailed ends.input.failed ends.input.had ends.input.has) → (ends.input.failed ≡ true → f ≡ texts.Read)
-    → ((said : TraceFault) → f ≡ texts.Trace said → IfSome ends.input.had (λ text. IsRefused text said) × IsAtEnd ends.input.has) → IsReplayFault f → f ≢ texts.Start → ends.out.failed ≡ false → ends.untouched → ReportsTrace order.origin order.form order.scope start ends (Err f)
+    → ((said : TraceFault) → f ≡ texts.Trace said → IfSome ends.input.had (λ text. IsRefusedThere m.config old.first text said) × IsAtEnd ends.input.has) → IsReplayFault f → f ≢ texts.Start → ends.out.failed ≡ false → ends.untouched → ReportsTrace order.origin order.form order.scope start ends (Err f)
 trace_failed order old m start ends f begun opened read bad refused is started mark untouched = record {
   opened = opened;
   ending = tt;
@@ -236,14 +243,8 @@ trace_failed order old m start ends f begun opened read bad refused is started m
       | inr (inr never) ↦ absurd never
     ];
   };
-  told = record {
-    config_fault = λ said e. absurd (is.config said (let same : f ≡ texts.Config said = cc in same));
-    state_fault = λ said e. absurd (is.state said (let same : f ≡ texts.State said = cc in same));
-    trace_fault = λ said e. refused said (let same : f ≡ texts.Trace said = cc in same);
-    after_start = inr (begun_is order.origin start.had m begun.begins);
-    begun = λ said e. begun_is order.origin start.had m begun.begins;
-    told = is.told;
-  };
+  told = texts_trace order.origin start ends.input ends.unread m old.first f begun.begins
+      (λ said same. (let it = refused said same in (known_refused_where order.origin start.had m old.first ends.input.had said begun.begins it.0, it.1))) is.config is.state is.told;
   custody = custody_failed order.scope.vm order.origin start.had ends.unread f is started;
   sink = sink_kept _ _ _ f mark untouched is.write;
 }

@@ -2,12 +2,13 @@
 use Rattle.std.specs.Prelude.{◌≡◌, ◌≢◌, ◌⊎◌, ◌<◌, ◌+◌, ◌++◌, ◌∷◌, ℕ, Bool, List, [], length, drop, map, take, Option, Some, None, is_some, true, false, Result, Ok, Err, IfOk, IfErr, IfSome, OnOk}
 use Rattle.std.specs.List.{AllByRecursion}
 use Rattle.std.specs.Io.KnownBytes.{IsAtEnd}
-use Rattle.kc_types.specs.declared.call.Call.{Call}
+use Rattle.kc_types.specs.Configuration.{Configuration}
 use Rattle.kc_model.specs.State.{State}
 use Rattle.kc_remarks.specs.declared.denials.Answered.{Answered}
 use Rattle.kc_trace.specs.declared.fault.TraceFault.{TraceFault}
 use Rattle.kc_trace.specs.declared.fault.TraceFault.TheVariants.{TooManyCalls}
-use Rattle.kc_trace.specs.Trace.{IsRefused}
+use Rattle.kc_trace.specs.declared.expected.Expected.{Expected}
+use Rattle.kc_trace.specs.Expected.{IsRefusedThere}
 use Rattle.kc_texts.specs.Ends.{Seen, HasFailedRead, HasFailed}
 use Rattle.kc_texts.specs.Written.{Writes, Begins}
 use Rattle.kc_faults.specs.declared.fault.TextFault.{TextFault}
@@ -21,7 +22,7 @@ use Rattle.kc_cli.specs.declared.custody.TheConstants.{CALLS_BEFORE}
 use Rattle.kc_cli.specs.declared.custody.CustodyAccount.{CustodyAccount}
 use Rattle.kc_cli.specs.declared.custody.CustodyOrder.{CustodyOrder}
 use Rattle.kc_cli.specs.Answers.{AreAllAnswered}
-use Rattle.kc_cli.specs.Custody.{joined, names_start, AreVolumes, NamesStart, HasSlot, IsCustodyText, TellsCustody}
+use Rattle.kc_cli.specs.Custody.{Traced, joined, expected_last, names_start, AreVolumes, NamesStart, HasSlot, IsCustodyText, TellsCustody}
 use Rattle.kc_cli.specs.Engine.{IsReplayFault}
 use Rattle.kc_cli.specs.Volumes.{known, HasTold}
 use Rattle.kc_args.specs.Jobs.{Path}
@@ -43,25 +44,26 @@ held_by held paths = map (λ path. held path.now) paths
 abbrev pub AreAtEnd : List Seen → Type 0
 AreAtEnd sources = AllByRecursion (λ source. IsAtEnd source.has) sources
 
--- the last of these sources, which were read after those that held these texts, is refused; all before it hold traces
-pub record IsVolumeRefused (before : List (Option (List ℕ))) (sources : List Seen) (fault : TraceFault) : Type 0 where
+-- the last of these sources, which were read after those that held these texts, is refused; all before it hold traces of this machine, the first under a header that is expected there, and each other one under one that may come after the one before it
+pub record IsVolumeRefused (config : Configuration) (expected : Expected) (before : List (Option (List ℕ))) (sources : List Seen) (fault : TraceFault) : Type 0 where
   pub traces : List Seen
   pub last : Seen
   pub split : sources ≡ traces ++ last ∷ []
-  pub volumes : List (List Call)
-  pub traced : AreVolumes (before ++ had_by traces) volumes
-  -- its bytes are no trace; or it was not read, since those before it have too many calls
-  pub fault_is : (IfSome last.had (λ text. IsRefused text fault) × IsAtEnd last.has) ⊎ ((fault ≡ TooManyCalls) × (CALLS_BEFORE < length (joined volumes)))
+  pub volumes : List Traced
+  pub traced : AreVolumes config expected (before ++ had_by traces) volumes
+  -- its bytes are not a trace, or one that does not come after those before it; or it was not read, since those have too many calls
+  pub fault_is : (IfSome last.had (λ text. IsRefusedThere config (expected_last expected volumes) text fault) × IsAtEnd last.has) ⊎ ((fault ≡ TooManyCalls) × (CALLS_BEFORE < length (joined volumes)))
 
 -- how reading went on from an account, over these sources, of which the first is the volume of this number; the file that could not be opened, if one could not, comes after them
 pub record ReadsOn (old new : CustodyAccount) (refused : Option (List ℕ)) (sources : List Seen) (number : ℕ) (result : Result (Option Ending) TextFault) : Type 0 where
   -- all are in the account now
   pub told : result ≡ Ok None → (order : CustodyOrder) (m : State) (before : List (Option (List ℕ))) → HasTold order old m before → HasTold order new m (before ++ had_by sources)
   pub same : result ≡ Ok None → new.start ≡ old.start
+  pub first : result ≡ Ok None → new.first ≡ old.first
   pub ended : result ≡ Ok None → AreAtEnd sources
   -- the last is refused
   pub refuses : (ending : Ending) → result ≡ Ok (Some ending) → (order : CustodyOrder) (m : State) (before : List (Option (List ℕ))) → HasTold order old m before
-      → (fault : TraceFault) × (last : ℕ) × (ending ≡ endings.Refused last fault) × (last + 1 ≡ number + length sources) × IsVolumeRefused before sources fault
+      → (fault : TraceFault) × (last : ℕ) × (ending ≡ endings.Refused last fault) × (last + 1 ≡ number + length sources) × IsVolumeRefused m.config old.first before sources fault
   -- reading failed
   pub read : result ≡ Err texts.Read → HasFailedRead sources ⊎ (is_some refused ≡ true)
   pub failed : HasFailed sources → result ≡ Err texts.Read
@@ -83,10 +85,10 @@ pub record ReadsFiles {S : Type 0} (left : S → Option (List ℕ)) (failed : S 
   pub all : result ≡ Ok None → length sources ≡ length paths
   pub reads : ReadsOn old new refused sources number result
 
--- the account has begun in what this source held, for what is ordered: in this state
+-- the account has begun in what this source held, for what is ordered: in this state, and with the header that is expected there
 pub record HasBegun (order : CustodyOrder) (account : CustodyAccount) (m : State) (start : Seen) : Type 0 where
   pub told : HasTold order account m []
-  pub begins : IfSome start.had (λ text. BeginsIn order.origin text m)
+  pub begins : IfSome start.had (λ text. BeginsIn order.origin text m account.first)
   pub digest : NamesStart (names_start order.scope.named) order.origin start.had m account.start
   pub slot : IfSome order.scope.vm (λ number. IfSome start.had (λ text. HasSlot order.origin text number))
   pub ended : IsAtEnd start.has
@@ -109,7 +111,8 @@ IsVolumesEnding origin form scope start after files ends (endings.Answered answe
     × Writes (IsCustodyText origin form scope) start.had (known (ends.input.had ∷ held_by ends.held after)) ends.out.had ends.out.has
     × AreAllAnswered origin start.had (known (ends.input.had ∷ held_by ends.held after)) answered
 IsVolumesEnding origin form scope start after files ends (endings.Refused number fault) =
-    (number ≡ length (ends.input ∷ files)) × IsVolumeRefused [] (ends.input ∷ files) fault × ends.untouched
+    (m : State) × (expected : Expected) × IfSome start.had (λ text. BeginsIn origin text m expected)
+    × (number ≡ length (ends.input ∷ files)) × IsVolumeRefused m.config expected [] (ends.input ∷ files) fault × ends.untouched
 IsVolumesEnding origin form scope start after files ends ending = ⊥
 
 -- a report of the custody of several volumes ended so: of that in the input, and of those in the files at these paths

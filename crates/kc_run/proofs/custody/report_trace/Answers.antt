@@ -1,6 +1,6 @@
 use Rattle.std.proofs.Common.{rules, ◌≡◌, [], inl, inr, Err, refl, ap}
 use Rattle.kc_faults.specs.declared.fault.TextFault.TheVariants as texts
-use Rattle.kc_run.proofs.Reading.{not_full, some_told}
+use Rattle.kc_run.proofs.Reading.{not_full, refused_first, some_told}
 use Rattle.kc_run.proofs.Reports.{trace_given, trace_failed}
 use Rattle.kc_run.proofs.custody.report_trace.Goals as goal
 
@@ -14,14 +14,14 @@ give-requires-clause-told g c =
 
 pub returns-in-Ok : goal.returns-in-Ok
 returns-in-Ok g c = λ order m start held begun.
-    rw c.counted.ensures (trace_given order c.args.account _ m start _ c.give.result begun refl (λ o n s h. c.in-Ok.ensures.ok o n s h) c.in-Ok.ensures.same c.in-Ok.ensures.ended (λ bad. let e = c.in-Ok.ensures.source bad in absurd cc)
+    rw c.counted.ensures (trace_given order c.args.account _ m start _ c.give.result begun refl (λ o n s h. c.in-Ok.ensures.ok o n s h) c.in-Ok.ensures.same c.in-Ok.ensures.first c.in-Ok.ensures.ended (λ bad. let e = c.in-Ok.ensures.source bad in absurd cc)
     record { answered = c.give.ensures.answered; ok = c.give.ensures.ok; sink = c.give.ensures.sink; fault = c.give.ensures.fault })
 
 pub returns-in-Err : goal.returns-in-Err
 returns-in-Err g c = λ order m start held begun.
     trace_failed order c.args.account m start _ c.in-Err.fault begun refl (λ same. c.in-Err.ensures.read (ap Err same)) (λ bad. let e = c.in-Err.ensures.source bad in let same : c.in-Err.fault ≡ texts.Read = cc in same)
     (λ said same. elim (c.in-Err.ensures.trace said (ap Err same)) [
-      | inl is ↦ is
+      | inl is ↦ (refused_first order c.args.account m _ said begun.told is.0, is.1)
       | inr full ↦ absurd (not_full order c.args.account m begun.told full.1)
     ])
     c.in-Err.ensures.fault (λ same. c.in-Err.ensures.started (ap Err same)) c.requires.out refl
