@@ -9,7 +9,7 @@ use kc_explain::{
     fault_of_line, fault_of_text_line, look_of,
 };
 use kc_state_text::StateFault;
-use kc_trace::TraceFault;
+use kc_trace::{HeaderFault, TraceFault};
 use kc_types::{Actor, BYTE_LIMIT, ConfigFault};
 use std::fs::{File, OpenFile};
 use std::io::{ErrorKind, Read};
@@ -34,6 +34,27 @@ fn reason(kind: ErrorKind) -> &'static str {
         ErrorKind::PermissionDenied => "reading it is not allowed",
         ErrorKind::IsADirectory => "it is a folder",
         _ => "reading it fails",
+    }
+}
+
+/// Why a trace may not come where it is.
+fn misplacing(fault: &HeaderFault) -> &'static str {
+    match fault {
+        HeaderFault::Machine(_) => {
+            "its head names a machine, and it is not the one that its calls are to be made on"
+        },
+        HeaderFault::NotFirst => {
+            "its head says that it is a later volume: it goes on --from the state that the one before it left"
+        },
+        HeaderFault::Number | HeaderFault::Digest => {
+            "its head says after which volume it comes, and that is not the one before it"
+        },
+        HeaderFault::Missing => {
+            "it has header 1 or 2, which does not say where it comes, and what is before it has header 3"
+        },
+        HeaderFault::Unexpected => {
+            "it has header 3, which says where it comes, and what is before it does not say where it ends"
+        },
     }
 }
 
@@ -264,6 +285,10 @@ impl<'a> Reading<'a> {
                 let _ = eprintln!(rt;
                     "  a trace has up to 65536 calls: a longer life is replayed in volumes, each --from the --state that the one before it left"
                 );
+            },
+            TraceFault::Misplaced(fault) => {
+                let why = misplacing(fault);
+                let _ = eprintln!(rt; "  {}: {why}", self.input);
             },
             TraceFault::Memory => {},
         }
