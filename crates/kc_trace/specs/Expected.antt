@@ -1,5 +1,5 @@
 -- Which header the trace has to have that goes on from a state, and how a header may differ from it.
-use Rattle.std.specs.Prelude.{ℕ, ◌≡◌, ◌≢◌, ◌+◌, List, Option, Some}
+use Rattle.std.specs.Prelude.{ℕ, ◌≡◌, ◌≢◌, ◌+◌, ◌^◌, nat_lt, List, Option, Some, None, if◌then◌else◌}
 use Rattle.kc_types.specs.Configuration.{Configuration}
 use Rattle.kc_trace.specs.declared.header.Position.{Position}
 use Rattle.kc_trace.specs.declared.header.Position.TheVariants as position
@@ -35,6 +35,11 @@ number_of (position.Later number after) = number
 abbrev pub expected_after : Header → Option (List ℕ) → Expected
 expected_after (Three head) (Some digest) = After (number_of head.position) digest
 expected_after header digest = Bare
+
+-- where the next volume comes, by the header of this one and the digest of its redacted text, if it has a head; nowhere if this one has the last number of 32 bits
+abbrev pub position_after : Header → Option (List ℕ) → Option Position
+position_after (Three head) (Some digest) = if nat_lt (number_of head.position + 1) (2 ^ 32) then Some (position.Later (number_of head.position + 1) digest) else None
+position_after header digest = None
 
 -- the header has a head, of this machine and with this position
 abbrev pub HasHead : Configuration → Position → Header → Type 0

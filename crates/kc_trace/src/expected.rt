@@ -3,7 +3,7 @@ ghost use Rattle.std.specs.Prelude.{◌≡◌, ◌≤◌, ◌+◌, ◌^◌, leng
 ghost use Rattle.kc_trace.specs.Faults.{header_fault_words};
 ghost use Rattle.std.specs.Bool.{Decides};
 ghost use Rattle.kc_trace.specs.declared.header.Position.TheVariants as position;
-ghost use Rattle.kc_trace.specs.Expected.{DiffersIn, number_of, expected_after, MayHave, IsPositionFault, IsHeaderFault};
+ghost use Rattle.kc_trace.specs.Expected.{DiffersIn, number_of, position_after, expected_after, MayHave, IsPositionFault, IsHeaderFault};
 
 use crate::header::{Header, Position};
 use kc_types::Config;
@@ -108,6 +108,20 @@ impl Position {
         match self {
             Position::First => 1,
             Position::Later { number, .. } => number,
+        }
+    }
+
+    /// Where the next volume comes, by the header of this one and the SHA-256 digest of its redacted text, if it has a
+    /// head; `None` if it has no head, or has the last number, 4,294,967,295.
+    pub fn after(header: &Header, digest: Option<[u8; 32]>) -> Option<Position>
+        ensures { result ≡ position_after header.now digest }
+    {
+        match (header, digest) {
+            (Header::Three(head), Some(digest)) => Some(Position::Later {
+                number: head.position.number().checked_add(1)?,
+                after: digest,
+            }),
+            _ => None,
         }
     }
 }
