@@ -26,7 +26,8 @@ use Rattle.kc_faults.specs.declared.origin.Origin.{Origin}
 use Rattle.kc_cli.specs.declared.account.CustodyForm.{CustodyForm}
 use Rattle.kc_cli.specs.declared.account.CustodyForm.TheVariants.{Changes, Summary, Picture, Html}
 use Rattle.kc_cli.specs.declared.account.Scope.{Scope}
-use Rattle.kc_cli.specs.Custody.{Traced, redacted_trace, joined, IsAccount, listed, entries_in, heading_of, IsMadeOf, IsMadeBlind}
+use Rattle.kc_cli.specs.Traced.{Traced, redacted_trace}
+use Rattle.kc_cli.specs.Custody.{joined, IsAccount, listed, entries_in, heading_of, IsMadeOf, IsMadeBlind}
 use Rattle.kc_cli.proofs.Digested.{entries_same, heading_same}
 
 -- ---- what is so before the first call

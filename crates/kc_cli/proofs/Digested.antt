@@ -21,7 +21,8 @@ use Rattle.kc_cli.specs.declared.account.Named.{Named}
 use Rattle.kc_cli.specs.declared.account.Named.TheVariants as names
 use Rattle.kc_cli.specs.declared.account.Scope.{Scope}
 use Rattle.kc_redact.specs.Witness.{witness_header}
-use Rattle.kc_cli.specs.Custody.{Traced, redacted_trace, trace_named, entries_of, entries_in, names_trace, listed, trace_digest, digests_of, heading_of}
+use Rattle.kc_cli.specs.Traced.{Traced, redacted_trace, trace_named}
+use Rattle.kc_cli.specs.Custody.{entries_of, entries_in, names_trace, listed, trace_digest, digests_of, heading_of}
 
 -- redacting twice is redacting once
 bytes_twice : (bytes : List ℕ) → blanked (blanked bytes) ≡ blanked bytes

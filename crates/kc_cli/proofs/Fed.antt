@@ -15,7 +15,7 @@ use Rattle.kc_dumping.proofs.Drawn.{sound-drawn}
 use Rattle.kc_trace.specs.declared.header.Header.{Header}
 use Rattle.kc_trace.specs.declared.expected.Expected.{Expected}
 use Rattle.kc_trace.specs.Trace.{IsTraceUnder}
-use Rattle.kc_trace.specs.Expected.{MayHave, IsHeaderFault}
+use Rattle.kc_trace.specs.Expected.{MayHave, IsHeaderFault, position_after}
 use Rattle.kc_trace.specs.declared.expected.HeaderFault.{HeaderFault}
 use Rattle.kc_trace.specs.declared.fault.TraceFault.TheVariants.{Misplaced}
 use Rattle.kc_faults.specs.declared.origin.Origin.{Origin}
@@ -23,7 +23,9 @@ use Rattle.kc_faults.specs.Origins.{BeginsIn, IsRefusedFrom}
 use Rattle.kc_cli.proofs.Placed.{misplaced}
 use Rattle.kc_cli.specs.declared.order.ReplayForm.{ReplayForm}
 use Rattle.kc_cli.specs.declared.order.ReplayForm.TheVariants as forms
-use Rattle.kc_cli.specs.Engine.{IsReplayed, IsKept, kept_more, left_as}
+use Rattle.kc_trace.specs.declared.header.Header.TheVariants.{One, Two, Three}
+use Rattle.kc_cli.specs.Traced.{Traced, IsDigested, position_next, digest_if}
+use Rattle.kc_cli.specs.Engine.{KnowsNext, IsReplayed, IsKept, kept_more, left_as}
 use Rattle.kc_model.specs.Next.{replies_from, state_after}
 use Rattle.kc_model.proofs.States.Runs.{replies_from-append, state_after-append}
 use Rattle.kc_replay.specs.Replayer.{Replaying, IsFed}
@@ -69,12 +71,24 @@ still_kept forms.Lines kept calls more is = ap (λ (l : List Call). l ++ more) i
 still_kept _ kept calls more is = tt
 
 -- the calls that came, and those that are kept of them
-abbrev pub Came : ReplayForm → Header → Option (List ℕ) → Replaying → Replaying → List Call → List Reply → Type 0
-Came form header first a b kept given = IfSome first (λ text. (calls : List Call) × IsTraceUnder header text calls × IsFed a b calls given × IsKept form kept calls)
+abbrev pub Came : ReplayForm → Bool → Header → Option (List ℕ) → Replaying → Replaying → List Call → List Reply → Option (List ℕ) → Type 0
+Came form placed header first a b kept given digest =
+    IfSome first (λ text. (calls : List Call) × IsTraceUnder header text calls × IsFed a b calls given × IsKept form kept calls × IsDigested placed (record { header = header; calls = calls }) digest)
 
-pub calls_known : (form : ReplayForm) (header : Header) (first : Option (List ℕ)) (a b : Replaying) (calls kept : List Call) (given : List Reply) → IfSome first (λ text. IsTraceUnder header text calls) → IsFed a b calls given → IsKept form kept calls → Came form header first a b kept given
-calls_known form header None a b calls kept given traced fed is = tt
-calls_known form header (Some text) a b calls kept given traced fed is = (calls, traced, fed, is)
+pub calls_known : (form : ReplayForm) (placed : Bool) (header : Header) (first : Option (List ℕ)) (a b : Replaying) (calls kept : List Call) (given : List Reply) (digest : Option (List ℕ)) → IfSome first (λ text. IsTraceUnder header text calls) → IsFed a b calls given → IsKept form kept calls
+    → IsDigested placed (record { header = header; calls = calls }) digest → Came form placed header first a b kept given digest
+calls_known form placed header None a b calls kept given digest traced fed is digested = tt
+calls_known form placed header (Some text) a b calls kept given digest traced fed is digested = (calls, traced, fed, is, digested)
+
+-- by the digest it is known where the next volume comes
+pub goes_next : (placed : Bool) (volume : Traced) (digest : Option (List ℕ)) → IsDigested placed volume digest → KnowsNext placed (position_after volume.header digest) volume
+goes_next false volume digest is = tt
+goes_next true volume digest is = ap (position_after volume.header) is ∙ by_header volume.header volume.calls
+  where
+    by_header : (header : Header) (calls : List Call) → position_after header (digest_if false (record { header = header; calls = calls })) ≡ position_next (record { header = header; calls = calls })
+    by_header One calls = refl
+    by_header Two calls = refl
+    by_header (Three head) calls = refl
 
 -- there are no more replies than calls
 pub few_fed : (a b c : Replaying) (xs ys : List Call) (rs ss : List Reply) → IsFed a b xs rs → IsFed b c ys ss → length (xs ++ ys) ≤ call_limit → length (rs ++ ss) ≤ call_limit
@@ -91,27 +105,29 @@ left_config m core a b calls given from to fed =
     ap (λ (n : State). n.config) left ∙ config-after m calls
 
 -- the trace was read, and may not have its header
-pub misfed : (origin : Origin) (source : Option (List ℕ)) (form : ReplayForm) (header : Header) (expected : Expected) (first : Option (List ℕ)) (m : State) (a b : Replaying) (kept : List Call) (given : List Reply) (core : State) (wrong : HeaderFault) → a.state ≡ Some m → b.state ≡ Some core
-    → Came form header first a b kept given → IfSome source (λ text. BeginsIn origin text m expected) → IsHeaderFault core.config expected header wrong → IfSome first (λ text. IsRefusedFrom origin source text (Misplaced wrong))
-misfed origin source form header expected None m a b kept given core wrong from to h begins fault = tt
-misfed origin source form header expected (Some text) m a b kept given core wrong from to h begins fault =
+pub misfed : (origin : Origin) (source : Option (List ℕ)) (form : ReplayForm) (placed : Bool) (header : Header) (expected : Expected) (first : Option (List ℕ)) (m : State) (a b : Replaying) (kept : List Call) (given : List Reply) (digest : Option (List ℕ)) (core : State) (wrong : HeaderFault) → a.state ≡ Some m → b.state ≡ Some core
+    → Came form placed header first a b kept given digest → IfSome source (λ text. BeginsIn origin text m expected) → IsHeaderFault core.config expected header wrong → IfSome first (λ text. IsRefusedFrom origin source text (Misplaced wrong))
+misfed origin source form placed header expected None m a b kept given digest core wrong from to h begins fault = tt
+misfed origin source form placed header expected (Some text) m a b kept given digest core wrong from to h begins fault =
     misplaced origin source (Some text) m expected header h.0 wrong begins h.1 (subst (λ (config : Configuration). IsHeaderFault config expected header wrong) (left_config m core a b h.0 given from to h.2) fault)
 
 -- the replay is of a trace that may have the header which was read
-pub replayed : (form : ReplayForm) (header : Header) (expected : Expected) (first : Option (List ℕ)) (start : State) (a b : Replaying) (kept : List Call) (given : List Reply) (core : State) → IsLawful start → a.state ≡ Some start → b.state ≡ Some core
-    → Came form header first a b kept given → MayHave core.config expected header → IfSome first (λ text. IsReplayed form start expected text kept given core)
-replayed form header expected None start a b kept given core is from to h may = tt
-replayed form header expected (Some text) start a b kept given core is from to h may =
+pub replayed : (form : ReplayForm) (placed : Bool) (header : Header) (expected : Expected) (first : Option (List ℕ)) (start : State) (a b : Replaying) (kept : List Call) (given : List Reply) (digest : Option (List ℕ)) (core : State) → IsLawful start → a.state ≡ Some start → b.state ≡ Some core
+    → Came form placed header first a b kept given digest → MayHave core.config expected header → IfSome first (λ text. IsReplayed form placed start expected text kept given core (position_after header digest))
+replayed form placed header expected None start a b kept given digest core is from to h may = tt
+replayed form placed header expected (Some text) start a b kept given digest core is from to h may =
     let fed = h.2 in
     let same : fed.start ≡ start = some_is fed.start start (sym fed.from ∙ from) in
     let left : core ≡ state_after start h.0 = some_is core (state_after start h.0) (sym to ∙ fed.state ∙ ap (λ (m : State). Some (state_after m h.0)) same) in
     let promises = promises_kept start h.0 is in
     record {
-      calls = h.0;
-      traced = (header, subst (λ (config : Configuration). MayHave config expected header) (left_config start core a b h.0 given from to fed) may, h.1);
+      volume = record { header = header; calls = h.0 };
+      may = subst (λ (config : Configuration). MayHave config expected header) (left_config start core a b h.0 given from to fed) may;
+      traced = h.1;
       kept_are = h.3;
       given = fed.given ∙ ap (λ (m : State). replies_from m h.0) same;
       left = left;
+      goes_on = goes_next placed (record { header = header; calls = h.0 }) digest h.4;
       promises = promises;
       sound = λ blank. sound-drawn (left_as blank core) (lawful-left blank core (subst IsLawful (sym left) (lawful-after start h.0 is)));
     }

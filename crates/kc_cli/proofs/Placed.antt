@@ -12,8 +12,7 @@ use Rattle.kc_trace.specs.declared.fault.TraceFault.{TraceFault}
 use Rattle.kc_trace.specs.declared.fault.TraceFault.TheVariants.{NoHeader, BadLine, NoNewline, TooManyCalls, Misplaced, Memory}
 use Rattle.kc_trace.specs.Trace.{IsTraceUnder, IsRefused}
 use Rattle.kc_trace.specs.Expected.{MayHave, IsHeaderFault, IsTraceThere, IsRefusedThere, expected_after}
-use Rattle.kc_cli.specs.Custody.{Traced, expected_next}
-use Rattle.kc_cli.specs.Ledgers.{digest_if}
+use Rattle.kc_cli.specs.Traced.{Traced, expected_next, digest_if}
 use Rattle.kc_faults.specs.declared.origin.Origin.{Origin}
 use Rattle.kc_faults.specs.Origins.{BeginsIn, IsRefusedFrom}
 

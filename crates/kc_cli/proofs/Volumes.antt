@@ -26,7 +26,8 @@ use Rattle.kc_cli.specs.declared.account.Told.{Told}
 use Rattle.kc_cli.specs.declared.custody.CustodyOrder.{CustodyOrder}
 use Rattle.kc_cli.specs.declared.custody.CustodyAccount.{CustodyAccount}
 use Rattle.kc_cli.specs.Answers.{AreAllAnswered}
-use Rattle.kc_cli.specs.Custody.{Traced, joined, expected_next, expected_last, AreVolumes, IsMadeOf, IsCustodyText, NamesStart, trace_named, entries_of, entries_in, names_trace, names_start, heading_of, listed, trace_digest}
+use Rattle.kc_cli.specs.Traced.{Traced, expected_next, expected_last, trace_named}
+use Rattle.kc_cli.specs.Custody.{joined, AreVolumes, IsMadeOf, IsCustodyText, NamesStart, entries_of, entries_in, names_trace, names_start, heading_of, listed, trace_digest}
 use Rattle.kc_trace.specs.declared.custody_writer.Digests.{Digests}
 use Rattle.kc_cli.specs.declared.account.Scope.{Scope}
 use Rattle.kc_cli.specs.Headings.{digests_by, heading_by}

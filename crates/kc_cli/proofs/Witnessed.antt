@@ -9,9 +9,9 @@ use Rattle.kc_model.specs.State.{State}
 use Rattle.sha2.specs.declared.Sha256.{Sha256}
 use Rattle.kc_redact.specs.Witness.{witnessed, HasSeen}
 use Rattle.kc_trace.specs.declared.header.Header.{Header}
-use Rattle.kc_cli.specs.Ledgers.{HasWitnessed}
+use Rattle.kc_cli.specs.Traced.{HasWitnessed, Traced, trace_named}
 use Rattle.kc_faults.specs.declared.origin.Origin.TheVariants as origins
-use Rattle.kc_cli.specs.Custody.{Traced, trace_named, NamesStart}
+use Rattle.kc_cli.specs.Custody.{NamesStart}
 
 -- one call more
 pub noted_more : (before calls : List Call) (call : Call) (n : ℕ) → n < length calls → call ≡ get_or calls n call → (before ++ take n calls) ++ call ∷ [] ≡ before ++ take (n + 1) calls

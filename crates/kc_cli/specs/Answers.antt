@@ -9,7 +9,8 @@ use Rattle.kc_faults.specs.declared.origin.Origin.{Origin}
 use Rattle.kc_faults.specs.Origins.{BeginsIn}
 use Rattle.kc_trace.specs.declared.expected.Expected.{Expected}
 use Rattle.kc_trace.specs.Expected.{IsTraceThere}
-use Rattle.kc_cli.specs.Custody.{Traced, joined, AreVolumes}
+use Rattle.kc_cli.specs.Traced.{Traced}
+use Rattle.kc_cli.specs.Custody.{joined, AreVolumes}
 
 -- the counts are of the calls of a trace that may have this header, made in order from this state on
 abbrev pub AreAnsweredFrom : State → Expected → List ℕ → Answered → Type 0

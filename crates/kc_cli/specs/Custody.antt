@@ -9,7 +9,7 @@ use Rattle.kc_model.specs.State.{State}
 use Rattle.kc_model.specs.Lawful.{IsLawful}
 use Rattle.kc_model.specs.Next.{replies_from}
 use Rattle.kc_model.specs.Promises.{KeepsPromises}
-use Rattle.kc_model.specs.Redaction.{DifferInBytes, KeepsImages, redacted}
+use Rattle.kc_model.specs.Redaction.{DifferInBytes, KeepsImages}
 use Rattle.kc_model.specs.Blanking.{blank_state}
 use Rattle.kc_model.specs.LeavingOut.{marked, MayLackOthers, custody_on}
 use Rattle.kc_model.specs.Custody.{custody, first_line}
@@ -29,12 +29,10 @@ use Rattle.kc_remarks.specs.Denials.{is_denial}
 use Rattle.kc_html.specs.Html.{html_text_of}
 use Rattle.kc_svg.specs.Foot.{HasFoot}
 use Rattle.kc_state_text.specs.StateText.{state_text}
-use Rattle.kc_redact.specs.Witness.{witnessed}
 use Rattle.kc_custody.specs.Chosen.{chosen, NamesOnly}
-use Rattle.kc_trace.specs.declared.header.Header.{Header}
 use Rattle.kc_trace.specs.declared.expected.Expected.{Expected}
 use Rattle.kc_trace.specs.Trace.{IsTraceUnder}
-use Rattle.kc_trace.specs.Expected.{MayHave, expected_after}
+use Rattle.kc_trace.specs.Expected.{MayHave}
 use Rattle.kc_trace.specs.declared.custody_writer.StartDigest.TheVariants as starts
 use Rattle.kc_trace.specs.declared.custody_writer.Digests.{Digests}
 use Rattle.kc_trace.specs.declared.custody_writer.Heading.{Heading}
@@ -51,6 +49,7 @@ use Rattle.kc_cli.specs.declared.account.CustodyForm.TheVariants.{Changes, Summa
 use Rattle.kc_cli.specs.declared.account.Named.{Named}
 use Rattle.kc_cli.specs.declared.account.Named.TheVariants as names
 use Rattle.kc_cli.specs.declared.account.Scope.{Scope}
+use Rattle.kc_cli.specs.Traced.{Traced, trace_named, expected_next, redacted_trace}
 
 -- what the machine did unseen between these calls changes nothing of what is reported: whatever reads and writes the trace lacks that it may lack, the changes by its calls are those of all that happened, each on the line that its call has there
 abbrev pub IsCustodyOfAll : State → List Call → Type 0
@@ -59,28 +58,10 @@ IsCustodyOfAll m calls =
     × ((kept : ℕ → Bool) (n : State) (marks : List Bool) (happened : List Call) → IsLawful n → DifferInBytes kept n m → MayLackOthers kept n marks happened → KeepsImages kept happened → marked marks happened ≡ calls
     → (lines : List ℕ) → length lines ≡ length happened → custody_on (marked marks lines) m calls ≡ custody_on lines n happened)
 
--- a trace that was read: its header, and its calls
-pub record Traced : Type 0 where
-  pub header : Header
-  pub calls : List Call
-
 -- the calls of all volumes, one after another
 abbrev pub joined : List Traced → List Call
 joined [] = []
 joined (volume ∷ volumes) = volume.calls ++ joined volumes
-
--- the digest that a witness publishes of a trace: that of its redacted text, or for one without a head that of its redacted calls under the second header, whichever of the two it has; nothing that guests wrote is in it
-abbrev pub trace_digest_of : Traced → List ℕ
-trace_digest_of volume = sha256 (witnessed volume.header volume.calls)
-
--- which header the volume after this one may have: one without a head comes after one without, and otherwise a head with the next number and this one's digest
-abbrev pub expected_next : Traced → Expected
-expected_next volume = expected_after volume.header (Some (trace_digest_of volume))
-
--- the same after some volumes
-abbrev pub expected_last : Expected → List Traced → Expected
-expected_last expected [] = expected
-expected_last expected (volume ∷ volumes) = expected_last (expected_next volume) volumes
 
 -- the sources' texts, as far as they are known, are traces of this machine, one after another: the first has a header that is expected there, and each other one that may come after the one before it
 abbrev pub AreVolumes : Configuration → Expected → List (Option (List ℕ)) → List Traced → Type 0
@@ -88,10 +69,6 @@ AreVolumes config expected [] [] = Unit {0}
 AreVolumes config expected (source ∷ sources) (volume ∷ volumes) =
     MayHave config expected volume.header × IfSome source (λ text. IsTraceUnder volume.header text volume.calls) × (length volume.calls ≤ call_limit) × AreVolumes config (expected_next volume) sources volumes
 AreVolumes config expected _ _ = ⊥
-
--- a trace without what guests wrote
-abbrev pub redacted_trace : Traced → Traced
-redacted_trace volume = record volume { calls = redacted volume.calls }
 
 -- the notes are those on these calls, made from a lawful state on, and this many of them were refused or rejected: the events among them are those of the calls, and the changes among these their custody; the calls keep the promises, and what their custody, its lives and its bars say holds, also of what the machine did unseen; and they show nothing of bytes that virtual processors write
 pub record IsCustodyTold (m : State) (calls : List Call) (count refused : ℕ) (told : List Note) : Type 0 where
@@ -131,11 +108,6 @@ names_trace _ = true
 abbrev pub names_start : Named → Bool
 names_start names.Both = true
 names_start _ = false
-
--- a trace is named by the digest that a witness publishes
-abbrev pub trace_named : Bool → Traced → Option (List ℕ)
-trace_named false volume = None
-trace_named true volume = Some (trace_digest_of volume)
 
 -- what the calls begin with is named by a digest, too: a configuration by that of its text, and a state by that of the state with the pages of active VMs zeroed
 abbrev pub start_digest : Origin → List ℕ → State → List ℕ

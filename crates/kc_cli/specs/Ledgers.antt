@@ -38,7 +38,8 @@ use Rattle.kc_html.specs.Html.{html_text_of}
 use Rattle.kc_svg.specs.Foot.{HasFoot}
 use Rattle.kc_trace.specs.declared.header.Header.{Header}
 use Rattle.kc_trace.specs.Header.{has_head}
-use Rattle.kc_cli.specs.Custody.{Traced, trace_named, page_remarks}
+use Rattle.kc_cli.specs.Traced.{Traced, trace_named}
+use Rattle.kc_cli.specs.Custody.{page_remarks}
 use Rattle.kc_cli.specs.declared.account.Subject.{Subject}
 use Rattle.kc_cli.specs.declared.account.Told.{Told}
 use Rattle.kc_cli.specs.declared.lined.View.{View}
@@ -136,16 +137,3 @@ pub record HasKept (form : CustodyForm) (m : State) (calls : List Call) (core : 
   pub denied : kept.denials.total ≡ length (filter is_denied (notes m calls))
   pub few : kept.denials.total ≤ length calls
   pub counted : Counts (replies_from m calls) kept.denials
-
--- a trace has a witness if it is to be named, or if the head of the next one has its digest
-abbrev pub has_witness : Bool → Header → Bool
-has_witness asked header = asked || has_head header
-
--- there is a witness if there has to be one, and it has seen these calls under the header; before all of that was read there is none, and there are no calls
-abbrev pub HasWitnessed : Bool → Option Header → Option Sha256 → List Call → Type 0
-HasWitnessed asked None witness calls = (is_some witness ≡ false) × (calls ≡ [])
-HasWitnessed asked (Some header) witness calls = (is_some witness ≡ has_witness asked header) × IfSome witness (λ seen. HasSeen seen header calls)
-
--- the digest of a trace, if it has a witness
-abbrev pub digest_if : Bool → Traced → Option (List ℕ)
-digest_if asked volume = trace_named (has_witness asked volume.header) volume

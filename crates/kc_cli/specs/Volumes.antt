@@ -7,7 +7,8 @@ use Rattle.kc_model.specs.Custody.{first_line}
 use Rattle.kc_cli.specs.declared.custody.CustodyOrder.{CustodyOrder}
 use Rattle.kc_cli.specs.declared.custody.CustodyAccount.{CustodyAccount}
 use Rattle.kc_cli.specs.declared.custody.TheConstants.{CALLS_BEFORE}
-use Rattle.kc_cli.specs.Custody.{Traced, joined, expected_last, entries_in, AreVolumes}
+use Rattle.kc_cli.specs.Traced.{Traced, expected_last}
+use Rattle.kc_cli.specs.Custody.{joined, entries_in, AreVolumes}
 use Rattle.kc_cli.specs.Ledgers.{HasKept}
 
 -- the texts of all sources, if each is known

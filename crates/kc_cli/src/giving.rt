@@ -5,7 +5,7 @@ ghost use Rattle.kc_trace.specs.ReplyText.{reply_text_of};
 ghost use Rattle.kc_trace.specs.AnswerText.{answer_text_of};
 ghost use Rattle.kc_dump_text.specs.DumpText.{dump_text};
 ghost use Rattle.kc_dumping.specs.Dumping.{dump_of};
-ghost use Rattle.kc_state_text.specs.StateText.{state_text};
+ghost use Rattle.kc_state_text.specs.StateText.{placed_state_text};
 ghost use Rattle.kc_state_text.specs.Pieces.{longest_page_line, to_come};
 ghost use Rattle.kc_texts.specs.Written.{AppendsBeginning};
 ghost use Rattle.kc_faults.specs.Outcomes.{TellsSink};
@@ -20,6 +20,7 @@ use kc_faults::TextFault;
 use kc_remarks::Answered;
 use kc_state_text::StatePieces;
 use kc_texts::{Failed, Sink, empty_piece, give_replies, write_whole};
+use kc_trace::Position;
 use kc_types::{Call, Memory, Reply, SecretBytes};
 use std::alloc::Global;
 use std::thread::Threads;
@@ -34,6 +35,8 @@ pub(crate) struct Replayed {
     pub answered: Answered,
     /// The core that it leaves.
     pub core: KCore,
+    /// Where the next volume comes, if that was asked for and the trace has a head.
+    pub next: Option<Position>,
 }
 
 /// Gives the text of replies.
@@ -138,22 +141,24 @@ fn give_pieces<K: Sink>(
     }
 }
 
-/// Gives the text of a core's state, a piece at a time. The memory of a piece is wiped.
+/// Gives the text of a core's state, which says where the next volume comes if that is known, a piece at a time. The
+/// memory of a piece is wiped.
 fn give_state<K: Sink>(
     rt: &(impl Threads + Sync),
     alloc: Global,
     core: &KCore,
+    next: Option<Position>,
     lanes: Lanes,
     out: &mut K,
 ) -> Result<(), TextFault>
     requires { K.failed out.old ≡ false }
-    ensures ok { OnOk result (Appends (K.taken out.old) (K.taken out.new) (state_text core.now)) }
+    ensures ok { OnOk result (Appends (K.taken out.old) (K.taken out.new) (placed_state_text next core.now)) }
     ensures sink { TellsSink (K.failed out.new)
-        (AppendsBeginning (K.taken out.old) (K.taken out.new) (state_text core.now)) (out.new ≡ out.old) result }
+        (AppendsBeginning (K.taken out.old) (K.taken out.new) (placed_state_text next core.now)) (out.new ≡ out.old) result }
     ensures fault { IfErr result (λ fault. (fault ≡ TextFault.Memory) ⊎ (fault ≡ TextFault.Write)) }
 {
     // All memory that writing takes is there before the first byte is written.
-    let Ok(pieces) = StatePieces::new(rt, alloc, core, None, lanes) else {
+    let Ok(pieces) = StatePieces::new(rt, alloc, core, next, lanes) else {
         return Err(TextFault::Memory);
     };
     let Ok(mut piece) = empty_piece(alloc) else {
@@ -167,28 +172,29 @@ fn give_state<K: Sink>(
     }
 }
 
-/// Gives what is wanted of calls, their replies, and the core after them.
+/// Gives what is wanted of calls, their replies, and the core after them, with where the next volume comes.
 fn give_wanted<K: Sink>(
     rt: &(impl Threads + Sync),
     alloc: Global,
     calls: Vec<Call>,
     replies: Vec<Reply>,
     core: &KCore,
+    next: Option<Position>,
     order: ReplayOrder,
     out: &mut K,
 ) -> Result<(), TextFault>
     requires { K.failed out.old ≡ false }
     ensures ok { OnOk result
-        (Appends (K.taken out.old) (K.taken out.new) (written_text order.form calls.items replies.items core.now)) }
+        (Appends (K.taken out.old) (K.taken out.new) (written_text order.form calls.items replies.items next core.now)) }
     ensures sink { TellsSink (K.failed out.new) (AppendsBeginning (K.taken out.old) (K.taken out.new)
-        (written_text order.form calls.items replies.items core.now)) (out.new ≡ out.old) result }
+        (written_text order.form calls.items replies.items next core.now)) (out.new ≡ out.old) result }
     ensures fault { IfErr result (λ fault. (fault ≡ TextFault.Memory) ⊎ (fault ≡ TextFault.Write)) }
 {
     match order.form {
         ReplayForm::Replies => give_text(alloc, replies, out),
         ReplayForm::Lines => give_answers(alloc, &calls, &replies, out),
         ReplayForm::Dump => give_dump(rt, alloc, core, order.lanes, out),
-        ReplayForm::State => give_state(rt, alloc, core, order.lanes, out),
+        ReplayForm::State => give_state(rt, alloc, core, next, order.lanes, out),
     }
 }
 
@@ -202,9 +208,9 @@ pub(crate) fn give_replayed<K: Sink>(
 ) -> Result<(), TextFault>
     requires { K.failed out.old ≡ false }
     ensures ok { OnOk result (Appends (K.taken out.old) (K.taken out.new)
-        (written_text order.form made.calls.items made.replies.items made.core)) }
+        (written_text order.form made.calls.items made.replies.items made.next made.core)) }
     ensures sink { TellsSink (K.failed out.new) (AppendsBeginning (K.taken out.old) (K.taken out.new)
-        (written_text order.form made.calls.items made.replies.items made.core)) (out.new ≡ out.old) result }
+        (written_text order.form made.calls.items made.replies.items made.next made.core)) (out.new ≡ out.old) result }
     ensures fault { IfErr result (λ fault. (fault ≡ TextFault.Memory) ⊎ (fault ≡ TextFault.Write)) }
 {
     let Replayed {
@@ -212,9 +218,10 @@ pub(crate) fn give_replayed<K: Sink>(
         replies,
         answered: _,
         core,
+        next,
     } = made;
     let mut core = core;
-    let given = give_wanted(rt, alloc, calls, replies, &core, order, out);
+    let given = give_wanted(rt, alloc, calls, replies, &core, next, order, out);
     core.wipe(rt);
     given
 }

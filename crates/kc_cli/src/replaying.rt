@@ -5,18 +5,21 @@ ghost use Rattle.kc_types.specs.Limits.{call_limit};
 ghost use Rattle.kc_types.specs.declared.call.Call.{Call};
 ghost use Rattle.kc_trace.specs.declared.fault.TraceFault.{TraceFault};
 ghost use Rattle.kc_trace.specs.Trace.{IsTraceUnder, IsRefused};
-ghost use Rattle.kc_state_text.specs.StateText.{state_text};
+ghost use Rattle.kc_state_text.specs.StateText.{placed_state_text};
 ghost use Rattle.kc_state_text.specs.Differences.{IsDifference};
 ghost use Rattle.kc_texts.specs.Ends.{ReadFailed, seen};
 ghost use Rattle.kc_texts.specs.Written.{Writes, Begins};
 ghost use Rattle.kc_faults.specs.Outcomes.{TellsSources, TellsTexts, TellsReplay, TellsSink};
 ghost use Rattle.kc_replay.specs.Replayer.{IsFed};
-ghost use Rattle.kc_cli.specs.Engine.{AreReplayed, IsKept, IsReplayFault, IsReplayText, DiffersFromLeft, kept_more, left_as};
+ghost use Rattle.kc_trace.specs.Expected.{position_after};
+ghost use Rattle.kc_cli.specs.Traced.{IsDigested};
+ghost use Rattle.kc_cli.specs.Engine.{KnowsNext, is_placed, AreReplayed, IsKept, IsReplayFault, IsReplayText, DiffersFromLeft, kept_more, left_as};
 ghost use Rattle.kc_cli.specs.Answers.{AreAnswered};
 
 use crate::giving::{Replayed, give_replayed};
 use crate::order::{ReplayForm, ReplayOrder};
 use crate::starting::{Start, read_start};
+use crate::telling::{digest_of, note_all, witness_under};
 use kc_core::KCore;
 use kc_digests::Lanes;
 use kc_faults::TextFault;
@@ -24,7 +27,7 @@ use kc_remarks::Answered;
 use kc_replay::{OpenGate, ReplayFault, Replayer};
 use kc_state_text::difference_from_state;
 use kc_texts::{CallStream, PIECE, Sink, Source, read_secret};
-use kc_trace::{Header, TraceFault};
+use kc_trace::{Header, Position, TraceFault};
 use kc_types::{Call, Memory, Reply, WORKER_LIMIT};
 use std::alloc::Global;
 use std::sync::Wait;
@@ -37,6 +40,15 @@ struct Fed {
     /// The calls, if they are written too.
     calls: Vec<Call>,
     replies: Vec<Reply>,
+    /// The SHA-256 digest of its redacted text, if it has a head and where the next volume comes is asked for.
+    digest: Option<[u8; 32]>,
+}
+
+/// Whether a state's text is written, which says where the next volume comes.
+fn is_placed(form: ReplayForm) -> bool
+    ensures { result ≡ is_placed form }
+{
+    form == ReplayForm::State
 }
 
 /// Keeps more calls, if they are written too.
@@ -50,19 +62,23 @@ fn keep(calls: &mut Vec<Call>, more: Vec<Call>, form: ReplayForm) -> Result<(), 
     Ok(())
 }
 
-/// Makes the calls of the trace that a source has left, as it is read.
+/// Makes the calls of the trace that a source has left, as it is read; perhaps also finds out where the next volume
+/// comes.
 fn feed_source<T: Source, R: Threads + Wait + Sync>(
     rt: &R,
     alloc: Global,
     replayer: &mut Replayer,
     trace: &mut T,
     form: ReplayForm,
+    is_placed: bool,
 ) -> Result<Fed, TextFault>
     requires trace { T.failed trace.old ≡ false }
     requires start { replayer.old.fed ≡ 0 }
     requires whole { IsSome replayer.old.state }
     ensures ok { IfOk result (λ fed. IfSome (T.left trace.old) (λ text. (calls : List Call)
-        × IsTraceUnder fed.header text calls × IsFed replayer.old replayer.new calls fed.replies.items × IsKept form fed.calls.items calls)) }
+        × IsTraceUnder fed.header text calls × IsFed replayer.old replayer.new calls fed.replies.items
+        × IsKept form fed.calls.items calls
+        × IsDigested is_placed (record { header = fed.header; calls = calls }) fed.digest)) }
     ensures few { IfOk result (λ fed. length fed.replies.items ≤ call_limit) }
     ensures ended { OnOk result (IsAtEnd (T.left trace.new)) }
     ensures trace { (fault : TraceFault) → result ≡ Err (TextFault.Trace fault)
@@ -76,8 +92,13 @@ fn feed_source<T: Source, R: Threads + Wait + Sync>(
     let mut stream = CallStream::new();
     let mut calls = Vec::new(alloc);
     let mut replies = Vec::new(alloc);
+    let mut witness = None;
     loop {
         let part = stream.next(alloc, trace, &mut buffer)?;
+        if is_placed {
+            witness = witness_under(alloc, witness, false, stream.header())?;
+            note_all(&mut witness, &part.calls);
+        }
         match replayer.feed(rt, alloc, &part.calls, &OpenGate) {
             Ok(mut more) => {
                 if replies.append(&mut more).is_err() {
@@ -99,6 +120,7 @@ fn feed_source<T: Source, R: Threads + Wait + Sync>(
             header,
             calls,
             replies,
+            digest: digest_of(&witness),
         }),
         Err(fault) => Err(TextFault::Trace(fault)),
     }
@@ -113,19 +135,20 @@ fn wipe_left(rt: &(impl Threads + Sync), replayer: Replayer) {
 }
 
 /// Reads what the calls begin with to its end and a trace as it is replayed by this many workers, and returns the
-/// replies and the core. The number of workers, 1 to 64, is judged before anything is read. If there is no outcome, the
-/// core is wiped.
+/// replies and the core, and where the next volume comes if that is asked for. The number of workers, 1 to 64, is judged
+/// before anything is read. If there is no outcome, the core is wiped.
 fn replay_texts<C: Source, T: Source, R: Threads + Wait + Sync>(
     rt: &R,
     alloc: Global,
     start: &mut C,
     trace: &mut T,
     order: ReplayOrder,
+    is_placed: bool,
 ) -> Result<Replayed, TextFault>
     requires start { C.failed start.old ≡ false }
     requires trace { T.failed trace.old ≡ false }
-    ensures ok { IfOk result (λ made. AreReplayed order.origin order.form (C.left start.old) (T.left trace.old)
-        made.calls.items made.replies.items made.core) }
+    ensures ok { IfOk result (λ made. AreReplayed order.origin order.form is_placed (C.left start.old)
+        (T.left trace.old) made.calls.items made.replies.items made.core made.next) }
     ensures answered { IfOk result
         (λ made. AreAnswered order.origin (C.left start.old) (T.left trace.old) made.answered) }
     ensures sources { TellsSources
@@ -143,12 +166,13 @@ fn replay_texts<C: Source, T: Source, R: Threads + Wait + Sync>(
         return Err(TextFault::Memory);
     };
     let mut replayer = replayer;
-    match feed_source(rt, alloc, &mut replayer, trace, order.form) {
+    match feed_source(rt, alloc, &mut replayer, trace, order.form, is_placed) {
         Ok(
             Fed {
                 header,
                 calls,
                 replies,
+                digest,
             },
         ) => {
             let answered = Answered::of(&replies);
@@ -160,11 +184,13 @@ fn replay_texts<C: Source, T: Source, R: Threads + Wait + Sync>(
                 core.wipe(rt);
                 return Err(TextFault::Trace(TraceFault::Misplaced(wrong)));
             }
+            let next = Position::after(&header, digest);
             Ok(Replayed {
                 calls,
                 replies,
                 answered,
                 core,
+                next,
             })
         },
         Err(fault) => {
@@ -218,30 +244,31 @@ pub fn replay_text<C: Source, T: Source, K: Sink, R: Threads + Wait + Sync>(
     ensures sink { TellsSink (K.failed out.new) (Begins (IsReplayText order.origin order.form order.is_blank)
         (C.left start.old) (T.left trace.old) (K.taken out.old) (K.taken out.new)) (out.new ≡ out.old) result }
 {
-    let made = replay_texts(rt, alloc, start, trace, order)?;
+    let made = replay_texts(rt, alloc, start, trace, order, is_placed(order.form))?;
     let answered = made.answered;
     give_replayed(rt, alloc, left_as(made, order.is_blank), order, out)?;
     Ok(answered)
 }
 
-/// The number, from 1, of the first line of what a source has left that differs from the text of a core's state;
-/// `None` if it is that text.
+/// The number, from 1, of the first line of what a source has left that differs from the text of a core's state, which
+/// says where the next volume comes if that is known; `None` if it is that text.
 fn difference_in<S: Source>(
     rt: &(impl Threads + Sync),
     alloc: Global,
     core: &KCore,
+    next: Option<Position>,
     to: &mut S,
     lanes: Lanes,
 ) -> Result<Option<usize>, TextFault>
     requires { S.failed to.old ≡ false }
-    ensures ok { IfOk result (λ line. IfSome (S.left to.old) (λ text. IsDifference line text (state_text core.now))) }
+    ensures ok { IfOk result (λ line. IfSome (S.left to.old) (λ text. IsDifference line text (placed_state_text next core.now))) }
     ensures ended { OnOk result (IsAtEnd (S.left to.new)) }
     ensures read { result ≡ Err TextFault.Read → ReadFailed (S.failed to.new) (S.left to.old) (S.left to.new) }
     ensures source { S.failed to.new ≡ true → result ≡ Err TextFault.Read }
     ensures fault { IfErr result (λ fault. (fault ≡ TextFault.Memory) ⊎ (fault ≡ TextFault.Read)) }
 {
     let text = read_secret(alloc, to)?;
-    match difference_from_state(rt, alloc, core, None, text.as_slice(), lanes) {
+    match difference_from_state(rt, alloc, core, next, text.as_slice(), lanes) {
         Ok(line) => Ok(line),
         Err(_) => Err(TextFault::Memory),
     }
@@ -287,10 +314,10 @@ pub fn replay_to_text<C: Source, T: Source, S: Source, K: Sink, R: Threads + Wai
     ensures sink { TellsSink (K.failed out.new) (Begins (IsReplayText order.origin order.form order.is_blank)
         (C.left start.old) (T.left trace.old) (K.taken out.old) (K.taken out.new)) (out.new ≡ out.old) result }
 {
-    let made = replay_texts(rt, alloc, start, trace, order)?;
+    let made = replay_texts(rt, alloc, start, trace, order, true)?;
     let answered = made.answered;
     let made = left_as(made, order.is_blank);
-    let difference = match difference_in(rt, alloc, &made.core, to, order.lanes) {
+    let difference = match difference_in(rt, alloc, &made.core, made.next, to, order.lanes) {
         Ok(difference) => difference,
         Err(fault) => {
             let mut core = made.core;

@@ -11,8 +11,8 @@ ghost use Rattle.kc_trace.specs.Trace.{IsTraceUnder, IsRefused};
 ghost use Rattle.kc_texts.specs.Ends.{ReadFailed};
 ghost use Rattle.kc_redact.specs.Witness.{HasSeen};
 ghost use Rattle.kc_cli.specs.Engine.{IsReplayFault};
-ghost use Rattle.kc_cli.specs.Custody.{Traced};
-ghost use Rattle.kc_cli.specs.Ledgers.{HasKept, has_witness, HasWitnessed, digest_if};
+ghost use Rattle.kc_cli.specs.Traced.{Traced, has_witness, HasWitnessed, digest_if};
+ghost use Rattle.kc_cli.specs.Ledgers.{HasKept};
 
 use crate::account::{CustodyForm, FIRST_LINE};
 use crate::ledger::Ledger;
@@ -33,7 +33,7 @@ fn has_witness(is_named: bool, header: &Header) -> bool
 }
 
 /// The witness, or a new one that has seen no calls, if the trace has this header now and is to have one.
-fn witness_under(
+pub(crate) fn witness_under(
     alloc: Global,
     witness: Option<Witness>,
     is_named: bool,
@@ -68,7 +68,7 @@ fn note_each(witness: &mut Witness, calls: &[Call])
 }
 
 /// The same, if there is a witness.
-fn note_all(witness: &mut Option<Witness>, calls: &[Call])
+pub(crate) fn note_all(witness: &mut Option<Witness>, calls: &[Call])
     ensures { (asked : Bool) (header : Option AnyHeader) (before : List Call) → (header ≡ None → calls.now ≡ [])
         → HasWitnessed asked header witness.old before
         → HasWitnessed asked header witness.new (before ++ calls.now) }
@@ -79,7 +79,7 @@ fn note_all(witness: &mut Option<Witness>, calls: &[Call])
 }
 
 /// The digest of what a witness has seen, if there is one.
-fn digest_of(witness: &Option<Witness>) -> Option<[u8; 32]>
+pub(crate) fn digest_of(witness: &Option<Witness>) -> Option<[u8; 32]>
     ensures { (asked : Bool) (volume : Traced) → HasWitnessed asked (Some volume.header) witness.now volume.calls
         → result ≡ digest_if asked volume }
 {

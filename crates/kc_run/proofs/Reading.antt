@@ -17,7 +17,8 @@ use Rattle.kc_faults.specs.declared.fault.TextFault.{TextFault}
 use Rattle.kc_faults.specs.declared.fault.TextFault.TheVariants as texts
 use Rattle.kc_cli.specs.declared.custody.CustodyAccount.{CustodyAccount}
 use Rattle.kc_cli.specs.declared.custody.CustodyOrder.{CustodyOrder}
-use Rattle.kc_cli.specs.Custody.{Traced, joined, expected_last, AreVolumes}
+use Rattle.kc_cli.specs.Traced.{Traced, expected_last}
+use Rattle.kc_cli.specs.Custody.{joined, AreVolumes}
 use Rattle.kc_cli.specs.Engine.{IsReplayFault}
 use Rattle.kc_cli.specs.Volumes.{HasTold, IsFull}
 use Rattle.kc_run.specs.declared.ending.Ending.{Ending}

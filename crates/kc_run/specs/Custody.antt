@@ -22,7 +22,8 @@ use Rattle.kc_cli.specs.declared.custody.TheConstants.{CALLS_BEFORE}
 use Rattle.kc_cli.specs.declared.custody.CustodyAccount.{CustodyAccount}
 use Rattle.kc_cli.specs.declared.custody.CustodyOrder.{CustodyOrder}
 use Rattle.kc_cli.specs.Answers.{AreAllAnswered}
-use Rattle.kc_cli.specs.Custody.{Traced, joined, expected_last, names_start, AreVolumes, NamesStart, HasSlot, IsCustodyText, TellsCustody}
+use Rattle.kc_cli.specs.Traced.{Traced, expected_last}
+use Rattle.kc_cli.specs.Custody.{joined, names_start, AreVolumes, NamesStart, HasSlot, IsCustodyText, TellsCustody}
 use Rattle.kc_cli.specs.Engine.{IsReplayFault}
 use Rattle.kc_cli.specs.Volumes.{known, HasTold}
 use Rattle.kc_args.specs.Jobs.{Path}

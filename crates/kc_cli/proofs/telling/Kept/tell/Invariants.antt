@@ -4,7 +4,8 @@ use Rattle.kc_types.specs.declared.call.Call.{Call}
 use Rattle.kc_model.specs.State.{State}
 use Rattle.kc_model.specs.Lawful.{IsLawful}
 use Rattle.kc_cli.specs.declared.account.CustodyForm.{CustodyForm}
-use Rattle.kc_cli.specs.Ledgers.{HasKept, HasWitnessed}
+use Rattle.kc_cli.specs.Traced.{HasWitnessed}
+use Rattle.kc_cli.specs.Ledgers.{HasKept}
 use Rattle.kc_texts.specs.Streamed.{HasRead}
 use Rattle.kc_cli.proofs.telling.Kept.tell.Given as goal
 
