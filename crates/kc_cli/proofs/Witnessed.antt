@@ -9,7 +9,7 @@ use Rattle.kc_model.specs.State.{State}
 use Rattle.sha2.specs.declared.Sha256.{Sha256}
 use Rattle.kc_redact.specs.Witness.{witnessed, HasSeen}
 use Rattle.kc_trace.specs.declared.header.Header.{Header}
-use Rattle.kc_cli.specs.Traced.{HasWitnessed, Traced, trace_named}
+use Rattle.kc_cli.specs.Traced.{Traced, trace_named, digest_if, HasWitnessed, HasPlaced, IsDigested}
 use Rattle.kc_faults.specs.declared.origin.Origin.TheVariants as origins
 use Rattle.kc_cli.specs.Custody.{NamesStart}
 
@@ -33,6 +33,23 @@ none_seen false volume there = refl
 pub sees_more : (asked : Bool) (header : Option Header) (old new : Sha256) (before calls : List Call) → ((h : Header) (first : List Call) → HasSeen old h first → HasSeen new h (first ++ calls)) → HasWitnessed asked header (Some old) before → HasWitnessed asked header (Some new) (before ++ calls)
 sees_more asked None old new before calls step h = let never : true ≡ false = h.0 in absurd cc
 sees_more asked (Some header) old new before calls step h = (h.0, step header before h.1)
+
+-- nothing is promised of a witness that is not asked for, and what is promised of one that is asked for is carried over
+pub none_placed : (asked : Bool) (header : Option Header) (witness : Option Sha256) (calls : List Call) → asked ≡ false → HasPlaced asked header witness calls
+none_placed false header witness calls is = tt
+none_placed true header witness calls is = absurd cc
+
+pub none_witnessed : (asked : Bool) → HasPlaced asked None None []
+none_witnessed false = tt
+none_witnessed true = (refl, refl)
+
+pub placed_more : (asked : Bool) (before header : Option Header) (old new : Option Sha256) (first calls : List Call) → (HasWitnessed false before old first → HasWitnessed false header new calls) → HasPlaced asked before old first → HasPlaced asked header new calls
+placed_more false before header old new first calls step h = tt
+placed_more true before header old new first calls step h = step h
+
+pub digest_placed : (asked : Bool) (witness : Option Sha256) (volume : Traced) (digest : Option (List ℕ)) → (HasWitnessed false (Some volume.header) witness volume.calls → digest ≡ digest_if false volume) → HasPlaced asked (Some volume.header) witness volume.calls → IsDigested asked volume digest
+digest_placed false witness volume digest step h = tt
+digest_placed true witness volume digest step h = step h
 
 -- if there are no calls at all there are none at the end
 pub none_last : (before calls : List Call) → before ++ calls ≡ [] → calls ≡ []

@@ -55,6 +55,11 @@ HasWitnessed asked (Some header) witness calls = (is_some witness ≡ has_witnes
 abbrev pub digest_if : Bool → Traced → Option (List ℕ)
 digest_if asked volume = trace_named (has_witness asked volume.header) volume
 
+-- if where the next volume comes is asked for, the witness is that of a trace that may have a head
+abbrev pub HasPlaced : Bool → Option Header → Option Sha256 → List Call → Type 0
+HasPlaced false header witness calls = Unit {0}
+HasPlaced true header witness calls = HasWitnessed false header witness calls
+
 -- the digest of a trace that has a head, if where the next volume comes is asked for
 abbrev pub IsDigested : Bool → Traced → Option (List ℕ) → Type 0
 IsDigested false volume digest = Unit {0}

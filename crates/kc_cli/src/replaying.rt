@@ -11,15 +11,14 @@ ghost use Rattle.kc_texts.specs.Ends.{ReadFailed, seen};
 ghost use Rattle.kc_texts.specs.Written.{Writes, Begins};
 ghost use Rattle.kc_faults.specs.Outcomes.{TellsSources, TellsTexts, TellsReplay, TellsSink};
 ghost use Rattle.kc_replay.specs.Replayer.{IsFed};
-ghost use Rattle.kc_trace.specs.Expected.{position_after};
 ghost use Rattle.kc_cli.specs.Traced.{IsDigested};
-ghost use Rattle.kc_cli.specs.Engine.{KnowsNext, is_placed, AreReplayed, IsKept, IsReplayFault, IsReplayText, DiffersFromLeft, kept_more, left_as};
+ghost use Rattle.kc_cli.specs.Engine.{is_placed, AreReplayed, IsKept, IsReplayFault, IsReplayText, DiffersFromLeft, kept_more, left_as};
 ghost use Rattle.kc_cli.specs.Answers.{AreAnswered};
 
 use crate::giving::{Replayed, give_replayed};
 use crate::order::{ReplayForm, ReplayOrder};
 use crate::starting::{Start, read_start};
-use crate::telling::{digest_of, note_all, witness_under};
+use crate::telling::{digest_of, witness_placed};
 use kc_core::KCore;
 use kc_digests::Lanes;
 use kc_faults::TextFault;
@@ -95,10 +94,7 @@ fn feed_source<T: Source, R: Threads + Wait + Sync>(
     let mut witness = None;
     loop {
         let part = stream.next(alloc, trace, &mut buffer)?;
-        if is_placed {
-            witness = witness_under(alloc, witness, false, stream.header())?;
-            note_all(&mut witness, &part.calls);
-        }
+        witness = witness_placed(alloc, witness, is_placed, stream.header(), &part.calls)?;
         match replayer.feed(rt, alloc, &part.calls, &OpenGate) {
             Ok(mut more) => {
                 if replies.append(&mut more).is_err() {

@@ -11,7 +11,7 @@ ghost use Rattle.kc_trace.specs.Trace.{IsTraceUnder, IsRefused};
 ghost use Rattle.kc_texts.specs.Ends.{ReadFailed};
 ghost use Rattle.kc_redact.specs.Witness.{HasSeen};
 ghost use Rattle.kc_cli.specs.Engine.{IsReplayFault};
-ghost use Rattle.kc_cli.specs.Traced.{Traced, has_witness, HasWitnessed, digest_if};
+ghost use Rattle.kc_cli.specs.Traced.{Traced, has_witness, HasWitnessed, HasPlaced, digest_if};
 ghost use Rattle.kc_cli.specs.Ledgers.{HasKept};
 
 use crate::account::{CustodyForm, FIRST_LINE};
@@ -33,7 +33,7 @@ fn has_witness(is_named: bool, header: &Header) -> bool
 }
 
 /// The witness, or a new one that has seen no calls, if the trace has this header now and is to have one.
-pub(crate) fn witness_under(
+fn witness_under(
     alloc: Global,
     witness: Option<Witness>,
     is_named: bool,
@@ -68,7 +68,7 @@ fn note_each(witness: &mut Witness, calls: &[Call])
 }
 
 /// The same, if there is a witness.
-pub(crate) fn note_all(witness: &mut Option<Witness>, calls: &[Call])
+fn note_all(witness: &mut Option<Witness>, calls: &[Call])
     ensures { (asked : Bool) (header : Option AnyHeader) (before : List Call) → (header ≡ None → calls.now ≡ [])
         → HasWitnessed asked header witness.old before
         → HasWitnessed asked header witness.new (before ++ calls.now) }
@@ -76,6 +76,29 @@ pub(crate) fn note_all(witness: &mut Option<Witness>, calls: &[Call])
     if let Some(witness) = witness {
         note_each(witness, calls);
     }
+}
+
+/// The witness of a trace that has this header now, after these calls more, if where the next volume comes is asked for.
+pub(crate) fn witness_placed(
+    alloc: Global,
+    witness: Option<Witness>,
+    is_placed: bool,
+    header: Option<&Header>,
+    calls: &[Call],
+) -> Result<Option<Witness>, TextFault>
+    ensures seen { IfOk result (λ made. (before : Option AnyHeader) (first : List Call)
+        → ((found : AnyHeader) → before ≡ Some found → option_map (λ header. header.now) header.entry ≡ Some found)
+        → (option_map (λ header. header.now) header.entry ≡ None → calls.now ≡ [])
+        → HasPlaced is_placed before witness first
+        → HasPlaced is_placed (option_map (λ header. header.now) header.entry) made (first ++ calls.now)) }
+    ensures fault { IfErr result (λ fault. fault ≡ TextFault.Memory) }
+{
+    if !is_placed {
+        return Ok(None);
+    }
+    let mut witness = witness_under(alloc, witness, false, header)?;
+    note_all(&mut witness, calls);
+    Ok(witness)
 }
 
 /// The digest of what a witness has seen, if there is one.

@@ -1,3 +1,4 @@
+use Rattle.std.proofs.Common.{◌∙◌}
 use Rattle.std.proofs.lemmas.Result.{err_from_is_err_and}
 use Rattle.kc_faults.proofs.Told.{sources_err, texts_err}
 use Rattle.kc_cli.proofs.Sources.{sink_err}
@@ -17,7 +18,7 @@ returns-in_err-made-clause-sources g c =
 pub returns-in_err-give_replayed-clause-sink : goal.returns-in_err-give_replayed-clause-sink
 returns-in_err-give_replayed-clause-sink g c =
     let made = err_from_is_err_and c.from_residual-in_err-give_replayed.result c.from_residual-in_err-give_replayed.ensures.1 in
-    rw (made.1, made.2) (sink_err _ _ _ _ c.in_err-give_replayed.field-0.0 (λ begun. begins _ _ _ _ _ _ _ _ _ _ c.in_ok-made.ensures.ok begun) (rw c.left_as.ensures at c.in_err-give_replayed.ensures.sink))
+    rw (made.1, made.2) (sink_err _ _ _ _ c.in_err-give_replayed.field-0.0 (λ begun. begins _ _ _ _ _ _ _ _ _ _ _ _ (λ asked. c.is_placed.ensures ∙ asked) c.in_ok-made.ensures.ok begun) (rw c.left_as.ensures at c.in_err-give_replayed.ensures.sink))
 
 pub returns-clause-ok : goal.returns-clause-ok
-returns-clause-ok g c = gives _ _ _ _ _ _ _ _ _ _ c.in_ok-made.ensures.ok (rw c.left_as.ensures at c.in_ok-give_replayed.ensures.ok)
+returns-clause-ok g c = gives _ _ _ _ _ _ _ _ _ _ _ _ (λ asked. c.is_placed.ensures ∙ asked) c.in_ok-made.ensures.ok (rw c.left_as.ensures at c.in_ok-give_replayed.ensures.ok)

@@ -21,7 +21,7 @@ returns-in-Some-clause-texts g c =
     let start = c.in_ok-core.field-0 in
     let fed = c.in-Ok-feed_source.field-0 in
     texts_misplaced _ _ _ _ start.core start.expected c.in-Some.wrong c.in_ok-core.ensures.ok
-    (misfed _ _ _ fed.header start.expected _ start.core c.in-Ok.replayer c.feed_source.new.replayer fed.calls.items fed.replies.items c.in-Ok-finish.core c.in-Some.wrong (ap (λ (r : Replaying). r.state) c.in-Ok.ensures.start) c.in-Ok-finish.ensures.core c.in-Ok-feed_source.ensures.ok c.in_ok-core.ensures.ok (rw c.config.ensures.value at c.in-Some.ensures))
+    (misfed _ _ _ _ fed.header start.expected _ start.core c.in-Ok.replayer c.feed_source.new.replayer fed.calls.items fed.replies.items fed.digest c.in-Ok-finish.core c.in-Some.wrong (ap (λ (r : Replaying). r.state) c.in-Ok.ensures.start) c.in-Ok-finish.ensures.core c.in-Ok-feed_source.ensures.ok c.in_ok-core.ensures.ok (rw c.config.ensures.value at c.in-Some.ensures))
     c.in-Ok-feed_source.ensures.ended
 
 pub returns-in-Some-clause-replay : goal.returns-in-Some-clause-replay
@@ -40,14 +40,14 @@ pub returns-in_default-fault-clause-ok : goal.returns-in_default-fault-clause-ok
 returns-in_default-fault-clause-ok g c =
     let start = c.in_ok-core.field-0 in
     let fed = c.in-Ok-feed_source.field-0 in
-    are_replayed _ _ _ _ start.core start.expected fed.calls.items fed.replies.items c.in-Ok-finish.core c.in_ok-core.ensures.ok
-    (replayed _ fed.header start.expected _ start.core c.in-Ok.replayer c.feed_source.new.replayer fed.calls.items fed.replies.items c.in-Ok-finish.core c.in_ok-core.ensures.lawful (ap (λ (r : Replaying). r.state) c.in-Ok.ensures.start) c.in-Ok-finish.ensures.core c.in-Ok-feed_source.ensures.ok (rw c.config.ensures.value at c.in_default-fault.ensures))
+    rw c.after.ensures (are_replayed _ _ c.args.is_placed _ _ start.core start.expected fed.calls.items fed.replies.items c.in-Ok-finish.core _ c.in_ok-core.ensures.ok
+    (replayed _ _ fed.header start.expected _ start.core c.in-Ok.replayer c.feed_source.new.replayer fed.calls.items fed.replies.items fed.digest c.in-Ok-finish.core c.in_ok-core.ensures.lawful (ap (λ (r : Replaying). r.state) c.in-Ok.ensures.start) c.in-Ok-finish.ensures.core c.in-Ok-feed_source.ensures.ok (rw c.config.ensures.value at c.in_default-fault.ensures)))
 
 pub returns-in_default-fault-clause-answered : goal.returns-in_default-fault-clause-answered
 returns-in_default-fault-clause-answered g c =
     let start = c.in_ok-core.field-0 in
     let fed = c.in-Ok-feed_source.field-0 in
-    answered_so c.args.order.origin c.args.order.form _ _ fed.calls.items fed.replies.items c.in-Ok-finish.core _
-    (are_replayed _ _ _ _ start.core start.expected fed.calls.items fed.replies.items c.in-Ok-finish.core c.in_ok-core.ensures.ok
-    (replayed _ fed.header start.expected _ start.core c.in-Ok.replayer c.feed_source.new.replayer fed.calls.items fed.replies.items c.in-Ok-finish.core c.in_ok-core.ensures.lawful (ap (λ (r : Replaying). r.state) c.in-Ok.ensures.start) c.in-Ok-finish.ensures.core c.in-Ok-feed_source.ensures.ok (rw c.config.ensures.value at c.in_default-fault.ensures)))
+    answered_so c.args.order.origin c.args.order.form c.args.is_placed _ _ fed.calls.items fed.replies.items c.in-Ok-finish.core _ _
+    (are_replayed _ _ c.args.is_placed _ _ start.core start.expected fed.calls.items fed.replies.items c.in-Ok-finish.core _ c.in_ok-core.ensures.ok
+    (replayed _ _ fed.header start.expected _ start.core c.in-Ok.replayer c.feed_source.new.replayer fed.calls.items fed.replies.items fed.digest c.in-Ok-finish.core c.in_ok-core.ensures.lawful (ap (λ (r : Replaying). r.state) c.in-Ok.ensures.start) c.in-Ok-finish.ensures.core c.in-Ok-feed_source.ensures.ok (rw c.config.ensures.value at c.in_default-fault.ensures)))
     (rw c.deref.ensures.value at c.of-answered.ensures)
