@@ -5,7 +5,7 @@ use Rattle.std.specs.Str.{bytes_eq}
 use Rattle.kc_types.specs.Limits.{frame_limit, gfn_limit}
 use Rattle.kc_types.specs.declared.link.Ends.{Ends}
 use Rattle.kc_dump.specs.declared.line.FrameLine.{FrameLine}
-use Rattle.kc_lines.specs.Words.{number_in, at_end}
+use Rattle.kc_lines.specs.Words.{number_in, at_end, digest_in}
 use Rattle.kc_dump_text.specs.declared.dump_line.DumpLine.{DumpLine}
 use Rattle.kc_dump_text.specs.declared.dump_line.DumpLine.TheVariants.{SizeOf, FreeOf, VmOf, LeafOf, EntryOf, FrameOf}
 use Rattle.kc_dump_text.specs.Words.{nothing, below_of, or_dash_of, bit_of, phase_of, owner_of}
