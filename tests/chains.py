@@ -1,12 +1,14 @@
 """Chains for tests/fuzz: a trace is cut at random places, and custody reads the pieces one after another in one run.
 
 Its report has to be what the rules say of the whole trace, with the volumes named. The picture has to be that of the
-whole trace, except for its foot. A damaged volume has to be refused by its number, for what is wrong with it."""
+whole trace, except for its foot. A damaged volume has to be refused by its number, for what is wrong with it. Half of
+the chains have heads; of these a volume that is left out, doubled, exchanged or of another machine is refused."""
 import hashlib
 import random
 import re
 
 import calls
+import heads
 from common import run
 from rules import REMARKS, VERSION, Core, Lives, denied_in, noted, rows_of_volumes, warning_of
 from states import blanked, state_text
@@ -36,7 +38,6 @@ class Chain:
             for line in lines[:first]:
                 self.core.answer(line)
             self.state = state_text(self.core)
-            self.start = ["--from", program.file("from", self.state)]
         moved = lambda line: {**line, "line": line["line"] - first}
         self.told, self.remarks = (
             [(*more, moved(line)) for *more, line in every if line["line"] - 2 >= first] for every in (told, remarks)
@@ -49,14 +50,25 @@ class Chain:
         self.lives, self.warning = lives.told(), warning_of(self.lines, answers)
         places = sorted(rng.randrange(len(self.lines) + 1) for _ in range(rng.randrange(MOST)))
         self.volumes = [self.lines[at:to] for at, to in zip([0, *places], [*places, len(self.lines)])]
-        # (calls that both versions have may come under either header)
-        self.texts = [calls.trace_of(it, rng.choice([None, True])) for it in self.volumes]
-        self.paths = [self.file(f"volume.{number}", text) for number, text in enumerate(self.texts, 1)]
+        self.expected = heads.FIRST if self.state is None else heads.BARE
+        if rng.random() < 0.5:
+            position = heads.Position(1, None) if self.state is None else heads.some_position(rng)
+            self.traces = heads.chain_of(rng, config, position, self.volumes)
+            self.expected = heads.FIRST if self.state is None else position
+        else:
+            # (calls that both versions have may come under either header)
+            self.traces = [heads.Headed(config, None, it, rng.choice([None, True])) for it in self.volumes]
+        if self.state is not None:
+            self.start = ["--from", program.file("from", heads.placed(self.state, self.expected))]
+        self.paths = self.files_of(self.traces)
 
     def file(self, name, text):
         path = self.path.with_name(name)
         path.write_text(text, newline="")
         return path
+
+    def files_of(self, traces):
+        return [self.file(f"volume.{number}", trace.text()) for number, trace in enumerate(traces, 1)]
 
     def ran(self, rng, *words):
         """Runs custody on the volumes, of which the first may be standard input."""
@@ -73,7 +85,7 @@ class Chain:
 
     def named(self):
         """What the first line says of what was read; of several volumes, their own lines say it."""
-        trace = {"trace": calls.witnessed(self.volumes[0])} if len(self.texts) == 1 else {}
+        trace = {"trace": self.traces[0].digest()} if len(self.traces) == 1 else {}
         config = {"config": hashlib.sha256(self.path.read_bytes()).hexdigest(), "state": None}
         return trace | (config if self.state is None else {"config": None, "state": digest(blanked(self.state))})
 
@@ -83,7 +95,7 @@ class Chain:
         is_named, is_unseen, vm, options = self.some(rng, [vm], form)
         said = {"is_unseen": is_unseen, "named": self.named() if is_named else None}
         if len(self.volumes) > 1:
-            digests = list(map(calls.witnessed, self.volumes)) if is_named else None
+            digests = [trace.digest() for trace in self.traces] if is_named else None
             said["volumes"] = rows_of_volumes(map(len, self.volumes), digests)
         made = len(self.lines), denied_in(self.remarks)
         if form == ["--summary"]:
@@ -124,11 +136,13 @@ class Chain:
     def fault_differs(self, rng, _):
         """What differs if one of the volumes is damaged or missing, or None."""
         at, way = rng.randrange(len(self.volumes)), rng.choice(["line", "line", "header", "end", "file"])
-        lines, text = self.volumes[at], self.texts[at]
+        trace = self.traces[at]
+        lines, text, first = trace.lines, trace.text(), trace.first_line()
         if way == "line":
             place = rng.randrange(len(lines) + 1)
-            text = calls.trace_of([*lines[:place], rng.choice(WRONG), *lines[place:]], True)
-            fault = f"bad trace line {place + 2}"
+            made = [*lines[:place], rng.choice(WRONG), *lines[place:]]
+            text = heads.Headed(trace.config, trace.position, made, True).text()
+            fault = f"bad trace line {place + first}"
         elif way == "end" and lines:
             text, fault = text[:-1], "last trace line has no newline"
         else:
@@ -143,6 +157,21 @@ class Chain:
         said = " ".join(["custody", *form, "of volumes with a fault"])
         return None if self.ran(rng, *form) == wanted else f"{said}: {wanted[2].strip()}"
 
+    def order_differs(self, rng, _):
+        """What differs if the volumes are not those of the chain, or None: one is refused, or they are a chain, too."""
+        if self.traces[0].position is None:
+            return None
+        traces = heads.disordered(rng, self.traces)
+        self.paths = self.files_of(traces)
+        wrong = heads.first_misplaced(self.core.config, self.expected, traces)
+        form = rng.choice([*FORMS, ["--svg"]])
+        status, out, err = self.ran(rng, *form)
+        if wrong is None:
+            return None if status == 0 and out else f"a chain is refused: {err.strip()}"
+        number = f"volume {wrong[0]}: " if len(traces) > 1 else ""
+        wanted = 2, "", f"kcore: {number}{wrong[1]}\n"
+        return None if (status, out, err) == wanted else f"not a chain: {wanted[2].strip()}, and not {err.strip()}"
+
 
 def digest(text):
     return hashlib.sha256(text.encode()).hexdigest()
@@ -153,7 +182,7 @@ def difference(case, program, told, remarks):
     config, lines = case
     rng = random.Random(f"{config['cut_by']} chain")
     chain = Chain(rng, program, lines, told, remarks)
-    looks = [chain.report_differs] * TRIED + [rng.choice([chain.picture_differs, chain.fault_differs])]
+    looks = [chain.report_differs] * TRIED + [rng.choice([chain.picture_differs, chain.fault_differs, chain.order_differs])]
     for look in looks:
         differs = look(rng, config["told_of"])
         if differs:

@@ -7,6 +7,7 @@ import random
 import re
 
 import calls
+import heads
 from common import run
 from rules import PAGE, REMARKS, Core, Lives, denied_in, lines_text, noted, warning_of
 from states import blanked, fault_of, state_text
@@ -171,6 +172,31 @@ class Program:
         return run(words, self.trace_of(lines))
 
 
+def headed_differs(rng, program, volume):
+    """What differs in a volume with a head that is replayed by itself, or None: it goes on from a state that says its
+    position, to one that says the next."""
+    position = heads.some_position(rng)
+    trace = heads.Headed(program.config, position, volume.lines)
+    start = ["--from", program.file("from", heads.placed(volume.before, position))]
+    after = heads.placed(volume.after, trace.next())
+    words = ["replay", *start, "--to", program.file("to", after), "--workers", str(rng.choice(WORKERS))]
+    form, wanted = rng.choice([([], volume.replies), (["--state"], after)])
+    if run([*words, *form], trace.text()) != (0, wanted, volume.warning):
+        return f"{form[0] if form else 'its replies'} under a head"
+    other = heads.placed(volume.after, heads.some_position(rng))
+    words = ["replay", *start, "--to", program.file("to", other)]
+    if run(words, trace.text()) != (1, volume.replies, volume.warning + ANOTHER):
+        return "compared with the state of another position"
+    expected = rng.choice([heads.BARE, heads.some_position(rng), heads.Position(max(2, position.number), heads.digits(rng))])
+    start = ["--from", program.file("from", heads.placed(volume.before, expected))]
+    said = trace.misplaced(program.config, expected)
+    if said is None:
+        return None
+    words = rng.choice([["replay"], ["replay", "--state"], ["custody"], ["redact", "--host"]])
+    same = run([*words, *start], trace.text()) == (2, "", f"kcore: {said}\n")
+    return None if same else f"{' '.join(words)} from a state of another position ({said})"
+
+
 def volume_differs(rng, program, volume):
     """What differs in a volume that is replayed by itself, or None."""
     start = ["--from", program.file("from", volume.before)]
@@ -256,7 +282,7 @@ def difference(case, program, told, remarks):
         differs = volume_differs(rng, program, volume)
         if differs:
             return f"volume {number} of {len(volumes)} (of {sizes} calls): {differs}"
-    for look in [blank_differs, host_differs, damage_differs] + rng.sample([end_differs, damage_differs], 1):
+    for look in [blank_differs, host_differs, headed_differs, damage_differs] + rng.sample([end_differs, damage_differs], 1):
         number, volume = rng.choice(order)
         differs = look(rng, program, volume)
         if differs:
