@@ -8,8 +8,8 @@ use Rattle.kc_cli.specs.Traced.{HasPlaced}
 use Rattle.kc_cli.specs.Engine.{IsKept}
 use Rattle.kc_cli.proofs.replaying.feed_source.Given as goal
 
-abbrev pub invariant-loop-replies : goal.invariant-loop-replies
-invariant-loop-replies g l = record {
+abbrev pub invariant-loop-witness : goal.invariant-loop-witness
+invariant-loop-witness g l = record {
   read : (bytes : List ℕ) × (calls : List Call) × HasRead l.stream bytes calls (g.T.Source.left l.fn.trace) (g.T.Source.left l.trace) × IsFed l.fn.replayer l.replayer calls l.replies.items × IsKept l.form l.calls.items calls
       × HasPlaced l.is_placed l.stream.reader.progress.header l.witness calls;
   few : l.stream.total ≤ byte_limit;
@@ -18,5 +18,5 @@ invariant-loop-replies g l = record {
   workers : l.replayer.workers ≡ l.fn.replayer.workers;
 }
 
-abbrev pub decreases-loop-replies : goal.decreases-loop-replies
-decreases-loop-replies g l = byte_limit - l.stream.total
+abbrev pub decreases-loop-witness : goal.decreases-loop-witness
+decreases-loop-witness g l = byte_limit - l.stream.total
