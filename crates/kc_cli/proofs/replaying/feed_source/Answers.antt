@@ -17,7 +17,7 @@ pub loop-witness-preserved : goal.loop-witness-preserved
 loop-witness-preserved g c =
     let before = c.loop-witness.invariant.read in
     let more = c.in_ok-part.ensures.calls before.0 before.1 (g.T.Source.left c.args.trace.now) before.2 in
-    let fed = rw c.deref.ensures.value at c.in-Ok.ensures.fed in
+    let fed = rw c.deref-in-loop-witness.ensures.value at c.in-Ok.ensures.fed in
     let grown : c.append.new.self.items ≡ c.loop-witness.replies.items ++ c.in-Ok.more.items = search rules in
     let seen = (rw c.deref.ensures.value at c.in_ok-witness.ensures.seen) c.loop-witness.stream.reader.progress.header before.1 (λ found is. c.header.ensures ∙ c.in_ok-part.ensures.header found is)
     (λ none. none_last before.1 c.in_ok-part.part.calls.items (more.1.headless (sym c.header.ensures ∙ none))) before.5 in
@@ -40,7 +40,7 @@ pub returns-in-Ok-finish-clause-ok : goal.returns-in-Ok-finish-clause-ok
 returns-in-Ok-finish-clause-ok g c =
     let before = c.loop-witness.invariant.read in
     let more = c.in_ok-part.ensures.calls before.0 before.1 (g.T.Source.left c.args.trace.now) before.2 in
-    let fed = rw c.deref.ensures.value at c.in-Ok.ensures.fed in
+    let fed = rw c.deref-in-loop-witness.ensures.value at c.in-Ok.ensures.fed in
     let grown : c.append.new.self.items ≡ c.loop-witness.replies.items ++ c.in-Ok.more.items = search rules in
     let seen = (rw c.deref.ensures.value at c.in_ok-witness.ensures.seen) c.loop-witness.stream.reader.progress.header before.1 (λ found is. c.header.ensures ∙ c.in_ok-part.ensures.header found is)
     (λ none. none_last before.1 c.in_ok-part.part.calls.items (more.1.headless (sym c.header.ensures ∙ none))) before.5 in
@@ -54,6 +54,6 @@ pub returns-in-Ok-finish-clause-few : goal.returns-in-Ok-finish-clause-few
 returns-in-Ok-finish-clause-few g c =
     let before = c.loop-witness.invariant.read in
     let more = c.in_ok-part.ensures.calls before.0 before.1 (g.T.Source.left c.args.trace.now) before.2 in
-    let fed = rw c.deref.ensures.value at c.in-Ok.ensures.fed in
+    let fed = rw c.deref-in-loop-witness.ensures.value at c.in-Ok.ensures.fed in
     let grown : c.append.new.self.items ≡ c.loop-witness.replies.items ++ c.in-Ok.more.items = search rules in
     rw grown (few_fed _ _ _ before.1 c.in_ok-part.part.calls.items _ _ before.3 fed more.1.few)

@@ -40,7 +40,7 @@ pub returns-in_default-fault-clause-ok : goal.returns-in_default-fault-clause-ok
 returns-in_default-fault-clause-ok g c =
     let start = c.in_ok-core.field-0 in
     let fed = c.in-Ok-feed_source.field-0 in
-    rw c.after.ensures (are_replayed _ _ c.args.is_placed _ _ start.core start.expected fed.calls.items fed.replies.items c.in-Ok-finish.core _ c.in_ok-core.ensures.ok
+    rw c.after-next.ensures (are_replayed _ _ c.args.is_placed _ _ start.core start.expected fed.calls.items fed.replies.items c.in-Ok-finish.core _ c.in_ok-core.ensures.ok
     (replayed _ _ fed.header start.expected _ start.core c.in-Ok.replayer c.feed_source.new.replayer fed.calls.items fed.replies.items fed.digest c.in-Ok-finish.core c.in_ok-core.ensures.lawful (ap (λ (r : Replaying). r.state) c.in-Ok.ensures.start) c.in-Ok-finish.ensures.core c.in-Ok-feed_source.ensures.ok (rw c.config.ensures.value at c.in_default-fault.ensures)))
 
 pub returns-in_default-fault-clause-answered : goal.returns-in_default-fault-clause-answered
