@@ -8,7 +8,7 @@ ghost use Rattle.kc_trace.specs.Trace.{IsRefused};
 ghost use Rattle.kc_trace.specs.declared.fault.TraceFault.{TraceFault};
 ghost use Rattle.kc_texts.specs.Ends.{ReadFailed};
 ghost use Rattle.kc_texts.specs.Streamed.{HasRead};
-ghost use Rattle.kc_redact_text.specs.Made.{redacted_by, core_after, replies_by, CountsMore};
+ghost use Rattle.kc_redact_text.specs.Made.{redacted_by, core_after, config_of, replies_by, CountsMore};
 ghost use Rattle.kc_remarks.specs.Denials.{AreCounts};
 ghost use Rattle.kc_redact_text.specs.Reading.{AreRead, stream_of, HasTaken, HasGoneOn, IsHeaderAndCalls, IsReadingFault};
 
@@ -150,7 +150,7 @@ impl Redacting {
 }
 
 /// Reads the rest of a source as a trace; returns its header, and its calls, redacted. If there is a core, the calls
-/// are made on it as they are read, and the counts of its replies are returned too.
+/// are made on it as they are read, and the counts of its replies are returned too; its configuration stays as it is.
 pub fn read_redacted<T: Source>(
     alloc: Global,
     core: &mut Option<KCore>,
@@ -159,6 +159,7 @@ pub fn read_redacted<T: Source>(
     requires { T.failed source.old ≡ false }
     ensures ok { IfOk result
         (λ read. IfSome (T.left source.old) (λ text. IsHeaderAndCalls core.old text read.0 read.1.items read.2)) }
+    ensures config { OnOk result (config_of core.new ≡ config_of core.old) }
     ensures ended { OnOk result (IsAtEnd (T.left source.new)) }
     ensures trace { (fault : TraceFault) → result ≡ Err (TextFault.Trace fault)
         → IfSome (T.left source.old) (λ text. IsRefused text fault) × IsAtEnd (T.left source.new) }
