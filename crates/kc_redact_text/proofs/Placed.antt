@@ -1,5 +1,5 @@
 -- The header of a trace is judged by the machine at the start.
-use Rattle.std.proofs.Common.{◌≡◌, ◌≢◌, ℕ, List, Option, Some, None, Result, Ok, Err, refl, subst, sym}
+use Rattle.std.proofs.Common.{◌≡◌, ◌≢◌, ℕ, List, Option, Some, None, Result, Ok, Err, subst}
 use Rattle.std.specs.Prelude.{IfSome, IfErr}
 use Rattle.std.specs.Io.KnownBytes.{IsAtEnd}
 use Rattle.kc_types.specs.Configuration.{Configuration}
@@ -12,15 +12,14 @@ use Rattle.kc_trace.specs.declared.expected.HeaderFault.{HeaderFault}
 use Rattle.kc_trace.specs.declared.fault.TraceFault.{TraceFault}
 use Rattle.kc_trace.specs.declared.fault.TraceFault.TheVariants.{NoHeader, BadLine, NoNewline, TooManyCalls, Misplaced, Memory}
 use Rattle.kc_trace.specs.Trace.{IsRefused}
-use Rattle.kc_trace.specs.Expected.{MayHave, IsHeaderFault, IsRefusedThere}
+use Rattle.kc_trace.specs.Expected.{IsHeaderFault, IsRefusedThere}
 use Rattle.kc_texts.specs.Ends.{Seen}
 use Rattle.kc_faults.specs.declared.origin.Origin.{Origin}
-use Rattle.kc_faults.specs.Origins.{BeginsIn, IsRefusedFrom}
+use Rattle.kc_faults.specs.Origins.{BeginsIn}
 use Rattle.kc_faults.specs.Outcomes.{IsTold, TellsTexts}
 use Rattle.kc_faults.specs.declared.fault.TextFault.{TextFault}
 use Rattle.kc_faults.specs.declared.fault.TextFault.TheVariants as texts
-use Rattle.kc_faults.proofs.Told.{texts_ok, texts_trace}
-use Rattle.kc_cli.proofs.Placed.{misplaced_there, known_refused_there}
+use Rattle.kc_faults.proofs.Told.{texts_ok, texts_trace, known_refused_where}
 use Rattle.kc_redact_text.specs.Made.{config_of}
 use Rattle.kc_redact_text.specs.Reading.{IsHeaderAndCalls, IsReadingFault}
 
@@ -29,23 +28,26 @@ some_is x y e = cc
 
 -- ---- before and after the calls
 
--- a header that the core's machine may have after the calls is one that it may have before them
-pub may_have : (before after : Option State) (expected : Expected) (header : Header) → config_of after ≡ config_of before → IfSome after (λ m. MayHave m.config expected header) → IfSome before (λ m. MayHave m.config expected header)
-may_have None after expected header same may = tt
-may_have (Some m) None expected header same may = absurd cc
-may_have (Some m) (Some n) expected header same may = subst (λ (config : Configuration). MayHave config expected header) (some_is n.config m.config same) may
+refused_there : (config : Configuration) (expected : Expected) (text : List ℕ) (fault : TraceFault) → IsRefused text fault → IsRefusedThere config expected text fault
+refused_there config expected text NoHeader is = is
+refused_there config expected text (BadLine n) is = is
+refused_there config expected text NoNewline is = is
+refused_there config expected text TooManyCalls is = is
+refused_there config expected text (Misplaced wrong) is = absurd is
+refused_there config expected text Memory is = is
 
--- a trace that is refused
+-- a text that is no trace is none that may go on there
 pub refused : (core : Option State) (source : Option (List ℕ)) (expected : Expected) (fault : TraceFault) → IfSome source (λ text. IsRefused text fault) → IfSome core (λ m. IfSome source (λ text. IsRefusedThere m.config expected text fault))
 refused None source expected fault is = tt
-refused (Some m) source expected fault is = known_refused_there m.config expected source fault is
+refused (Some m) None expected fault is = tt
+refused (Some m) (Some text) expected fault is = refused_there m.config expected text fault is
 
 read_misplaced : (m : State) (source : Option (List ℕ)) (expected : Expected) (header : Header) (kept : List Call) (denials : Denials) (wrong : HeaderFault) → IsHeaderFault m.config expected header wrong → IfSome source (λ text. IsHeaderAndCalls (Some m) text header kept denials)
     → IfSome source (λ text. IsRefusedThere m.config expected text (Misplaced wrong))
 read_misplaced m None expected header kept denials wrong is read = tt
 read_misplaced m (Some text) expected header kept denials wrong is read = (header, read.calls, read.read, is)
 
--- one whose header may not be there
+-- one whose header may not be there by the core's machine after the calls, and so by that before them
 pub misplaced : (before after : Option State) (source : Option (List ℕ)) (expected : Expected) (header : Header) (kept : List Call) (denials : Denials) (wrong : HeaderFault) → config_of after ≡ config_of before → IfSome after (λ m. IsHeaderFault m.config expected header wrong)
     → IfSome source (λ text. IsHeaderAndCalls before text header kept denials) → IfSome before (λ m. IfSome source (λ text. IsRefusedThere m.config expected text (Misplaced wrong)))
 misplaced None after source expected header kept denials wrong same is read = tt
@@ -54,19 +56,6 @@ misplaced (Some m) (Some n) source expected header kept denials wrong same is re
     read_misplaced m source expected header kept denials wrong (subst (λ (config : Configuration). IsHeaderFault config expected header wrong) (some_is n.config m.config same) is) read
 
 -- ---- by where the calls begin
-
-refused_from : (origin : Origin) (start : Option (List ℕ)) (m : State) (expected : Expected) (text : List ℕ) (fault : TraceFault) → IfSome start (λ text. BeginsIn origin text m expected) → IsRefusedThere m.config expected text fault → IsRefusedFrom origin start text fault
-refused_from origin start m expected text NoHeader begins is = is
-refused_from origin start m expected text (BadLine n) begins is = is
-refused_from origin start m expected text NoNewline begins is = is
-refused_from origin start m expected text TooManyCalls begins is = is
-refused_from origin None m expected text (Misplaced wrong) begins is = tt
-refused_from origin (Some start) m expected text (Misplaced wrong) begins is = (m, expected, begins, is)
-refused_from origin start m expected text Memory begins is = is
-
-known_refused_from : (origin : Origin) (start source : Option (List ℕ)) (m : State) (expected : Expected) (fault : TraceFault) → IfSome start (λ text. BeginsIn origin text m expected) → IfSome source (λ text. IsRefusedThere m.config expected text fault) → IfSome source (λ text. IsRefusedFrom origin start text fault)
-known_refused_from origin start None m expected fault begins is = tt
-known_refused_from origin start (Some text) m expected fault begins is = refused_from origin start m expected text fault begins is
 
 is_told : (fault : TextFault) → IsReadingFault fault → IsTold fault
 is_told (texts.Trace said) is = (λ e. cc, λ e. absurd (is (let same : said ≡ Memory = cc in same)), λ e. cc, λ d e. cc)
@@ -87,5 +76,5 @@ texts_read origin start trace unread m expected (Ok x) begins refused fault = te
 texts_read {A} origin start trace unread m expected (Err f) begins refused fault =
     let of_trace = is_of_trace f fault in
     texts_trace origin start trace unread m expected f begins
-    (λ said same. let is = refused said (let e : ◌≡◌ {A = Result A TextFault} (Err f) (Err (texts.Trace said)) = cc in e) in (known_refused_from origin start.had trace.had m expected said begins is.0, is.1))
+    (λ said same. let is = refused said (let e : ◌≡◌ {A = Result A TextFault} (Err f) (Err (texts.Trace said)) = cc in e) in (known_refused_where origin start.had m expected trace.had said begins is.0, is.1))
     of_trace.0 of_trace.1 (is_told f fault)

@@ -1,5 +1,5 @@
 //! Redacting a trace as it is read.
-ghost use Rattle.std.specs.Prelude.{◌≡◌, ◌≢◌, ◌<◌, ◌≤◌, ◌+◌, ◌++◌, [], ℕ, List, Option, Some, None, false, true, length, IfOk, IfErr, IfSome, OnOk, Err, MatchResult};
+ghost use Rattle.std.specs.Prelude.{◌≡◌, ◌≢◌, ◌<◌, ◌≤◌, ◌+◌, ◌++◌, [], ℕ, List, Option, Some, None, false, true, length, IfOk, IfErr, IfSome, OnOk, OnErr, Err, MatchResult};
 ghost use Rattle.std.specs.Io.KnownBytes.{IsAtEnd};
 ghost use Rattle.kc_types.specs.Limits.{byte_limit};
 ghost use Rattle.kc_types.specs.declared.call.Call.{Call};
@@ -55,6 +55,7 @@ fn read_calls(
         (λ fault. Fails fault (fed reader.old piece.now)) }
     ensures ok { OnOk result (reader.new.fault ≡ None) }
     ensures fault { IfErr result (λ fault. fault ≢ TraceFault.Memory → reader.new.fault ≡ Some fault) }
+    ensures kept { OnErr result (reader.new.progress ≡ reader.old.progress) }
 {
     match core {
         Some(_) => reader.feed(alloc, piece),
