@@ -6,11 +6,13 @@ use Rattle.kc_types.specs.declared.call.Call.{Call}
 use Rattle.kc_model.specs.State.{State}
 use Rattle.kc_model.specs.Lawful.{IsLawful}
 use Rattle.kc_trace.specs.declared.header.Header.{Header}
+use Rattle.kc_trace.specs.declared.expected.Expected.{Expected}
+use Rattle.kc_trace.specs.Expected.{MayHave}
 use Rattle.kc_trace.specs.Spelling.{text_of}
 use Rattle.kc_faults.specs.declared.origin.Origin.{Origin}
 use Rattle.kc_faults.specs.Origins.{BeginsIn}
 use Rattle.kc_texts.specs.Written.{Writes, Begins}
-use Rattle.kc_redact.specs.Redacted.{IsRedaction, IsHostRedaction}
+use Rattle.kc_redact.specs.Redacted.{IsRedaction}
 use Rattle.kc_redact.proofs.Redacted.{is_redaction, is_host_redaction, host-number}
 use Rattle.kc_remarks.specs.declared.denials.Denials.{Denials}
 use Rattle.kc_remarks.specs.declared.denials.Answered.{Answered}
@@ -37,20 +39,24 @@ begins (Some text) old new header kept denials read cut = (text_of header kept, 
 
 -- what was read of a start and a trace
 abbrev pub WasMade : Origin → Option (List ℕ) → Option (List ℕ) → Header → List Call → Denials → Type 0
-WasMade origin start trace header kept denials = (m : State) × IsLawful m × IfSome start (λ text. BeginsIn origin text m) × IfSome trace (λ text. IsHeaderAndCalls (Some m) text header kept denials)
+WasMade origin start trace header kept denials =
+    (m : State) × (expected : Expected) × IsLawful m × IfSome start (λ text. BeginsIn origin text m expected) × MayHave m.config expected header × IfSome trace (λ text. IsHeaderAndCalls (Some m) text header kept denials)
 
-wholly : (m : State) (text : List ℕ) (header : Header) (kept : List Call) (denials : Denials) → IsLawful m → (read : IsHeaderAndCalls (Some m) text header kept denials) → IsHostRedaction m text (text_of header kept) read.calls
-wholly m text header kept denials is read = is_host_redaction m text (text_of header kept) read.calls is (header, read.read) (text_is (Some m) text header kept denials read)
+-- the text that is written of these
+is_host_redacted : (origin : Origin) (start text : List ℕ) (header : Header) (kept : List Call) (denials : Denials) → WasMade origin (Some start) (Some text) header kept denials → IsHostRedacted origin start text (text_of header kept)
+is_host_redacted origin start text header kept denials made =
+    let read = made.5 in
+    (made.0, made.1, read.calls, made.3, (header, made.4, read.read), is_host_redaction made.0 text (text_of header kept) read.calls made.2 (header, read.read) (text_is (Some made.0) text header kept denials read))
 
 pub writes_host : (origin : Origin) (start trace old new : Option (List ℕ)) (header : Header) (kept : List Call) (denials : Denials) → WasMade origin start trace header kept denials → Appends old new (text_of header kept) → Writes (IsHostRedacted origin) start trace old new
 writes_host origin None trace old new header kept denials made given = tt
 writes_host origin (Some start) None old new header kept denials made given = tt
-writes_host origin (Some start) (Some text) old new header kept denials made given = (text_of header kept, (made.0, made.3.calls, made.2, wholly made.0 text header kept denials made.1 made.3), given)
+writes_host origin (Some start) (Some text) old new header kept denials made given = (text_of header kept, is_host_redacted origin start text header kept denials made, given)
 
 pub begins_host : (origin : Origin) (start trace old new : Option (List ℕ)) (header : Header) (kept : List Call) (denials : Denials) → WasMade origin start trace header kept denials → ((n : ℕ) × Appends old new (take n (text_of header kept))) → Begins (IsHostRedacted origin) start trace old new
 begins_host origin None trace old new header kept denials made cut = tt
 begins_host origin (Some start) None old new header kept denials made cut = tt
-begins_host origin (Some start) (Some text) old new header kept denials made cut = (text_of header kept, cut.0, (made.0, made.3.calls, made.2, wholly made.0 text header kept denials made.1 made.3), cut.1)
+begins_host origin (Some start) (Some text) old new header kept denials made cut = (text_of header kept, cut.0, is_host_redacted origin start text header kept denials made, cut.1)
 
 -- the counts are those of the trace's calls
 pub answers_host : (origin : Origin) (start trace : Option (List ℕ)) (header : Header) (kept : List Call) (denials : Denials) (answered : Answered) → WasMade origin start trace header kept denials → answered.calls ≡ length kept → answered.denials ≡ denials
@@ -58,6 +64,6 @@ pub answers_host : (origin : Origin) (start trace : Option (List ℕ)) (header :
 answers_host origin None trace header kept denials answered made count same = tt
 answers_host origin (Some start) None header kept denials answered made count same = tt
 answers_host origin (Some start) (Some text) header kept denials answered made count same =
-    let read = made.3 in
+    let read = made.5 in
     let long : answered.calls ≡ length read.calls = count ∙ ap length read.redacted ∙ host-number made.0 read.calls in
-    (made.0, made.2, (read.calls, (header, read.read), answered_by made.0 read.calls answered long (rw same read.counted)))
+    (made.0, made.1, made.3, (read.calls, (header, made.4, read.read), answered_by made.0 read.calls answered long (rw same read.counted)))

@@ -2,3 +2,4 @@ pub mod Made
 pub mod Whole
 pub mod Taken
 pub mod Given
+pub mod Placed

@@ -12,12 +12,13 @@ use Rattle.kc_model.specs.Next.{next, state_after}
 use Rattle.kc_model.specs.Redaction.{counts}
 use Rattle.kc_model.specs.Blanking.{is_guests}
 use Rattle.kc_model.proofs.States.Runs.{state_after-append, replies_from-append}
+use Rattle.kc_model.proofs.States.Sizes.{config-after}
 use Rattle.kc_remarks.specs.declared.denials.Denials.{Denials}
 use Rattle.kc_remarks.specs.Denials.{Counts}
 use Rattle.kc_cli.proofs.Counted.{one_each}
 use Rattle.kc_redact.specs.Redacted.{blanked, redacted_call, redacted_in, redacted_from, all_frames}
 use Rattle.kc_redact_text.specs.Kept.{blanked_call}
-use Rattle.kc_redact_text.specs.Made.{is_hidden, redacted_next, core_next, redacted_by, core_after, reply_next, replies_by, CountsMore}
+use Rattle.kc_redact_text.specs.Made.{is_hidden, redacted_next, core_next, redacted_by, core_after, config_of, reply_next, replies_by, CountsMore}
 
 -- ---- one call
 
@@ -74,6 +75,10 @@ by-then core now xs call is =
 
 pub after-then : (core now : Option State) (xs : List Call) (call : Call) → now ≡ core_after core xs → core_after core (xs ++ call ∷ []) ≡ core_next now call
 after-then core now xs call is = after-append core xs (call ∷ []) ∙ after-one (core_after core xs) call ∙ ap (λ c. core_next c call) (sym is)
+
+pub config-made : (core : Option State) (calls : List Call) → config_of (core_after core calls) ≡ config_of core
+config-made None calls = refl
+config-made (Some m) calls = ap Some (config-after m calls)
 
 -- one more call is kept
 pub kept-then : (core now : Option State) (first so_far new xs : List Call) (call kept : Call) → so_far ≡ first ++ redacted_by core xs → now ≡ core_after core xs → kept ≡ redacted_next now call → new ≡ so_far ++ kept ∷ [] → new ≡ first ++ redacted_by core (xs ++ call ∷ [])

@@ -43,9 +43,9 @@ none-kept : (core : Option State) (before after : Redacting) → after.calls ≡
 none-kept core before after same = rw (same, by-none core) (sym (append-nil before.calls.items))
 
 pub taken_err : (core made : Option State) (before after : Redacting) (piece : List ℕ) (fault : TraceFault) → Fails fault (fed before.reader piece) → (fault ≡ Memory → ⊥) → after.reader.fault ≡ Some fault
-    → after.total ≡ before.total + length piece → after.calls ≡ before.calls → after.denials ≡ before.denials → made ≡ core → HasTaken core made before after piece
-taken_err core made before after piece fault told other some total same uncounted idle left now consumed =
-    ([], none-kept core before after same, goes_on_err (stream_of before) (stream_of before) (stream_of after) piece [] fault (length piece) left left now (stays (stream_of before) left) consumed told other some refl total, idle ∙ sym (after-none core), rw uncounted (counts-none core before.denials))
+    → after.total ≡ before.total + length piece → after.reader.progress ≡ before.reader.progress → after.calls ≡ before.calls → after.denials ≡ before.denials → made ≡ core → HasTaken core made before after piece
+taken_err core made before after piece fault told other some total kept same uncounted idle left now consumed =
+    ([], none-kept core before after same, goes_on_err (stream_of before) (stream_of before) (stream_of after) piece [] fault (length piece) left left now (stays (stream_of before) left) consumed told other some refl total kept, idle ∙ sym (after-none core), rw uncounted (counts-none core before.denials))
 
 -- ---- going on
 

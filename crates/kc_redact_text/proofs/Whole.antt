@@ -7,7 +7,7 @@ use Rattle.kc_types.specs.declared.call.Call.{Call}
 use Rattle.kc_types.specs.declared.call.Call.TheVariants.{GuestWrite}
 use Rattle.kc_model.specs.State.{State}
 use Rattle.kc_trace.specs.declared.fault.TraceFault.{TraceFault}
-use Rattle.kc_trace.specs.declared.fault.TraceFault.TheVariants.{NoHeader, BadLine, NoNewline, TooManyCalls, Memory}
+use Rattle.kc_trace.specs.declared.fault.TraceFault.TheVariants.{NoHeader, BadLine, NoNewline, TooManyCalls, Misplaced, Memory}
 use Rattle.kc_trace.specs.Machine.{Gives, Fails, Progress}
 use Rattle.kc_trace.specs.Redacting.{redacted_read}
 use Rattle.kc_redact.specs.Redacted.{redacted_call, redacted}
@@ -34,6 +34,7 @@ fails-whole read NoHeader h = fault-whole read NoHeader h
 fails-whole read (BadLine n) h = fault-whole read (BadLine n) h
 fails-whole read NoNewline h = fault-whole read NoNewline h
 fails-whole read TooManyCalls h = fault-whole read TooManyCalls h
+fails-whole read (Misplaced wrong) h = fault-whole read (Misplaced wrong) h
 fails-whole read Memory h = tt
 
 calls-whole : (read : Result (Progress × List Call) TraceFault) (progress : Progress) (calls : List Call) → redacted_read read ≡ Ok (progress, calls) → AreRead None read progress calls

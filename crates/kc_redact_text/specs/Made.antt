@@ -1,5 +1,6 @@
 -- Calls that are redacted as they come, and made on a core, if there is one.
 use Rattle.std.specs.Prelude.{Bool, false, List, [], ◌∷◌, ◌++◌, Option, Some, None}
+use Rattle.kc_types.specs.Configuration.{Configuration}
 use Rattle.kc_types.specs.declared.call.Call.{Call}
 use Rattle.kc_types.specs.declared.call.Call.TheVariants.{HostWrite}
 use Rattle.kc_model.specs.State.{State, frame_at}
@@ -34,6 +35,11 @@ redacted_by (Some m) calls = redacted_from m calls
 abbrev pub core_after : Option State → List Call → Option State
 core_after None calls = None
 core_after (Some m) calls = Some (state_after m calls)
+
+-- the configuration of the core, if there is one
+abbrev pub config_of : Option State → Option Configuration
+config_of None = None
+config_of (Some m) = Some m.config
 
 -- the reply of the core to a call, if there is one
 abbrev pub reply_next : Option State → Call → List Reply

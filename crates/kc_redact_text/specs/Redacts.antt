@@ -6,6 +6,8 @@ use Rattle.kc_trace.specs.declared.fault.TraceFault.TheVariants as traces
 use Rattle.kc_faults.specs.declared.fault.TextFault.{TextFault}
 use Rattle.kc_faults.specs.declared.fault.TextFault.TheVariants as texts
 use Rattle.kc_model.specs.State.{State}
+use Rattle.kc_trace.specs.declared.expected.Expected.{Expected}
+use Rattle.kc_trace.specs.Expected.{IsTraceThere}
 use Rattle.kc_faults.specs.declared.origin.Origin.{Origin}
 use Rattle.kc_faults.specs.Origins.{BeginsIn}
 use Rattle.kc_redact.specs.Redacted.{IsRedaction, IsHostRedaction}
@@ -29,10 +31,11 @@ IsRedactFault texts.Read = Unit {0}
 IsRedactFault texts.Write = Unit {0}
 IsRedactFault _ = ⊥
 
--- the text is the trace without these bytes, and also without those that the host writes to frames of active VMs, if
--- the calls begin in the state that the first text describes
+-- the trace may have its header where the first text says that calls begin, and the text is the trace without these
+-- bytes, and also without those that the host writes to frames of active VMs, if its calls begin in the state there
 abbrev pub IsHostRedacted : Origin → List ℕ → List ℕ → List ℕ → Type 0
-IsHostRedacted origin start_text trace_text text = (m : State) × (calls : List Call) × BeginsIn origin start_text m × IsHostRedaction m trace_text text calls
+IsHostRedacted origin start_text trace_text text =
+    (m : State) × (expected : Expected) × (calls : List Call) × BeginsIn origin start_text m expected × IsTraceThere m.config expected trace_text calls × IsHostRedaction m trace_text text calls
 
 -- what the calls begin with is refused, or it is one of the faults above; before anything is written the sink has not
 -- failed

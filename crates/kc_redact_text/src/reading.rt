@@ -1,5 +1,5 @@
 //! Redacting a trace as it is read.
-ghost use Rattle.std.specs.Prelude.{◌≡◌, ◌≢◌, ◌<◌, ◌≤◌, ◌+◌, ◌++◌, [], ℕ, List, Option, Some, None, false, true, length, IfOk, IfErr, IfSome, OnOk, Err, MatchResult};
+ghost use Rattle.std.specs.Prelude.{◌≡◌, ◌≢◌, ◌<◌, ◌≤◌, ◌+◌, ◌++◌, [], ℕ, List, Option, Some, None, false, true, length, IfOk, IfErr, IfSome, OnOk, OnErr, Err, MatchResult};
 ghost use Rattle.std.specs.Io.KnownBytes.{IsAtEnd};
 ghost use Rattle.kc_types.specs.Limits.{byte_limit};
 ghost use Rattle.kc_types.specs.declared.call.Call.{Call};
@@ -8,7 +8,7 @@ ghost use Rattle.kc_trace.specs.Trace.{IsRefused};
 ghost use Rattle.kc_trace.specs.declared.fault.TraceFault.{TraceFault};
 ghost use Rattle.kc_texts.specs.Ends.{ReadFailed};
 ghost use Rattle.kc_texts.specs.Streamed.{HasRead};
-ghost use Rattle.kc_redact_text.specs.Made.{redacted_by, core_after, replies_by, CountsMore};
+ghost use Rattle.kc_redact_text.specs.Made.{redacted_by, core_after, config_of, replies_by, CountsMore};
 ghost use Rattle.kc_remarks.specs.Denials.{AreCounts};
 ghost use Rattle.kc_redact_text.specs.Reading.{AreRead, stream_of, HasTaken, HasGoneOn, IsHeaderAndCalls, IsReadingFault};
 
@@ -55,6 +55,7 @@ fn read_calls(
         (λ fault. Fails fault (fed reader.old piece.now)) }
     ensures ok { OnOk result (reader.new.fault ≡ None) }
     ensures fault { IfErr result (λ fault. fault ≢ TraceFault.Memory → reader.new.fault ≡ Some fault) }
+    ensures kept { OnErr result (reader.new.progress ≡ reader.old.progress) }
 {
     match core {
         Some(_) => reader.feed(alloc, piece),
@@ -150,7 +151,7 @@ impl Redacting {
 }
 
 /// Reads the rest of a source as a trace; returns its header, and its calls, redacted. If there is a core, the calls
-/// are made on it as they are read, and the counts of its replies are returned too.
+/// are made on it as they are read, and the counts of its replies are returned too; its configuration stays as it is.
 pub fn read_redacted<T: Source>(
     alloc: Global,
     core: &mut Option<KCore>,
@@ -159,6 +160,7 @@ pub fn read_redacted<T: Source>(
     requires { T.failed source.old ≡ false }
     ensures ok { IfOk result
         (λ read. IfSome (T.left source.old) (λ text. IsHeaderAndCalls core.old text read.0 read.1.items read.2)) }
+    ensures config { OnOk result (config_of core.new ≡ config_of core.old) }
     ensures ended { OnOk result (IsAtEnd (T.left source.new)) }
     ensures trace { (fault : TraceFault) → result ≡ Err (TextFault.Trace fault)
         → IfSome (T.left source.old) (λ text. IsRefused text fault) × IsAtEnd (T.left source.new) }

@@ -3,6 +3,8 @@ use Rattle.std.proofs.lemmas.Result.{err_from_is_err_and}
 use Rattle.kc_texts.proofs.Fed.{ends_a_trace, ends_refused}
 use Rattle.kc_faults.specs.declared.fault.TextFault.TheVariants as texts
 use Rattle.kc_redact_text.specs.Reading.{stream_of}
+use Rattle.kc_redact_text.specs.Made.{config_of}
+use Rattle.kc_redact_text.proofs.Made.{config-made}
 use Rattle.kc_redact_text.proofs.Taken.{whole_read, read_is}
 use Rattle.kc_redact_text.proofs.reading.read_redacted.Goals as goal
 
@@ -18,6 +20,11 @@ returns-in-Ok-clause-ok g c =
     whole_read _ _ _ _ c.in-Ok.header c.new-redacting.result c.take_rest.new.self c.new-redacting.ensures.read c.new-redacting.ensures.calls c.new-redacting.ensures.counted
     c.in_ok-take_rest.ensures.ok c.in_ok-take_rest.ensures.ended
     (rw c.in-Ok.is at (ends_a_trace (stream_of c.take_rest.new.self) c.finish.result c.finish.ensures.fault))
+
+pub returns-in-Ok-clause-config : goal.returns-in-Ok-clause-config
+returns-in-Ok-clause-config g c =
+    let on = c.in_ok-take_rest.ensures.ok in
+    ap config_of on.3 ∙ config-made c.args.core.now on.0
 
 pub returns-in-Err-clause-trace : goal.returns-in-Err-clause-trace
 returns-in-Err-clause-trace g c fault e =

@@ -14,7 +14,7 @@ returns-in-Err c =
     let before = c.args.self.now in
     let after : Redacting = record { reader = c.read_calls.new.reader; total = before.total + length c.args.piece.now; calls = before.calls; denials = before.denials } in
     record {
-      ok = taken_err c.args.core.now c.args.core.now before after c.args.piece.now c.in-Err.field-0 c.in-Err.ensures.answer (search rules) (search rules) refl refl refl refl;
+      ok = taken_err c.args.core.now c.args.core.now before after c.args.piece.now c.in-Err.field-0 c.in-Err.ensures.answer (search rules) (search rules) refl c.in-Err.ensures.kept refl refl refl;
       total = refl;
       few = search rules;
       read = λ e. absurd cc;
