@@ -1,3 +1,4 @@
+use Rattle.std.proofs.Common.{false}
 use Rattle.kc_cli.proofs.Witnessed.{none_placed, placed_more}
 use Rattle.kc_cli.proofs.telling.witness_placed.Goals as goal
 
