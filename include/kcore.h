@@ -135,9 +135,16 @@ size_t kcore_longest_line(void);
  * cannot, the session stays closed. */
 uint32_t kcore_boot(kcore *core, const uint8_t *config, size_t config_length);
 
+/* Opens a session as kcore_boot does, whose traces have the header `kcore-trace 3` and a head: that of the first volume
+ * says `volume 1 -`, and that of each later one its number and the digest that kcore_digest gave at the end of the
+ * volume before it. So each trace says which machine it is of and what came before. (After volume 4,294,967,295 the
+ * traces have the header `kcore-trace 2`, as those of kcore_boot have.) */
+uint32_t kcore_boot_history(kcore *core, const uint8_t *config, size_t config_length);
+
 /* Opens a closed session, whose core is in the state of this text, and which has answered no call yet: the text is what
- * kcore_state or kcore_blank_state gave, or `kcore replay --state` wrote. It is judged as by `kcore replay --from`, and
- * the first fault is reported; then *place is the number of the line, frame or slot that is at fault, or 0 (so too if
+ * kcore_state or kcore_blank_state gave, or `kcore replay --state` wrote. If it says which volume goes on from the
+ * state, the session fills that one, and its traces have heads. The text is judged as by `kcore replay --from`, and the
+ * first fault is reported; then *place is the number of the line, frame or slot that is at fault, or 0 (so too if
  * memory runs out), and the session stays closed. A session that is open, and a text that is too long, leave *place as
  * it was. */
 uint32_t kcore_resume(kcore *core, const uint8_t *text, size_t text_length, uint32_t *place);
@@ -186,7 +193,8 @@ uint32_t kcore_next(kcore *core, uint32_t owner, uint32_t vm, uint32_t from, uin
 uint32_t kcore_sizes(kcore *core, kcore_size *size);
 
 /* Gives a line of the volume's trace, by its place from 0, with its newline: the header, then a line for each call that
- * was answered. The lines from 0 to KCORE_NO_SUCH_LINE, one after another, are the trace. The bytes after the first
+ * was answered. A head comes with the header, all its lines at once, so that the call at place n is the one of line
+ * n + 1 in reports. The lines from 0 to KCORE_NO_SUCH_LINE, one after another, are the trace. The bytes after the first
  * *used stay as they are; if no line is given, *used is 0. */
 uint32_t kcore_line(kcore *core, size_t number, uint8_t *out, size_t out_length, size_t *used);
 
@@ -201,9 +209,10 @@ uint32_t kcore_redacted_line(kcore *core, size_t number, uint8_t *out, size_t ou
 uint32_t kcore_digest(kcore *core, uint8_t *out, size_t out_length, size_t *used);
 
 /* Gives the text of the core's state, which is what `kcore replay --state` writes after the calls so far; and the same
- * with zero pages in place of those of active VMs, as `--state --blank` writes it. For F frames it has at most 8,600 F
- * + 600,000 bytes; the buffer may be a mapped file. The bytes after the first *used stay as they are; if no text is
- * given, *used is 0. */
+ * with zero pages in place of those of active VMs, as `--state --blank` writes it. If the traces have heads, it says
+ * which volume goes on from the state: after kcore_turn it is the one that is being filled, which has no call yet, and
+ * after a call the next. For F frames it has at most 8,600 F + 600,000 bytes; the buffer may be a mapped file. The bytes
+ * after the first *used stay as they are; if no text is given, *used is 0. */
 uint32_t kcore_state(kcore *core, uint8_t *out, size_t out_length, size_t *used);
 uint32_t kcore_blank_state(kcore *core, uint8_t *out, size_t out_length, size_t *used);
 
@@ -216,7 +225,8 @@ uint32_t kcore_blank_digest(kcore *core, uint8_t *out, size_t out_length, size_t
 uint32_t kcore_dump(kcore *core, uint8_t *out, size_t out_length, size_t *used);
 
 /* Begins the next volume, with the core as it is: calls and lines from then on are those of the next volume, and those
- * of the last one are gone. After KCORE_MEMORY nothing has changed. */
+ * of the last one are gone. If that one has a head, so has the next one, with the digest of all its calls: those since
+ * kcore_digest was last asked for are hashed now. After KCORE_MEMORY nothing has changed. */
 uint32_t kcore_turn(kcore *core);
 
 /* Ends a session: zeroes the core's pages, frees the memory, and closes it. */

@@ -46,15 +46,16 @@ class KCoreError(Exception):
 
 
 class Session:
-    """A core, and the volume of the calls that it answered. One thread at a time may use it; 'with' ends it."""
+    """A core, and the volume of the calls that it answered. One thread at a time may use it; 'with' ends it. With history,
+    the traces of its volumes have heads, which say what they are of and after what they come."""
 
-    def __init__(self, configuration, library=None):
+    def __init__(self, configuration, library=None, history=False):
         place = library or os.environ.get("LIBKCORE_SO") or pathlib.Path(__file__).resolve().parent / "out" / "libkcore.so"
         self.c = ctypes.CDLL(str(place))
         self.c.kcore_longest_reply.restype = self.c.kcore_longest_line.restype = ctypes.c_size_t
         self.handle = Handle()
         self.room = max(self.c.kcore_longest_reply(), self.c.kcore_longest_line())
-        self.ask("boot", configuration, ctypes.c_size_t(len(configuration)))
+        self.ask("boot_history" if history else "boot", configuration, ctypes.c_size_t(len(configuration)))
 
     def __enter__(self):
         return self
@@ -98,7 +99,7 @@ class Session:
         return sizes
 
     def trace(self, redacted=False):
-        """The lines of the volume's trace so far, with their newlines."""
+        """The lines of the volume's trace so far, with their newlines. A head comes with the first."""
         lines, name = [], "redacted_line" if redacted else "line"
         try:
             while True:

@@ -1,3 +1,4 @@
 pub mod ConfigMembers
 pub mod KeptValues
 pub mod Turns
+pub mod Approved

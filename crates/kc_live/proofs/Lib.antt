@@ -8,3 +8,4 @@ pub mod Runs
 pub mod Beginnings
 pub mod Cuts
 pub mod Judged
+pub mod Heads

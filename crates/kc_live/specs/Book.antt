@@ -1,5 +1,5 @@
 -- What a book keeps: the calls of one volume of a core's life, with their replies.
-use Rattle.std.specs.Prelude.{◌≡◌, ◌≤◌, ℕ, ◌+◌, ◌-◌, ◌^◌, min, List, [], ◌∷◌, ◌++◌, length, map}
+use Rattle.std.specs.Prelude.{◌≡◌, ◌≤◌, ℕ, ◌+◌, ◌-◌, ◌^◌, min, List, [], ◌∷◌, ◌++◌, Option, Some, None, length, map}
 use Rattle.kc_types.specs.Configuration.{Configuration}
 use Rattle.kc_types.specs.Limits.{call_limit}
 use Rattle.kc_types.specs.declared.call.Call.{Call}
@@ -10,7 +10,11 @@ use Rattle.kc_model.specs.Lawful.{IsLawful}
 use Rattle.kc_model.specs.Promises.{KeepsPromises}
 use Rattle.kc_model.specs.Next.{next, state_after}
 use Rattle.kc_model.specs.Histories.{IsLegalHistory}
-use Rattle.kc_trace.specs.declared.header.Header.TheVariants.{Two}
+use Rattle.kc_trace.specs.declared.header.Header.{Header}
+use Rattle.kc_trace.specs.declared.header.Header.TheVariants.{One, Two, Three}
+use Rattle.kc_trace.specs.declared.header.Position.{Position}
+use Rattle.kc_trace.specs.Expected.{position_after}
+use Rattle.kc_trace.specs.Header.{IsHead}
 use Rattle.kc_redact.specs.Witness.{witnessed}
 use Rattle.sha2.specs.Sha256.{sha256}
 use Rattle.kc_live.specs.declared.journal.VolumeDigest.{VolumeDigest}
@@ -105,3 +109,60 @@ pub record IsDigestOf (v : VolumeView) (d : VolumeDigest) : Type 0 where
   pub volume : d.volume ≡ v.number
   pub calls : d.calls ≡ length v.entries
   pub digest : d.digest ≡ sha256 (witnessed Two (calls_of v.entries))
+
+-- ---- a volume with the header of its trace
+
+-- the volume that is being filled, and the header that its trace has
+pub record Recording : Type 0 where
+  pub header : Header
+  pub log : Log
+
+-- the header of the volume that goes on from a state of this machine: with a position a head, without one none
+abbrev pub header_at : Configuration → Option Position → Header
+header_at config None = Two
+header_at config (Some position) = Three (record { config = config; position = position })
+
+-- every call may come in a trace with this header
+abbrev pub MayRecord : Header → Type 0
+MayRecord One = ⊥
+MayRecord Two = Unit {0}
+MayRecord (Three head) = IsHead head
+
+-- a core that was asked nothing yet, with the position of the volume that goes on from its state, if it has one
+abbrev pub new_recording : Option Position → State → Recording
+new_recording position m = record { header = header_at m.config position; log = log 0 [] m }
+
+-- the recording with one call more
+abbrev pub recorded : Recording → Call → Recording
+recorded r call = record { header = r.header; log = longer r.log call }
+
+-- the SHA-256 digest of the volume's redacted trace
+abbrev pub digest_of : Recording → List ℕ
+digest_of r = sha256 (witnessed r.header (calls_of r.log.entries))
+
+-- this header with the position of another volume of its machine, or none; without a head it stays
+abbrev pub moved : Header → Option Position → Header
+moved (Three head) position = header_at head.config position
+moved header position = header
+
+-- the header of the volume after one with this header, whose redacted trace has this digest
+abbrev pub next_header : Header → List ℕ → Header
+next_header header digest = moved header (position_after header (Some digest))
+
+-- the recording of the volume after this one
+abbrev pub next_recording : Recording → Recording
+next_recording r = record { header = next_header r.header (digest_of r); log = next_volume r.log }
+
+-- where a volume with this header comes, if it has a head
+abbrev pub position_of : Header → Option Position
+position_of (Three head) = Some head.position
+position_of header = None
+
+-- where the volume comes that goes on after these calls of one with this header and this digest: it is the same one if there are none yet, and otherwise the next
+abbrev pub onward_from : List Entry → Header → List ℕ → Option Position
+onward_from [] header digest = position_of header
+onward_from (entry ∷ entries) header digest = position_after header (Some digest)
+
+-- where the volume comes that goes on from the state that the recording is in, if it has a head
+abbrev pub onward : Recording → Option Position
+onward r = onward_from r.log.entries r.header (digest_of r)

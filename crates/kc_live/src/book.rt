@@ -21,15 +21,17 @@ impl Model for Book {
     ghost use Rattle.std.specs.Coded.{codes, coded_ℕ};
     ghost use Rattle.std.specs.FinMap as map;
     ghost use Rattle.std.specs.Ordering.{nat_cmp};
+    ghost use Rattle.std.specs.Prelude.{◌≡◌};
+    ghost use Rattle.kc_trace.specs.declared.header.Header.TheVariants.{Two};
     ghost use Rattle.kc_live.specs.Book.{Log, IsKept};
 
     ghost Value = { Log };
 
     ghost coded = { Prim.hlevel (codes, map.code {R = nat_cmp} coded_ℕ coded_ℕ) };
 
-    ghost view = { λ b. b.journal };
+    ghost view = { λ b. b.journal.log };
 
-    ghost invariant = { λ b. IsKept b.journal };
+    ghost invariant = { λ b. IsKept b.journal.log × (b.journal.header ≡ Two) };
 }
 
 impl Book {
@@ -43,7 +45,7 @@ impl Book {
     {
         let core = KCore::boot(alloc, config)?;
         Ok(Book {
-            journal: Journal::of(alloc, core)?,
+            journal: Journal::of(alloc, core, None)?,
         })
     }
 

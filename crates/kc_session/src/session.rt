@@ -3,18 +3,16 @@ ghost use Rattle.std.specs.Prelude.{◌≡◌, ◌≤◌, ◌+◌, ◌++◌, Lis
 ghost use Rattle.std.specs.List.{concat};
 ghost use Rattle.kc_types.specs.Limits.{byte_limit, call_limit};
 ghost use Rattle.kc_model.specs.Lawful.{IsLawful};
-ghost use Rattle.kc_model.specs.Volumes.{IsCoreState};
 ghost use Rattle.kc_trace.specs.ReplyText.{longest_reply};
 ghost use Rattle.kc_trace.specs.Spelling.{longest_call};
-ghost use Rattle.kc_trace.specs.Trace.{IsTrace};
+ghost use Rattle.kc_trace.specs.Trace.{IsTraceUnder};
 ghost use Rattle.sha2.specs.Sha256.{sha256};
 ghost use Rattle.kc_types.specs.declared.call.Call.{Call};
 ghost use Rattle.kc_model.specs.Ranged.{IsRanged};
-ghost use Rattle.kc_live.specs.Book.{IsServed, calls_of, reply_to};
+ghost use Rattle.kc_live.specs.Book.{IsServed, MayRecord, calls_of, header_at, reply_to};
 ghost use Rattle.kc_redact.specs.Redacted.{IsRedaction};
-ghost use Rattle.kc_state_text.specs.Refused.{IsRefusedState};
-ghost use Rattle.kc_state_text.specs.StateText.{state_text};
-ghost use Rattle.kc_session.specs.Session.{new_session, begun, turned, with_call, IsOf, IsAnothers, IsAnswer, IsUnmade, IsUnanswered, trace_lines, redacted_lines, lines_in, line_in};
+ghost use Rattle.kc_state_text.specs.Refused.{IsRefusedPlaced};
+ghost use Rattle.kc_session.specs.Session.{new_session, begun, turned, onward_of, with_call, GoesOnFrom, IsOf, IsAnothers, IsAnswer, IsUnmade, IsUnanswered, trace_lines, redacted_lines, lines_in, line_in};
 
 use kc_core::KCore;
 use kc_custody::{note_marks, tell_marks};
@@ -22,7 +20,7 @@ use kc_live::{Entry, Journal, Ready};
 use kc_redact::push_redacted;
 use kc_state_text::{StateFault, read_state_alone};
 use kc_trace::{
-    Header, LONGEST_CALL, LONGEST_REPLY, call_of_line, push_call, push_header, push_reply,
+    LONGEST_CALL, LONGEST_REPLY, Position, call_of_line, push_call, push_header, push_reply,
 };
 use kc_types::{Actor, CALL_LIMIT, Call, Config, FrameChange, Memory, Reply, actor_of};
 use std::alloc::{AllocError, Global};
@@ -112,57 +110,55 @@ impl Model for Session {
     ghost use Rattle.std.specs.Ordering.{nat_cmp};
     ghost use Rattle.kc_model.specs.Ranged.{IsRanged};
     ghost use Rattle.kc_live.specs.Book.{calls_of};
-    ghost use Rattle.kc_session.specs.Session.{Kept};
+    ghost use Rattle.kc_session.specs.Session.{Kept, kept_of};
 
     ghost Value = { Kept };
 
     ghost coded = { Prim.hlevel (codes, map.code {R = nat_cmp} coded_ℕ coded_ℕ) };
 
-    ghost view = { λ s. record { log = s.journal; changes = s.changes.items } };
+    ghost view = { λ s. kept_of s.journal s.changes.items };
 
-    ghost invariant = { λ s. AllByRecursion IsRanged (calls_of s.journal.entries) };
+    ghost invariant = { λ s. AllByRecursion IsRanged (calls_of s.journal.log.entries) };
 }
 
 impl Session {
-    /// Begins with a core that was asked nothing yet.
-    fn of(alloc: Global, core: KCore) -> Result<Session, Memory>
-        requires { IsLawful core }
-        ensures { IfOk result (λ session. session ≡ begun core) }
+    /// Begins with a core that was asked nothing yet, and with this position of the first volume, or none.
+    fn of(alloc: Global, core: KCore, position: Option<Position>) -> Result<Session, Memory>
+        requires lawful { IsLawful core }
+        requires header { MayRecord (header_at core.config position) }
+        ensures { IfOk result (λ session. session ≡ begun position core) }
     {
         Ok(Session {
             alloc,
-            journal: Journal::of(alloc, core)?,
+            journal: Journal::of(alloc, core, position)?,
             changes: Vec::new(alloc),
             marks: Vec::new(alloc),
         })
     }
 
-    /// Opens a session with the core in the boot state of its configuration, asked nothing yet; `Memory` if memory cannot be
-    /// had.
-    pub fn new(alloc: Global, config: Config) -> Result<Session, Memory>
+    /// Opens a session with the core in the boot state of its configuration, asked nothing yet; its first volume has a head
+    /// with this position, or none. `Memory` if memory cannot be had.
+    pub fn new(alloc: Global, config: Config, position: Option<Position>) -> Result<Session, Memory>
+        requires { MayRecord (header_at config position) }
         // No clause can rule out that memory runs out: tests open sessions.
-        ensures { IfOk result (λ session. session ≡ new_session config) }
+        ensures { IfOk result (λ session. session ≡ new_session position config) }
     {
-        Session::of(alloc, KCore::boot(alloc, config)?)
+        Session::of(alloc, KCore::boot(alloc, config)?, position)
     }
 
     /// Opens a session with the core in the state that a text of up to 1,073,741,824 bytes describes, asked nothing yet; else
-    /// gives the text's first fault, or `Memory`, which may come whatever the text is. A text with a position is refused as
-    /// one without a header.
+    /// gives the text's first fault, or `Memory`, which may come whatever the text is. If the text says which volume goes on
+    /// from the state, the session's trace has a head that says so.
     pub fn resume(alloc: Global, text: &[u8]) -> Result<Session, StateFault>
         requires { length text.now ≤ byte_limit }
         // What is read is the state's one text.
-        ensures begun { IfOk result (λ session. session ≡ begun session.log.state) }
-        ensures state { IfOk result (λ session. text.now ≡ state_text session.log.state) }
-        ensures core { IfOk result (λ session. IsCoreState session.log.state) }
-        ensures refused { IfErr result (IsRefusedState text.now) }
+        ensures resumed { IfOk result (λ session. GoesOnFrom session text.now) }
+        ensures refused { IfErr result (IsRefusedPlaced text.now) }
     {
         let read = read_state_alone(alloc, text)?;
-        if read.position.is_some() {
-            return Err(StateFault::NoHeader);
-        }
         let core = read.core;
-        match Session::of(alloc, core) {
+        let position = read.position;
+        match Session::of(alloc, core, position) {
             Ok(session) => Ok(session),
             Err(_) => Err(StateFault::Memory),
         }
@@ -240,8 +236,18 @@ impl Session {
         self.journal.core()
     }
 
+    /// Where the volume comes that goes on from the core as it is, if it has a head: it is this one if it has no call yet, and
+    /// otherwise the next. The calls since the digest was last asked are hashed then. No memory is taken.
+    pub fn onward(&mut self) -> Option<Position>
+        ensures value { result ≡ onward_of self.old }
+        ensures same { self.new ≡ self.old }
+    {
+        self.journal.onward()
+    }
+
     /// Hands out the calls of the volume with their replies, full or not, and begins the next one with the core as it is:
-    /// the lines from then on are of the next one. `Memory` if memory for its calls runs out.
+    /// the lines from then on are of the next one. If this one has a head, the next one's says that it follows. `Memory` if
+    /// memory for its calls runs out.
     pub fn turn(&mut self) -> Result<Vec<Entry>, Memory>
         ensures entries { IfOk result (λ entries. entries.items ≡ self.old.log.entries) }
         // One thread gets these replies.
@@ -256,30 +262,31 @@ impl Session {
     /// Gives the SHA-256 digest of the volume's redacted trace so far: of its redacted lines, one after the other. The calls
     /// since it was last asked are hashed now. No memory is taken.
     pub fn digest(&mut self) -> [u8; 32]
-        ensures digest { result ≡ sha256 (concat (redacted_lines self.old.log)) }
-        ensures redaction { IsRedaction (concat (trace_lines self.old.log)) (concat (redacted_lines self.old.log)) (calls_of self.old.log.entries) }
+        ensures digest { result ≡ sha256 (concat (redacted_lines self.old)) }
+        ensures redaction { IsRedaction (concat (trace_lines self.old)) (concat (redacted_lines self.old)) (calls_of self.old.log.entries) }
         ensures same { self.new ≡ self.old }
     {
         self.journal.digest()
     }
 
-    /// Counts the lines of the volume's trace: the header, and a line for each call that was answered. All of them, one
-    /// after the other, are the trace of these calls.
+    /// Counts the lines of the volume's trace: the header, where a head counts as one line with it, and a line for each call
+    /// that was answered. All of them, one after the other, are the trace of these calls.
     pub fn lines(&self) -> usize
-        ensures count { result ≡ length (trace_lines self.now.log) }
-        ensures trace { IsTrace (concat (trace_lines self.now.log)) (calls_of self.now.log.entries) }
+        ensures count { result ≡ length (trace_lines self.now) }
+        ensures trace { IsTraceUnder self.now.header (concat (trace_lines self.now)) (calls_of self.now.log.entries) }
     {
+        let _header = self.journal.header();
         self.journal.entries().len() + 1
     }
 
     /// Gives a line of that trace in a form, by its place from 0, with its newline. `None` if it has no such line; `Memory` if
     /// memory runs out.
     pub fn line(&self, form: Form, number: usize) -> Result<Option<Vec<u8>>, Memory>
-        ensures { IfOk result (λ told. option_map (λ line. line.items) told ≡ slice_get (lines_in form self.now.log) number) }
+        ensures { IfOk result (λ told. option_map (λ line. line.items) told ≡ slice_get (lines_in form self.now) number) }
     {
         let mut told = Vec::with_capacity(self.alloc, LONGEST_CALL)?;
         if number == 0 {
-            push_header(&mut told, &Header::Two);
+            push_header(&mut told, self.journal.header());
             return Ok(Some(told));
         }
         let place = number - 1;

@@ -8,21 +8,21 @@ use Rattle.kc_types.specs.declared.call.Actor.{Actor}
 use Rattle.kc_types.specs.declared.config.ConfigFault.TheVariants as numbers
 use Rattle.kc_model.specs.State.{mapped_at}
 use Rattle.kc_model.specs.Custody.{custody_at}
-use Rattle.kc_model.specs.Volumes.{IsCoreState}
 use Rattle.kc_dumping.specs.Dumping.{dump_of}
 use Rattle.kc_dumping.specs.Form.{in_form}
 use Rattle.kc_dumping.specs.declared.form.StateForm.{StateForm}
 use Rattle.kc_dumping.specs.declared.form.StateForm.TheVariants.{Blank}
-use Rattle.kc_state_text.specs.Refused.{IsRefusedState}
-use Rattle.kc_state_text.specs.StateText.{state_text}
+use Rattle.kc_state_text.specs.Refused.{IsRefusedPlaced}
+use Rattle.kc_state_text.specs.StateText.{placed_state_text}
 use Rattle.kc_state_text.specs.declared.fault.StateFault.{StateFault}
 use Rattle.kc_state_text.specs.declared.fault.StateFault.TheVariants as states
 use Rattle.kc_dump_text.specs.DumpText.{dump_text}
 use Rattle.kc_config_text.specs.ConfigText.{config_in, ConfigFails}
 use Rattle.kc_trace.specs.ReplyText.{longest_reply}
+use Rattle.kc_trace.specs.declared.header.Position.{Position}
 use Rattle.kc_config_text.specs.declared.config_text.ConfigTextFault.TheVariants as texts
 use Rattle.sha2.specs.Sha256.{sha256}
-use Rattle.kc_session.specs.Session.{Kept, new_session, begun, turned, IsAnswer, IsUnanswered, lines_in, redacted_lines}
+use Rattle.kc_session.specs.Session.{Kept, new_session, turned, onward_of, GoesOnFrom, IsAnswer, IsUnanswered, lines_in, redacted_lines}
 use Rattle.kc_session.specs.declared.session.Form.{Form}
 use Rattle.kc_session.specs.declared.session.AskFault.TheVariants as asks
 use Rattle.kcore_c.specs.Record.{record_of, change_of, IsNextOf, HasNoneOf}
@@ -71,17 +71,17 @@ code_of (State states.Memory) = 3
 abbrev pub IsCode : (Status → Type 0) → ℕ → Type 0
 IsCode Says code = (status : Status) × (code ≡ code_of status) × Says status
 
--- the session is that of a core in the boot state of the configuration that the text is
-abbrev pub IsBooted : Option Kept → List ℕ → Type 0
-IsBooted session text = (config : Configuration) × (config_in text ≡ Ok config) × (session ≡ Some (new_session config))
+-- the session is that of a core in the boot state of the configuration that the text is, and its first volume has a head with this position, or none
+abbrev pub IsBooted : Option Position → Option Kept → List ℕ → Type 0
+IsBooted position session text = (config : Configuration) × (config_in text ≡ Ok config) × (session ≡ Some (new_session position config))
 
--- opening a session with a text
-abbrev pub BootSays : Option Kept → Option Kept → List ℕ → Status → Type 0
-BootSays old new text Done = (old ≡ None) × IsBooted new text
-BootSays old new text AlreadyOpen = IsSome old × (new ≡ old)
-BootSays old new text TooLong = (old ≡ None) × (new ≡ None) × (byte_limit < length text)
-BootSays old new text (Config fault) = (old ≡ None) × (new ≡ None) × (length text ≤ byte_limit) × ConfigFails fault (config_in text)
-BootSays old new text _ = ⊥
+-- opening a session with a text, and with a head of this position, or none
+abbrev pub BootSays : Option Position → Option Kept → Option Kept → List ℕ → Status → Type 0
+BootSays position old new text Done = (old ≡ None) × IsBooted position new text
+BootSays position old new text AlreadyOpen = IsSome old × (new ≡ old)
+BootSays position old new text TooLong = (old ≡ None) × (new ≡ None) × (byte_limit < length text)
+BootSays position old new text (Config fault) = (old ≡ None) × (new ≡ None) × (length text ≤ byte_limit) × ConfigFails fault (config_in text)
+BootSays position old new text _ = ⊥
 
 -- the number of the line, frame or slot that is at fault, or 0
 abbrev pub place_of : StateFault → ℕ
@@ -91,23 +91,27 @@ place_of (states.Slot v) = v
 place_of (states.Frame f) = f
 place_of _ = 0
 
--- the session is that of a core in the state that the text spells, and was asked nothing yet
+-- the session is that of a core in the state that the text spells, with the position that it says, and was asked nothing yet
 abbrev pub IsResumed : Option Kept → List ℕ → Type 0
 IsResumed None text = ⊥
-IsResumed (Some kept) text = (kept ≡ begun kept.log.state) × (text ≡ state_text kept.log.state) × IsCoreState kept.log.state
+IsResumed (Some kept) text = GoesOnFrom kept text
 
 -- opening a session with the text of a state; a place is reported if the text is refused
 abbrev pub ResumeSays : Option Kept → Option Kept → List ℕ → ℕ → ℕ → Status → Type 0
 ResumeSays old new text before after Done = (old ≡ None) × IsResumed new text × (after ≡ before)
 ResumeSays old new text before after AlreadyOpen = IsSome old × (new ≡ old) × (after ≡ before)
 ResumeSays old new text before after TooLong = (old ≡ None) × (new ≡ None) × (byte_limit < length text) × (after ≡ before)
-ResumeSays old new text before after (State fault) = (old ≡ None) × (new ≡ None) × (length text ≤ byte_limit) × IsRefusedState text fault × (after ≡ place_of fault)
+ResumeSays old new text before after (State fault) = (old ≡ None) × (new ≡ None) × (length text ≤ byte_limit) × IsRefusedPlaced text fault × (after ≡ place_of fault)
 ResumeSays old new text before after _ = ⊥
+
+-- the text of a session's state in a form, with where the volume comes that goes on from it, if that has a head
+abbrev pub text_in : StateForm → Kept → List ℕ
+text_in form kept = placed_state_text (onward_of kept) (in_form form kept.log.state)
 
 -- giving the text of a session's state in a form, with room for this many bytes
 abbrev pub StateSays : StateForm → Option Kept → ℕ → List ℕ → Status → Type 0
-StateSays form (Some kept) room bytes Done = bytes ≡ state_text (in_form form kept.log.state)
-StateSays form (Some kept) room bytes NoRoom = room < length (state_text (in_form form kept.log.state))
+StateSays form (Some kept) room bytes Done = bytes ≡ text_in form kept
+StateSays form (Some kept) room bytes NoRoom = room < length (text_in form kept)
 StateSays form (Some kept) room bytes Memory = Unit {0}
 StateSays form None room bytes Closed = Unit {0}
 StateSays form _ room bytes _ = ⊥
@@ -122,7 +126,7 @@ DumpSays _ room bytes _ = ⊥
 
 -- giving the digest of the text of a session's blank state, with room for this many bytes
 abbrev pub BlankDigestSays : Option Kept → ℕ → List ℕ → Status → Type 0
-BlankDigestSays (Some kept) room bytes Done = bytes ≡ sha256 (state_text (in_form Blank kept.log.state))
+BlankDigestSays (Some kept) room bytes Done = bytes ≡ sha256 (text_in Blank kept)
 BlankDigestSays (Some kept) room bytes NoRoom = room < 32
 BlankDigestSays (Some kept) room bytes Memory = Unit {0}
 BlankDigestSays None room bytes Closed = Unit {0}
@@ -196,16 +200,16 @@ SizesSays _ _ _ _ = ⊥
 
 -- giving a line of a session's trace in a form, with room for this many bytes
 abbrev pub LineSays : Form → Option Kept → ℕ → ℕ → List ℕ → Status → Type 0
-LineSays form (Some kept) number room bytes Done = slice_get (lines_in form kept.log) number ≡ Some bytes
-LineSays form (Some kept) number room bytes NoSuchLine = slice_get (lines_in form kept.log) number ≡ None
-LineSays form (Some kept) number room bytes NoRoom = (line : List ℕ) × (slice_get (lines_in form kept.log) number ≡ Some line) × (room < length line)
+LineSays form (Some kept) number room bytes Done = slice_get (lines_in form kept) number ≡ Some bytes
+LineSays form (Some kept) number room bytes NoSuchLine = slice_get (lines_in form kept) number ≡ None
+LineSays form (Some kept) number room bytes NoRoom = (line : List ℕ) × (slice_get (lines_in form kept) number ≡ Some line) × (room < length line)
 LineSays form (Some kept) number room bytes Memory = Unit {0}
 LineSays form None number room bytes Closed = Unit {0}
 LineSays form _ number room bytes _ = ⊥
 
 -- giving the digest of a session's redacted trace, with room for this many bytes
 abbrev pub DigestSays : Option Kept → ℕ → List ℕ → Status → Type 0
-DigestSays (Some kept) room bytes Done = bytes ≡ sha256 (concat (redacted_lines kept.log))
+DigestSays (Some kept) room bytes Done = bytes ≡ sha256 (concat (redacted_lines kept))
 DigestSays (Some kept) room bytes NoRoom = room < 32
 DigestSays None room bytes Closed = Unit {0}
 DigestSays _ room bytes _ = ⊥

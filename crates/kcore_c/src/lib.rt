@@ -14,6 +14,7 @@
 ghost use Rattle.std.specs.Prelude.{◌≡◌, ◌≢◌, ◌≤◌, Some, None, length, take, drop};
 ghost use Rattle.kc_trace.specs.ReplyText.{longest_reply};
 ghost use Rattle.kc_trace.specs.Spelling.{longest_call};
+ghost use Rattle.kc_trace.specs.declared.header.Position.TheVariants.{First};
 ghost use Rattle.kc_session.specs.declared.session.Form.TheVariants.{Whole, Redacted};
 ghost use Rattle.kc_dumping.specs.declared.form.StateForm.TheVariants as forms;
 ghost use Rattle.kcore_c.specs.Record.{asking};
@@ -29,7 +30,7 @@ mod status;
 pub use handle::Handle;
 use kc_dumping::StateForm;
 use kc_session::Form;
-use kc_trace::{LONGEST_CALL, LONGEST_REPLY};
+use kc_trace::{LONGEST_CALL, LONGEST_REPLY, Position};
 use record::asking;
 pub use record::{Change, Record, Sizes};
 pub use request::{Answer, Request};
@@ -56,13 +57,23 @@ pub extern "C" fn kcore_longest_line() -> usize
 /// If it cannot, the handle stays as it is.
 #[unsafe(no_mangle)]
 pub extern "C" fn kcore_boot(alloc: Global, core: &mut Handle, config: &[u8]) -> u32
-    ensures { IsCode (BootSays core.old.held.session core.new.held.session config.now) result }
+    ensures { IsCode (BootSays None core.old.held.session core.new.held.session config.now) result }
 {
-    session::boot(alloc, core, config).code()
+    session::boot(alloc, core, config, None).code()
 }
 
-/// Opens a session whose core is in the state that a text spells, and that was asked nothing yet. If the text is
-/// refused, `place` is the number of the line, frame or slot that is at fault, or 0, and the handle stays as it is.
+/// Opens a session as `kcore_boot` does, whose traces have heads: that of its first volume says that it is the first, and
+/// that of each later one its number and the digest of the volume before it.
+#[unsafe(no_mangle)]
+pub extern "C" fn kcore_boot_history(alloc: Global, core: &mut Handle, config: &[u8]) -> u32
+    ensures { IsCode (BootSays (Some First) core.old.held.session core.new.held.session config.now) result }
+{
+    session::boot(alloc, core, config, Some(Position::First)).code()
+}
+
+/// Opens a session whose core is in the state that a text spells, and that was asked nothing yet. If the text says which
+/// volume goes on from the state, the session's traces have heads, and the first one's says that. If the text is refused,
+/// `place` is the number of the line, frame or slot that is at fault, or 0, and the handle stays as it is.
 #[unsafe(no_mangle)]
 pub extern "C" fn kcore_resume(
     alloc: Global,
@@ -250,9 +261,9 @@ pub extern "C" fn kcore_sizes(alloc: Global, core: &mut Handle, size: &mut Sizes
     look_ups::sizes(alloc, core, size).code()
 }
 
-/// Gives a line of the volume's trace, by its place from 0, with its newline: the header, then a line for each call
-/// that was answered, so that all lines, one after the other, are the trace. The bytes after the first `used` stay; if
-/// no line is given, `used` is 0.
+/// Gives a line of the volume's trace, by its place from 0, with its newline: the header, with all lines of its head if it
+/// has one, then a line for each call that was answered, so that all of them, one after the other, are the trace. The
+/// bytes after the first `used` stay; if no line is given, `used` is 0.
 #[unsafe(no_mangle)]
 pub extern "C" fn kcore_line(
     alloc: Global,
@@ -307,8 +318,9 @@ pub extern "C" fn kcore_digest(
     session::digest(alloc, core, out, used).code()
 }
 
-/// Gives the text of the core's state, which `kcore_resume` can open again and which `kcore replay --state` writes. The
-/// bytes after the first `used` stay; if no text is given, `used` is 0.
+/// Gives the text of the core's state, which `kcore_resume` can open again and which `kcore replay --state` writes. If the
+/// session's traces have heads, it says which volume goes on from the state: this one if it has no call yet, else the
+/// next. The bytes after the first `used` stay; if no text is given, `used` is 0.
 #[unsafe(no_mangle)]
 pub extern "C" fn kcore_state(
     alloc: Global,
@@ -378,7 +390,8 @@ pub extern "C" fn kcore_dump(
     session::dump(alloc, core, out, used).code()
 }
 
-/// Begins the session's next volume, with the core as it is; lines from then on are those of the next volume.
+/// Begins the session's next volume, with the core as it is; lines from then on are those of the next volume. If this one
+/// has a head, so has the next one, with the next number and the digest of this one.
 #[unsafe(no_mangle)]
 pub extern "C" fn kcore_turn(alloc: Global, core: &mut Handle) -> u32
     ensures { IsCode (TurnSays core.old.held.session core.new.held.session) result }

@@ -1,10 +1,11 @@
 //! What is done with the session of a handle.
-ghost use Rattle.std.specs.Prelude.{◌≡◌, ◌≢◌, ◌≤◌, Some, None, length, take, drop, IfOk, IfErr};
+ghost use Rattle.std.specs.Prelude.{◌≡◌, ◌≢◌, ◌≤◌, Some, None, length, take, drop, IfOk, IfErr, IfSome};
 ghost use Rattle.kc_config_text.specs.ConfigText.{config_in, ConfigFails};
 ghost use Rattle.kcore_c.specs.Status.{BootSays, CallSays, DoSays, LineSays, DigestSays, ResumeSays, StateSays, DumpSays, BlankDigestSays, IsResumed, TurnSays, EndSays, IsBooted, place_of};
 ghost use Rattle.kc_types.specs.Limits.{byte_limit};
+ghost use Rattle.kc_trace.specs.Header.{IsPosition};
 ghost use Rattle.kc_dumping.specs.Dumping.{dump_of};
-ghost use Rattle.kc_state_text.specs.Refused.{IsRefusedState};
+ghost use Rattle.kc_state_text.specs.Refused.{IsRefusedPlaced};
 ghost use Rattle.kc_dump_text.specs.DumpText.{dump_text};
 
 use crate::handle::Handle;
@@ -16,7 +17,7 @@ use kc_dump_text::write_dump;
 use kc_dumping::{StateForm, dump_alone};
 use kc_session::{Form, Session};
 use kc_state_text::{StateFault, state_digest, whole_text};
-use kc_trace::LONGEST_REPLY;
+use kc_trace::{LONGEST_REPLY, Position};
 use kc_types::{Actor, BYTE_LIMIT, Memory, PAGE_SIZE};
 use std::alloc::Global;
 
@@ -33,12 +34,18 @@ fn put_digest(out: &mut [u8], digest: &[u8; DIGEST])
     out[..DIGEST].copy_from_slice(digest);
 }
 
-fn opened(alloc: Global, text: &[u8]) -> Result<Box<Session>, ConfigTextFault>
-    ensures session { IfOk result (λ session. IsBooted (Some session.value) text.now) }
+fn opened(
+    alloc: Global,
+    text: &[u8],
+    position: Option<Position>,
+) -> Result<Box<Session>, ConfigTextFault>
+    requires { IfSome position IsPosition }
+    ensures session { IfOk result (λ session. IsBooted position (Some session.value) text.now) }
     ensures fault { IfErr result (λ fault. ConfigFails fault (config_in text.now)) }
 {
     let config = read_config(alloc, text)?;
-    let Ok(session) = Session::new(alloc, config) else {
+    let _frames = config.frames();
+    let Ok(session) = Session::new(alloc, config, position) else {
         return Err(ConfigTextFault::Memory);
     };
     match Box::new(alloc, session) {
@@ -47,9 +54,10 @@ fn opened(alloc: Global, text: &[u8]) -> Result<Box<Session>, ConfigTextFault>
     }
 }
 
-/// Opens a session with the text of its configuration.
-pub fn boot(alloc: Global, core: &mut Handle, text: &[u8]) -> Status
-    ensures { BootSays core.old.held.session core.new.held.session text.now result }
+/// Opens a session with the text of its configuration, and with a head of this position, or none.
+pub fn boot(alloc: Global, core: &mut Handle, text: &[u8], position: Option<Position>) -> Status
+    requires { IfSome position IsPosition }
+    ensures { BootSays position core.old.held.session core.new.held.session text.now result }
 {
     if core.is_open() {
         return Status::AlreadyOpen;
@@ -57,7 +65,7 @@ pub fn boot(alloc: Global, core: &mut Handle, text: &[u8]) -> Status
     if text.len() > BYTE_LIMIT {
         return Status::TooLong;
     }
-    match opened(alloc, text) {
+    match opened(alloc, text, position) {
         Ok(session) => {
             core.put(session);
             Status::Done
@@ -82,7 +90,7 @@ fn place_of(fault: &StateFault) -> u32
 fn resumed(alloc: Global, text: &[u8]) -> Result<Box<Session>, StateFault>
     requires { length text.now ≤ byte_limit }
     ensures session { IfOk result (λ session. IsResumed (Some session.value) text.now) }
-    ensures fault { IfErr result (IsRefusedState text.now) }
+    ensures fault { IfErr result (IsRefusedPlaced text.now) }
 {
     let session = Session::resume(alloc, text)?;
     match Box::new(alloc, session) {
@@ -274,7 +282,9 @@ pub fn state(
     let Some(session) = core.take(alloc) else {
         return Status::Closed;
     };
-    let told = whole_text(alloc, session.core(), None, form);
+    let mut session = session;
+    let position = session.onward();
+    let told = whole_text(alloc, session.core(), position, form);
     core.put(session);
     match told {
         Ok(text) => {
@@ -337,11 +347,13 @@ pub fn blank_digest(alloc: Global, core: &mut Handle, out: &mut [u8], used: &mut
     let Some(session) = core.take(alloc) else {
         return Status::Closed;
     };
+    let mut session = session;
     if out.len() < DIGEST {
         core.put(session);
         return Status::NoRoom;
     }
-    let told = state_digest(alloc, session.core(), None, StateForm::Blank);
+    let position = session.onward();
+    let told = state_digest(alloc, session.core(), position, StateForm::Blank);
     core.put(session);
     match told {
         Ok(told) => {

@@ -1,5 +1,6 @@
 use Rattle.std.proofs.Common.{◌≡◌, ◌≤◌, [], vec_capacity, arith}
 use Rattle.kc_types.specs.Limits.{call_limit}
+use Rattle.kc_live.proofs.Heads.{digest_is, next_may}
 use Rattle.kc_live.proofs.Logs.{served_next}
 use Rattle.kc_live.proofs.journal.Journal.turn.Goals as goal
 
@@ -11,4 +12,5 @@ invariant_of-self c =
       rw c.replace.ensures.after room,
       omega arith,
       c.restart.ensures,
+      rw (c.moved.ensures, c.replace-header.ensures.value, c.position_after-position.ensures.value, ← c.position_after-position.ensures.same, ← c.self.view_is) (next_may c.self.inside.header _ c.self.invariant.4 (digest_is _)),
     )
