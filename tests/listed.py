@@ -85,9 +85,9 @@ def calls_of(tree):
     return {name: len(words.split()) for _, words, name in spelled(tree)}
 
 
-def forms_in(text, head):
-    """The calls that tables below a heading spell with their words: `hread f off len`."""
-    forms = [form.split(" ") for _, cells in rows_of(section(text, head)) for form in QUOTED.findall(cells[0])]
+def forms_in(text):
+    """The calls that tables spell with their words: `hread f off len`."""
+    forms = [form.split(" ") for _, cells in rows_of(text) for form in QUOTED.findall(cells[0])]
     return {f"{name} {len(words)}" for name, *words in forms if name.isalpha()}
 
 
@@ -102,8 +102,10 @@ def check_calls(tree):
     variants = re.findall(r"^    (\w+)(?:,| \{)", fields, re.M)
     yield "Spelling.antt: each call of the type", differing([variant for variant, _, _ in spelled(tree)], variants)
     rules, texts = tree.text("docs/RULES.md"), tree.text("docs/TEXTS.md")
-    yield "docs/RULES.md: each call with its words", differing(forms_in(rules, "Calls"), counted)
-    yield "docs/TEXTS.md: each call with its words", differing(forms_in(texts, "Trace"), counted)
+    yield "docs/RULES.md: each call with its words", differing(forms_in(section(rules, "Calls")), counted)
+    # (the table before it is that of a head)
+    forms = forms_in(section(texts, "Trace").partition("| line | arguments |")[2])
+    yield "docs/TEXTS.md: each call with its words", differing(forms, counted)
     conditions = rows_of(rules.rpartition("| call | its conditions")[2])
     yield "docs/RULES.md: the conditions of each call", differing(first_names(conditions), calls)
     lines = rows_of(texts.partition("| call | its lines")[2].partition("\n\n")[0])
@@ -164,15 +166,18 @@ def check_faults(tree):
     for document, head, meant in heads:
         rows = [QUOTED.findall(cells[0]) for _, cells in rows_of(section(tree.text(f"docs/{document}.md"), head))]
         names = {name.removeprefix("kcore: ") for row in rows for name in row}
-        # The first fault of a configuration is named in full, the others perhaps by their last words.
-        names |= {f"configuration refused: {name}" for name in names}
+        # The first fault of a row is named in full, the others perhaps by their last words.
+        begun = [(row[0].removeprefix("kcore: ").rpartition(": ")[0], row[1:]) for row in rows if row]
+        names |= {f"{first}: {name}" for first, more in begun if first for name in more}
         found = {fault for fault in meant if any(name.startswith(fault) for name in names)}
         yield f"docs/{document}.md: each fault", differing(found, meant)
         first = {row[0].removeprefix("kcore: ") for row in rows if row and row[0] != "kcore:"}
         unknown = {name for name in first if not name.startswith(tuple(faults))}
         yield f"docs/{document}.md: only faults of the program", differing(unknown, ())
     lines = section_of_page(plain(tree.text("docs/kcore.1")), "FAULTS")
-    lines += "".join(f"\nconfiguration refused: {name}" for name in re.findall(r"\((.*)\)", lines)[0].split(", "))
+    # What may be after a colon comes on the next line.
+    for first, more in re.findall(r"\n(.*): \w+\n\((.*)\)", lines):
+        lines += "".join(f"\n{first}: {name}" for name in more.split(", "))
     yield "docs/kcore.1: each fault", differing({fault for fault in shown if f"\n{fault}" in lines}, shown)
 
 
