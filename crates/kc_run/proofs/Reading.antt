@@ -268,17 +268,18 @@ no_calls : (config : Configuration) (expected : Expected) (volumes : List Traced
 no_calls config expected [] is = refl
 no_calls config expected (volume ∷ volumes) is = absurd is
 
--- the first trace is refused where the start leads
-pub refused_first : (order : CustodyOrder) (account : CustodyAccount) (m : State) (source : Option (List ℕ)) (fault : TraceFault) → HasTold order account m []
-    → IfSome source (λ text. IsRefusedThere account.core.config account.expected text fault) → IfSome source (λ text. IsRefusedThere m.config account.first text fault)
-refused_first order account m source fault told is =
-    subst (λ (expected : Expected). IfSome source (λ text. IsRefusedThere m.config expected text fault)) (none_last m.config account.first told.volumes told.traced) (refused_last order account m [] source fault told is)
-
 pub not_full : (order : CustodyOrder) (account : CustodyAccount) (m : State) → HasTold order account m [] → IsFull account → ⊥
 not_full order account m told full =
     let line = told.kept.line in
     let none = no_calls m.config account.first told.volumes told.traced in
     omega (arith, line, none, full)
+
+-- the first trace is refused where the start leads
+pub refused_first : (order : CustodyOrder) (account : CustodyAccount) (m : State) (had has : Option (List ℕ)) (fault : TraceFault) → HasTold order account m []
+    → (IfSome had (λ text. IsRefusedThere account.core.config account.expected text fault) × IsAtEnd has) ⊎ ((fault ≡ TooManyCalls) × IsFull account) → IfSome had (λ text. IsRefusedThere m.config account.first text fault) × IsAtEnd has
+refused_first order account m had has fault told (inl is) =
+    (subst (λ (expected : Expected). IfSome had (λ text. IsRefusedThere m.config expected text fault)) (none_last m.config account.first told.volumes told.traced) (refused_last order account m [] had fault told is.0), is.1)
+refused_first order account m had has fault told (inr full) = absurd (not_full order account m told full.1)
 
 -- what an account has to be to be read into, and to be given
 pub some_told : (order : CustodyOrder) (account : CustodyAccount) (m : State) (sources : List (Option (List ℕ))) → HasTold order account m sources → (o : CustodyOrder) × (n : State) × (held : List (Option (List ℕ))) × HasTold o account n held

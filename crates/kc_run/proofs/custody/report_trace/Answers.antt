@@ -1,6 +1,6 @@
 use Rattle.std.proofs.Common.{rules, ◌≡◌, [], inl, inr, Err, refl, ap}
 use Rattle.kc_faults.specs.declared.fault.TextFault.TheVariants as texts
-use Rattle.kc_run.proofs.Reading.{not_full, refused_first, some_told}
+use Rattle.kc_run.proofs.Reading.{refused_first, some_told}
 use Rattle.kc_run.proofs.Reports.{trace_given, trace_failed}
 use Rattle.kc_run.proofs.custody.report_trace.Goals as goal
 
@@ -20,8 +20,5 @@ returns-in-Ok g c = λ order m start held begun.
 pub returns-in-Err : goal.returns-in-Err
 returns-in-Err g c = λ order m start held begun.
     trace_failed order c.args.account m start _ c.in-Err.fault begun refl (λ same. c.in-Err.ensures.read (ap Err same)) (λ bad. let e = c.in-Err.ensures.source bad in let same : c.in-Err.fault ≡ texts.Read = cc in same)
-    (λ said same. elim (c.in-Err.ensures.trace said (ap Err same)) [
-      | inl is ↦ (refused_first order c.args.account m _ said begun.told is.0, is.1)
-      | inr full ↦ absurd (not_full order c.args.account m begun.told full.1)
-    ])
+    (λ said same. refused_first order c.args.account m _ _ said begun.told (c.in-Err.ensures.trace said (ap Err same)))
     c.in-Err.ensures.fault (λ same. c.in-Err.ensures.started (ap Err same)) c.requires.out refl
