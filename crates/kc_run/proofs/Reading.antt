@@ -275,8 +275,8 @@ not_full order account m told full =
     omega (arith, line, none, full)
 
 -- the first trace is refused where the start leads
-pub refused_first : (order : CustodyOrder) (account : CustodyAccount) (m : State) (had has : Option (List ℕ)) (fault : TraceFault) → HasTold order account m []
-    → (IfSome had (λ text. IsRefusedThere account.core.config account.expected text fault) × IsAtEnd has) ⊎ ((fault ≡ TooManyCalls) × IsFull account) → IfSome had (λ text. IsRefusedThere m.config account.first text fault) × IsAtEnd has
+pub refused_first : {Unread : Type 0} (order : CustodyOrder) (account : CustodyAccount) (m : State) (had has : Option (List ℕ)) (fault : TraceFault) → HasTold order account m []
+    → (IfSome had (λ text. IsRefusedThere account.core.config account.expected text fault) × IsAtEnd has) ⊎ ((fault ≡ TooManyCalls) × IsFull account × Unread) → IfSome had (λ text. IsRefusedThere m.config account.first text fault) × IsAtEnd has
 refused_first order account m had has fault told (inl is) =
     (subst (λ (expected : Expected). IfSome had (λ text. IsRefusedThere m.config expected text fault)) (none_last m.config account.first told.volumes told.traced) (refused_last order account m [] had fault told is.0), is.1)
 refused_first order account m had has fault told (inr full) = absurd (not_full order account m told full.1)

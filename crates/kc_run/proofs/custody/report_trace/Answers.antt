@@ -1,4 +1,4 @@
-use Rattle.std.proofs.Common.{rules, ◌≡◌, [], inl, inr, Err, refl, ap}
+use Rattle.std.proofs.Common.{rules, ◌≡◌, [], Err, refl, ap}
 use Rattle.kc_faults.specs.declared.fault.TextFault.TheVariants as texts
 use Rattle.kc_run.proofs.Reading.{refused_first, some_told}
 use Rattle.kc_run.proofs.Reports.{trace_given, trace_failed}
