@@ -15,12 +15,10 @@ use Rattle.kc_dumping.proofs.Drawn.{sound-drawn}
 use Rattle.kc_trace.specs.declared.header.Header.{Header}
 use Rattle.kc_trace.specs.declared.expected.Expected.{Expected}
 use Rattle.kc_trace.specs.Trace.{IsTraceUnder}
-use Rattle.kc_trace.specs.Expected.{MayHave, IsHeaderFault, position_after}
+use Rattle.kc_trace.specs.Expected.{MayHave, IsHeaderFault, IsRefusedThere, position_after}
 use Rattle.kc_trace.specs.declared.expected.HeaderFault.{HeaderFault}
 use Rattle.kc_trace.specs.declared.fault.TraceFault.TheVariants.{Misplaced}
-use Rattle.kc_faults.specs.declared.origin.Origin.{Origin}
-use Rattle.kc_faults.specs.Origins.{BeginsIn, IsRefusedFrom}
-use Rattle.kc_cli.proofs.Placed.{misplaced}
+use Rattle.kc_faults.proofs.Placed.{misplaced_there}
 use Rattle.kc_cli.specs.declared.order.ReplayForm.{ReplayForm}
 use Rattle.kc_cli.specs.declared.order.ReplayForm.TheVariants as forms
 use Rattle.kc_trace.specs.declared.header.Header.TheVariants.{One, Two, Three}
@@ -105,11 +103,11 @@ left_config m core a b calls given from to fed =
     ap (λ (n : State). n.config) left ∙ config-after m calls
 
 -- the trace was read, and may not have its header
-pub misfed : (origin : Origin) (source : Option (List ℕ)) (form : ReplayForm) (placed : Bool) (header : Header) (expected : Expected) (first : Option (List ℕ)) (m : State) (a b : Replaying) (kept : List Call) (given : List Reply) (digest : Option (List ℕ)) (core : State) (wrong : HeaderFault) → a.state ≡ Some m → b.state ≡ Some core
-    → Came form placed header first a b kept given digest → IfSome source (λ text. BeginsIn origin text m expected) → IsHeaderFault core.config expected header wrong → IfSome first (λ text. IsRefusedFrom origin source text (Misplaced wrong))
-misfed origin source form placed header expected None m a b kept given digest core wrong from to h begins fault = tt
-misfed origin source form placed header expected (Some text) m a b kept given digest core wrong from to h begins fault =
-    misplaced origin source (Some text) m expected header h.0 wrong begins h.1 (subst (λ (config : Configuration). IsHeaderFault config expected header wrong) (left_config m core a b h.0 given from to h.2) fault)
+pub misfed : (form : ReplayForm) (placed : Bool) (header : Header) (expected : Expected) (first : Option (List ℕ)) (m : State) (a b : Replaying) (kept : List Call) (given : List Reply) (digest : Option (List ℕ)) (core : State) (wrong : HeaderFault) → a.state ≡ Some m → b.state ≡ Some core
+    → Came form placed header first a b kept given digest → IsHeaderFault core.config expected header wrong → IfSome first (λ text. IsRefusedThere m.config expected text (Misplaced wrong))
+misfed form placed header expected None m a b kept given digest core wrong from to h fault = tt
+misfed form placed header expected (Some text) m a b kept given digest core wrong from to h fault =
+    misplaced_there m.config expected header (Some text) h.0 wrong h.1 (subst (λ (config : Configuration). IsHeaderFault config expected header wrong) (left_config m core a b h.0 given from to h.2) fault)
 
 -- the replay is of a trace that may have the header which was read
 pub replayed : (form : ReplayForm) (placed : Bool) (header : Header) (expected : Expected) (first : Option (List ℕ)) (start : State) (a b : Replaying) (kept : List Call) (given : List Reply) (digest : Option (List ℕ)) (core : State) → IsLawful start → a.state ≡ Some start → b.state ≡ Some core

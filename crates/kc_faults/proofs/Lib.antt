@@ -1,2 +1,3 @@
 pub mod Faulted
+pub mod Placed
 pub mod Told

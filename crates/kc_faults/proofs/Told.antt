@@ -4,8 +4,7 @@ use Rattle.std.specs.Prelude.{IfErr, IfSome, is_err, OnErr}
 use Rattle.std.specs.Io.KnownBytes.{IsAtEnd}
 use Rattle.kc_config_text.specs.declared.config_text.ConfigTextFault.{ConfigTextFault}
 use Rattle.kc_trace.specs.declared.fault.TraceFault.{TraceFault}
-use Rattle.kc_trace.specs.declared.fault.TraceFault.TheVariants.{NoHeader, BadLine, NoNewline, TooManyCalls, Misplaced, Memory}
-use Rattle.kc_trace.specs.Trace.{IsRefused}
+use Rattle.kc_trace.specs.declared.fault.TraceFault.TheVariants.{Misplaced}
 use Rattle.kc_trace.specs.declared.expected.Expected.{Expected}
 use Rattle.kc_trace.specs.declared.expected.HeaderFault.{HeaderFault}
 use Rattle.kc_trace.specs.declared.expected.Expected.TheVariants.{First}
@@ -19,7 +18,8 @@ use Rattle.kc_state_text.specs.Refused.{IsRefusedPlaced}
 use Rattle.kc_faults.specs.declared.origin.Origin.{Origin}
 use Rattle.kc_faults.specs.declared.origin.Origin.TheVariants as origins
 use Rattle.kc_trace.specs.Expected.{IsRefusedThere}
-use Rattle.kc_faults.specs.Origins.{BeginsIn, IsBegun, IsRefusedFrom}
+use Rattle.kc_faults.specs.Origins.{BeginsIn, IsBegun}
+use Rattle.kc_faults.proofs.Placed.{known_refused_from}
 use Rattle.kc_faults.specs.Outcomes.{IsStartFault, IsTold, TellsSources, TellsTexts, TellsReplay, TellsSink}
 use Rattle.kc_texts.specs.Ends.{Seen}
 use Rattle.kc_faults.specs.declared.fault.TextFault.{TextFault}
@@ -108,52 +108,24 @@ texts_start origin start trace unread f config state fault none = record {
   told = fault.reading.told;
 }
 
--- a text that is no trace is none that may go on there
-pub refused_from : (origin : Origin) (start : Option (List ℕ)) (text : List ℕ) (fault : TraceFault) → IsRefused text fault → IsRefusedFrom origin start text fault
-refused_from origin start text NoHeader h = h
-refused_from origin start text (BadLine n) h = h
-refused_from origin start text NoNewline h = h
-refused_from origin start text TooManyCalls h = h
-refused_from origin start text (Misplaced wrong) h = absurd h
-refused_from origin start text Memory h = h
-
-pub known_refused : (origin : Origin) (start trace : Option (List ℕ)) (fault : TraceFault) → IfSome trace (λ text. IsRefused text fault) → IfSome trace (λ text. IsRefusedFrom origin start text fault)
-known_refused origin start None fault h = tt
-known_refused origin start (Some text) fault h = refused_from origin start text fault h
-
--- a text that is refused where a start leads is refused from it
-refused_where : (origin : Origin) (start : Option (List ℕ)) (m : State) (expected : Expected) (text : List ℕ) (fault : TraceFault) → IfSome start (λ first. BeginsIn origin first m expected) → IsRefusedThere m.config expected text fault → IsRefusedFrom origin start text fault
-refused_where origin start m expected text NoHeader begins is = is
-refused_where origin start m expected text (BadLine n) begins is = is
-refused_where origin start m expected text NoNewline begins is = is
-refused_where origin start m expected text TooManyCalls begins is = is
-refused_where origin None m expected text (Misplaced wrong) begins is = tt
-refused_where origin (Some first) m expected text (Misplaced wrong) begins is = (m, expected, begins, is)
-refused_where origin start m expected text Memory begins is = is
-
-pub known_refused_where : (origin : Origin) (start : Option (List ℕ)) (m : State) (expected : Expected) (trace : Option (List ℕ)) (fault : TraceFault) → IfSome start (λ first. BeginsIn origin first m expected) → IfSome trace (λ text. IsRefusedThere m.config expected text fault)
-    → IfSome trace (λ text. IsRefusedFrom origin start text fault)
-known_refused_where origin start m expected None fault begins is = tt
-known_refused_where origin start m expected (Some text) fault begins is = refused_where origin start m expected text fault begins is
-
 -- the trace was refused, after a start
-pub texts_trace : {A : Type 0} (origin : Origin) (start trace : Seen) (unread : Type 0) (m : State) (expected : Expected) (f : TextFault) → IfSome start.had (λ text. BeginsIn origin text m expected) → ((said : TraceFault) → f ≡ texts.Trace said → IfSome trace.had (λ text. IsRefusedFrom origin start.had text said) × IsAtEnd trace.has)
+pub texts_trace : {A : Type 0} (origin : Origin) (start trace : Seen) (unread : Type 0) (m : State) (expected : Expected) (f : TextFault) → IfSome start.had (λ text. BeginsIn origin text m expected) → ((said : TraceFault) → f ≡ texts.Trace said → IfSome trace.had (λ text. IsRefusedThere m.config expected text said) × IsAtEnd trace.has)
     → ((said : ConfigTextFault) → f ≢ texts.Config said) → ((said : StateFault) → f ≢ texts.State said) → IsTold f → TellsTexts {A = A} origin start trace unread (Err f)
 texts_trace origin start trace unread m expected f known refused config state told = record {
   config_fault = λ said e. absurd (config said (let same : f ≡ texts.Config said = cc in same));
   state_fault = λ said e. absurd (state said (let same : f ≡ texts.State said = cc in same));
-  trace_fault = λ said e. refused said (let same : f ≡ texts.Trace said = cc in same);
+  trace_fault = λ said e. (let is = refused said (let same : f ≡ texts.Trace said = cc in same) in (known_refused_from origin start.had m expected trace.had said known is.0, is.1));
   after_start = inr (begun_is origin start.had m expected known);
   begun = λ said e. begun_is origin start.had m expected known;
   told = told;
 }
 
 -- all was read, and the trace's header may not be there
-pub texts_misplaced : {A : Type 0} (origin : Origin) (start trace : Seen) (unread : Type 0) (m : State) (expected : Expected) (wrong : HeaderFault) → IfSome start.had (λ text. BeginsIn origin text m expected) → IfSome trace.had (λ text. IsRefusedFrom origin start.had text (Misplaced wrong)) → IsAtEnd trace.has
+pub texts_misplaced : {A : Type 0} (origin : Origin) (start trace : Seen) (unread : Type 0) (m : State) (expected : Expected) (wrong : HeaderFault) → IfSome start.had (λ text. BeginsIn origin text m expected) → IfSome trace.had (λ text. IsRefusedThere m.config expected text (Misplaced wrong)) → IsAtEnd trace.has
     → TellsTexts {A = A} origin start trace unread (Err (texts.Trace (Misplaced wrong)))
 texts_misplaced origin start trace unread m expected wrong known refused ended =
     texts_trace origin start trace unread m expected (texts.Trace (Misplaced wrong)) known
-    (λ said same. let is : Misplaced wrong ≡ said = cc in (subst (λ (fault : TraceFault). IfSome trace.had (λ text. IsRefusedFrom origin start.had text fault)) is refused, ended))
+    (λ said same. let is : Misplaced wrong ≡ said = cc in (subst (λ (fault : TraceFault). IfSome trace.had (λ text. IsRefusedThere m.config expected text fault)) is refused, ended))
     (λ said e. cc) (λ said e. cc) (λ e. cc, λ e. cc, λ e. cc, λ d e. cc)
 
 pub on_err : {T E P : Type 0} (r : Result T E) → is_err r ≡ true → OnErr r P → P

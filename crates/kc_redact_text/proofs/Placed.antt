@@ -10,7 +10,7 @@ use Rattle.kc_trace.specs.declared.header.Header.{Header}
 use Rattle.kc_trace.specs.declared.expected.Expected.{Expected}
 use Rattle.kc_trace.specs.declared.expected.HeaderFault.{HeaderFault}
 use Rattle.kc_trace.specs.declared.fault.TraceFault.{TraceFault}
-use Rattle.kc_trace.specs.declared.fault.TraceFault.TheVariants.{NoHeader, BadLine, NoNewline, TooManyCalls, Misplaced, Memory}
+use Rattle.kc_trace.specs.declared.fault.TraceFault.TheVariants.{Misplaced, Memory}
 use Rattle.kc_trace.specs.Trace.{IsRefused}
 use Rattle.kc_trace.specs.Expected.{IsHeaderFault, IsRefusedThere}
 use Rattle.kc_texts.specs.Ends.{Seen}
@@ -19,7 +19,8 @@ use Rattle.kc_faults.specs.Origins.{BeginsIn}
 use Rattle.kc_faults.specs.Outcomes.{IsTold, TellsTexts}
 use Rattle.kc_faults.specs.declared.fault.TextFault.{TextFault}
 use Rattle.kc_faults.specs.declared.fault.TextFault.TheVariants as texts
-use Rattle.kc_faults.proofs.Told.{texts_ok, texts_trace, known_refused_where}
+use Rattle.kc_faults.proofs.Placed.{refused_there}
+use Rattle.kc_faults.proofs.Told.{texts_ok, texts_trace}
 use Rattle.kc_redact_text.specs.Made.{config_of}
 use Rattle.kc_redact_text.specs.Reading.{IsHeaderAndCalls, IsReadingFault}
 
@@ -27,14 +28,6 @@ some_is : {X : Type 0} (x y : X) → Some x ≡ Some y → x ≡ y
 some_is x y e = cc
 
 -- ---- before and after the calls
-
-refused_there : (config : Configuration) (expected : Expected) (text : List ℕ) (fault : TraceFault) → IsRefused text fault → IsRefusedThere config expected text fault
-refused_there config expected text NoHeader is = is
-refused_there config expected text (BadLine n) is = is
-refused_there config expected text NoNewline is = is
-refused_there config expected text TooManyCalls is = is
-refused_there config expected text (Misplaced wrong) is = absurd is
-refused_there config expected text Memory is = is
 
 -- a text that is no trace is none that may go on there
 pub refused : (core : Option State) (source : Option (List ℕ)) (expected : Expected) (fault : TraceFault) → IfSome source (λ text. IsRefused text fault) → IfSome core (λ m. IfSome source (λ text. IsRefusedThere m.config expected text fault))
@@ -76,5 +69,5 @@ texts_read origin start trace unread m expected (Ok x) begins refused fault = te
 texts_read {A} origin start trace unread m expected (Err f) begins refused fault =
     let of_trace = is_of_trace f fault in
     texts_trace origin start trace unread m expected f begins
-    (λ said same. let is = refused said (let e : ◌≡◌ {A = Result A TextFault} (Err f) (Err (texts.Trace said)) = cc in e) in (known_refused_where origin start.had m expected trace.had said begins is.0, is.1))
+    (λ said same. refused said (let e : ◌≡◌ {A = Result A TextFault} (Err f) (Err (texts.Trace said)) = cc in e))
     of_trace.0 of_trace.1 (is_told f fault)

@@ -15,7 +15,7 @@ use Rattle.kc_faults.specs.declared.fault.TextFault.TheVariants as texts
 use Rattle.kc_faults.specs.declared.origin.Origin.{Origin}
 use Rattle.kc_faults.specs.Origins.{BeginsIn}
 use Rattle.kc_faults.specs.Outcomes.{TellsSources, TellsTexts, TellsSink}
-use Rattle.kc_faults.proofs.Told.{IsLastFault, texts_ok, texts_after, texts_trace, known_refused_where, begun_is}
+use Rattle.kc_faults.proofs.Told.{IsLastFault, texts_ok, texts_after, texts_trace, begun_is}
 use Rattle.kc_cli.specs.declared.custody.CustodyAccount.{CustodyAccount}
 use Rattle.kc_cli.specs.declared.custody.CustodyOrder.{CustodyOrder}
 use Rattle.kc_cli.specs.Answers.{AreAllAnswered}
@@ -243,8 +243,7 @@ trace_failed order old m start ends f begun opened read bad refused is started m
       | inr (inr never) ↦ absurd never
     ];
   };
-  told = texts_trace order.origin start ends.input ends.unread m old.first f begun.begins
-      (λ said same. (let it = refused said same in (known_refused_where order.origin start.had m old.first ends.input.had said begun.begins it.0, it.1))) is.config is.state is.told;
+  told = texts_trace order.origin start ends.input ends.unread m old.first f begun.begins refused is.config is.state is.told;
   custody = custody_failed order.scope.vm order.origin start.had ends.unread f is started;
   sink = sink_kept _ _ _ f mark untouched is.write;
 }

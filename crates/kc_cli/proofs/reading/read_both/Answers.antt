@@ -4,8 +4,8 @@ use Rattle.kc_model.specs.Boot.{boot}
 use Rattle.kc_trace.specs.declared.expected.Expected.TheVariants.{First}
 use Rattle.kc_faults.specs.declared.origin.Origin.TheVariants as origins
 use Rattle.kc_faults.proofs.Faulted.{trace_said, stream_config, stream_state, stream_told}
-use Rattle.kc_faults.proofs.Told.{boots, texts_ok, texts_start, texts_trace, texts_misplaced, known_refused}
-use Rattle.kc_cli.proofs.Placed.{is_there, misplaced}
+use Rattle.kc_faults.proofs.Told.{boots, texts_ok, texts_start, texts_trace, texts_misplaced}
+use Rattle.kc_faults.proofs.Placed.{is_there, misplaced_there, known_refused_there}
 use Rattle.kc_cli.proofs.reading.read_both.Goals as goal
 
 pub returns-in_err-config-clause-texts : goal.returns-in_err-config-clause-texts
@@ -17,12 +17,12 @@ pub returns-in_err-read-clause-texts : goal.returns-in_err-read-clause-texts
 returns-in_err-read-clause-texts g c =
     let made = err_from_is_err_and c.from_residual-in_err-read.result c.from_residual-in_err-read.ensures.1 in
     let fault = c.in_err-read.field-0.0 in
-    rw (made.1, made.2) (texts_trace _ _ _ _ _ First _ (boots _ c.in_ok-config.config c.in_ok-config.ensures.ok) (λ said same. let is = c.in_err-read.ensures.trace said (ap Err (trace_said fault said same)) in (known_refused origins.Boot _ _ said is.0, is.1)) (stream_config fault) (stream_state fault) (stream_told fault (λ e. c.in_err-read.ensures.told (ap Err e))))
+    rw (made.1, made.2) (texts_trace _ _ _ _ _ First _ (boots _ c.in_ok-config.config c.in_ok-config.ensures.ok) (λ said same. let is = c.in_err-read.ensures.trace said (ap Err (trace_said fault said same)) in (known_refused_there _ _ _ said is.0, is.1)) (stream_config fault) (stream_state fault) (stream_told fault (λ e. c.in_err-read.ensures.told (ap Err e))))
 
 pub returns-in-Some-clause-texts : goal.returns-in-Some-clause-texts
 returns-in-Some-clause-texts g c =
     let begins = boots _ c.in_ok-config.config c.in_ok-config.ensures.ok in
-    texts_misplaced _ _ _ _ _ First c.in-Some.wrong begins (misplaced origins.Boot _ _ (boot c.in_ok-config.config) First c.in_ok-read.read.header c.in_ok-read.read.calls.items c.in-Some.wrong begins c.in_ok-read.ensures.ok c.in-Some.ensures) c.in_ok-read.ensures.ended
+    texts_misplaced _ _ _ _ _ First c.in-Some.wrong begins (misplaced_there _ First c.in_ok-read.read.header _ c.in_ok-read.read.calls.items c.in-Some.wrong c.in_ok-read.ensures.ok c.in-Some.ensures) c.in_ok-read.ensures.ended
 
 pub returns-clause-texts : goal.returns-clause-texts
 returns-clause-texts g c = texts_ok _ _ _ _ _ First _ (boots _ c.in_ok-config.config c.in_ok-config.ensures.ok)

@@ -1,7 +1,8 @@
 use Rattle.std.proofs.Common.{Err, ap, refl, arith}
 use Rattle.std.proofs.lemmas.Result.{err_from_is_err_and}
 use Rattle.kc_replay.specs.Replayer.{Replaying}
-use Rattle.kc_faults.proofs.Told.{texts_start, texts_trace, texts_misplaced, known_refused, replay_ok, replay_trace}
+use Rattle.kc_faults.proofs.Told.{texts_start, texts_trace, texts_misplaced, replay_ok, replay_trace}
+use Rattle.kc_faults.proofs.Placed.{known_refused_there}
 use Rattle.kc_cli.proofs.Fed.{replayed, misfed}
 use Rattle.kc_cli.proofs.Replayed.{are_replayed, answered_so}
 use Rattle.kc_cli.proofs.replaying.replay_texts.Goals as goal
@@ -14,14 +15,14 @@ returns-in_err-core-clause-texts g c =
 pub returns-in-Err-clause-texts : goal.returns-in-Err-clause-texts
 returns-in-Err-clause-texts g c =
     let is = c.in-Err.ensures.fault in
-    texts_trace c.args.order.origin _ _ _ c.in_ok-core.field-0.core c.in_ok-core.field-0.expected c.in-Err.fault c.in_ok-core.ensures.ok (λ said same. let is = c.in-Err.ensures.trace said (ap Err same) in (known_refused _ _ _ said is.0, is.1)) is.config is.state is.told
+    texts_trace c.args.order.origin _ _ _ c.in_ok-core.field-0.core c.in_ok-core.field-0.expected c.in-Err.fault c.in_ok-core.ensures.ok (λ said same. let is = c.in-Err.ensures.trace said (ap Err same) in (known_refused_there _ _ _ said is.0, is.1)) is.config is.state is.told
 
 pub returns-in-Some-clause-texts : goal.returns-in-Some-clause-texts
 returns-in-Some-clause-texts g c =
     let start = c.in_ok-core.field-0 in
     let fed = c.in-Ok-feed_source.field-0 in
     texts_misplaced _ _ _ _ start.core start.expected c.in-Some.wrong c.in_ok-core.ensures.ok
-    (misfed _ _ _ _ fed.header start.expected _ start.core c.in-Ok.replayer c.feed_source.new.replayer fed.calls.items fed.replies.items fed.digest c.in-Ok-finish.core c.in-Some.wrong (ap (λ (r : Replaying). r.state) c.in-Ok.ensures.start) c.in-Ok-finish.ensures.core c.in-Ok-feed_source.ensures.ok c.in_ok-core.ensures.ok (rw c.config.ensures.value at c.in-Some.ensures))
+    (misfed _ _ fed.header start.expected _ start.core c.in-Ok.replayer c.feed_source.new.replayer fed.calls.items fed.replies.items fed.digest c.in-Ok-finish.core c.in-Some.wrong (ap (λ (r : Replaying). r.state) c.in-Ok.ensures.start) c.in-Ok-finish.ensures.core c.in-Ok-feed_source.ensures.ok (rw c.config.ensures.value at c.in-Some.ensures))
     c.in-Ok-feed_source.ensures.ended
 
 pub returns-in-Some-clause-replay : goal.returns-in-Some-clause-replay

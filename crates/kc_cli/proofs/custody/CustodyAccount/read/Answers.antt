@@ -10,7 +10,8 @@ use Rattle.kc_trace.specs.Expected.{MayHave, IsHeaderFault, IsRefusedThere, expe
 use Rattle.kc_faults.specs.declared.fault.TextFault.TheVariants as texts
 use Rattle.kc_cli.specs.Traced.{Traced}
 use Rattle.kc_cli.specs.Custody.{joined}
-use Rattle.kc_cli.proofs.Placed.{misplaced_there, known_refused_there, next_is}
+use Rattle.kc_faults.proofs.Placed.{misplaced_there, known_refused_there}
+use Rattle.kc_cli.proofs.Placed.{next_is}
 use Rattle.kc_cli.proofs.Volumes.{read_more}
 use Rattle.kc_cli.proofs.custody.CustodyAccount.read.Goals as goal
 
