@@ -87,7 +87,7 @@ class Chain:
         """What the first line says of what was read; of several volumes, their own lines say it."""
         trace = {"trace": self.traces[0].digest()} if len(self.traces) == 1 else {}
         config = {"config": hashlib.sha256(self.path.read_bytes()).hexdigest(), "state": None}
-        return trace | (config if self.state is None else {"config": None, "state": digest(blanked(self.state))})
+        return trace | (config if self.state is None else {"config": None, "state": digest(heads.placed(blanked(self.state), self.expected))})
 
     def report_differs(self, rng, vm):
         """What differs in one form of custody, or None."""
@@ -115,7 +115,7 @@ class Chain:
         """The foot of a picture of several volumes."""
         foot = f"kcore {VERSION}, {len(self.volumes)} volumes"
         if is_named:
-            kind, text = ("configuration", self.path.read_text()) if self.state is None else ("state", blanked(self.state))
+            kind, text = ("configuration", self.path.read_text()) if self.state is None else ("state", heads.placed(blanked(self.state), self.expected))
             foot += f", {kind} SHA-256 {digest(text)}"
         return foot + ", accesses unseen" * is_unseen
 

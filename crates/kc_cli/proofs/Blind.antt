@@ -26,6 +26,7 @@ use Rattle.kc_faults.specs.declared.origin.Origin.{Origin}
 use Rattle.kc_cli.specs.declared.account.CustodyForm.{CustodyForm}
 use Rattle.kc_cli.specs.declared.account.CustodyForm.TheVariants.{Changes, Summary, Picture, Html}
 use Rattle.kc_cli.specs.declared.account.Scope.{Scope}
+use Rattle.kc_trace.specs.declared.expected.Expected.{Expected}
 use Rattle.kc_cli.specs.Traced.{Traced, redacted_trace}
 use Rattle.kc_cli.specs.Custody.{joined, IsAccount, listed, entries_in, heading_of, IsMadeOf, IsMadeBlind}
 use Rattle.kc_cli.proofs.Digested.{entries_same, heading_same}
@@ -75,13 +76,13 @@ account_blank Summary vm heading m volumes count refused told text is given =
 account_blank Picture vm heading m volumes count refused told text is given = given
 account_blank Html vm heading m volumes count refused told text is given = given
 
-pub made_blind : (origin : Origin) (form : CustodyForm) (scope : Scope) (start : List ℕ) (m : State) (volumes : List Traced) (count refused : ℕ) (text : List ℕ) → IsLawful m
-    → IsMadeOf origin form scope start m volumes count refused text → IsMadeBlind origin form scope start m volumes count refused text
-made_blind origin form scope start m volumes count refused text is given other same =
+pub made_blind : (origin : Origin) (form : CustodyForm) (scope : Scope) (start : List ℕ) (m : State) (expected : Expected) (volumes : List Traced) (count refused : ℕ) (text : List ℕ) → IsLawful m
+    → IsMadeOf origin form scope start m expected volumes count refused text → IsMadeBlind origin form scope start m expected volumes count refused text
+made_blind origin form scope start m expected volumes count refused text is given other same =
     let entries = entries_same scope volumes in
-    let heading = heading_same scope origin start other m volumes is same in
+    let heading = heading_same scope origin start other m expected volumes is same in
     let blank : List VolumeEntry → Heading → List Note → Type 0 = λ entries heading told. IsAccount form scope.vm heading (blank_state m) (listed entries) count refused told text in
-    let now = account_blank form scope.vm (heading_of scope origin start m (entries_in scope volumes)) m (listed (entries_in scope volumes)) count refused (notes m (joined volumes)) text is given in
-    subst (λ (told : List Note). blank (entries_in scope (map redacted_trace volumes)) (heading_of scope origin other (blank_state m) (entries_in scope (map redacted_trace volumes))) told) (sym (notes_blank m volumes is))
+    let now = account_blank form scope.vm (heading_of scope origin start m expected (entries_in scope volumes)) m (listed (entries_in scope volumes)) count refused (notes m (joined volumes)) text is given in
+    subst (λ (told : List Note). blank (entries_in scope (map redacted_trace volumes)) (heading_of scope origin other (blank_state m) expected (entries_in scope (map redacted_trace volumes))) told) (sym (notes_blank m volumes is))
     (subst (λ (h : Heading). blank (entries_in scope (map redacted_trace volumes)) h (notes m (joined volumes))) (sym heading)
-    (subst (λ (e : List VolumeEntry). blank e (heading_of scope origin start m (entries_in scope volumes)) (notes m (joined volumes))) (sym entries) now))
+    (subst (λ (e : List VolumeEntry). blank e (heading_of scope origin start m expected (entries_in scope volumes)) (notes m (joined volumes))) (sym entries) now))

@@ -10,11 +10,13 @@ use Rattle.kc_model.specs.Custody.{first_line}
 use Rattle.kc_model.specs.Redaction.{blanked, redacted_call, redacted}
 use Rattle.kc_model.specs.Blanking.{blank_state}
 use Rattle.kc_model.proofs.Redaction.Blank.{audited_blank}
-use Rattle.kc_state_text.specs.StateText.{state_text}
+use Rattle.kc_state_text.specs.StateText.{placed_state_text}
 use Rattle.kc_trace.specs.Spelling.{text_of}
 use Rattle.kc_trace.specs.declared.custody_writer.StartDigest.TheVariants as starts
 use Rattle.kc_trace.specs.declared.custody_writer.Digests.{Digests}
 use Rattle.kc_trace.specs.declared.volume_writer.VolumeEntry.{VolumeEntry}
+use Rattle.kc_trace.specs.declared.expected.Expected.{Expected}
+use Rattle.kc_faults.specs.Origins.{position_at}
 use Rattle.kc_faults.specs.declared.origin.Origin.{Origin}
 use Rattle.kc_faults.specs.declared.origin.Origin.TheVariants as origins
 use Rattle.kc_cli.specs.declared.account.Named.{Named}
@@ -57,18 +59,18 @@ entries_same scope volumes = entries_from (names_trace scope.named) first_line v
 state_twice : (m : State) → IsLawful m → blank_state (blank_state m) ≡ blank_state m
 state_twice m is = (audited_blank m [] is).plainly.left
 
-digests_same : (named : Named) (origin : Origin) (start other : List ℕ) (m : State) (trace : Option (List ℕ)) → IsLawful m → (origin ≡ origins.Boot → other ≡ start)
-    → digests_of named origin other (blank_state m) trace ≡ digests_of named origin start m trace
-digests_same names.Nothing origin start other m trace is same = refl
-digests_same names.Trace origin start other m trace is same = refl
-digests_same names.Both origins.Boot start other m trace is same =
+digests_same : (named : Named) (origin : Origin) (start other : List ℕ) (m : State) (expected : Expected) (trace : Option (List ℕ)) → IsLawful m → (origin ≡ origins.Boot → other ≡ start)
+    → digests_of named origin other (blank_state m) expected trace ≡ digests_of named origin start m expected trace
+digests_same names.Nothing origin start other m expected trace is same = refl
+digests_same names.Trace origin start other m expected trace is same = refl
+digests_same names.Both origins.Boot start other m expected trace is same =
     ap (λ (text : List ℕ). Some (record { trace = trace; start = starts.Config (sha256 text) })) (same refl)
-digests_same names.Both origins.State start other m trace is same =
-    ap (λ (n : State). Some (record { trace = trace; start = starts.State (sha256 (state_text n)) })) (state_twice m is)
+digests_same names.Both origins.State start other m expected trace is same =
+    ap (λ (n : State). Some (record { trace = trace; start = starts.State (sha256 (placed_state_text (position_at expected) n)) })) (state_twice m is)
 
-pub heading_same : (scope : Scope) (origin : Origin) (start other : List ℕ) (m : State) (volumes : List Traced) → IsLawful m → (origin ≡ origins.Boot → other ≡ start)
-    → heading_of scope origin other (blank_state m) (entries_in scope (map redacted_trace volumes)) ≡ heading_of scope origin start m (entries_in scope volumes)
-heading_same scope origin start other m volumes is same =
-    ap (heading_of scope origin other (blank_state m)) (entries_same scope volumes)
+pub heading_same : (scope : Scope) (origin : Origin) (start other : List ℕ) (m : State) (expected : Expected) (volumes : List Traced) → IsLawful m → (origin ≡ origins.Boot → other ≡ start)
+    → heading_of scope origin other (blank_state m) expected (entries_in scope (map redacted_trace volumes)) ≡ heading_of scope origin start m expected (entries_in scope volumes)
+heading_same scope origin start other m expected volumes is same =
+    ap (heading_of scope origin other (blank_state m) expected) (entries_same scope volumes)
     ∙ ap (λ (digests : Option Digests). record { digests = digests; is_unseen = scope.is_unseen; volumes = length (listed (entries_in scope volumes)) })
-    (digests_same scope.named origin start other m (trace_digest (entries_in scope volumes)) is same)
+    (digests_same scope.named origin start other m expected (trace_digest (entries_in scope volumes)) is same)

@@ -174,18 +174,18 @@ pub record IsToldOf (account : CustodyAccount) (m : State) (calls : List Call) (
   pub ledger : told.ledger ≡ account.kept.ledger
 
 text_of : (order : CustodyOrder) (account : CustodyAccount) (m : State) (start : List ℕ) (sources : List (Option (List ℕ))) (texts : List (List ℕ)) (told : Told) (text : List ℕ) (h : HasTold order account m sources) → IsToldOf account m (joined h.volumes) told
-    → known sources ≡ Some texts → BeginsIn order.origin start m account.first → NamesStart (names_start order.scope.named) order.origin (Some start) m account.start → IsGivenOf order.scope.vm told text
+    → known sources ≡ Some texts → BeginsIn order.origin start m account.first → NamesStart (names_start order.scope.named) order.origin (Some start) m account.first account.start → IsGivenOf order.scope.vm told text
     → IsCustodyText order.origin order.form order.scope start texts text
 text_of order account m start sources texts told text h is all begins digest given =
     let same = known_are sources texts all in
     let calls = joined h.volumes in
     let entries = entries_in order.scope h.volumes in
     let heading = is.heading ∙ ap (λ (o : CustodyOrder). heading_by o.scope o.origin account.start account.entries.items) h.ordered
-    ∙ ap (heading_by order.scope order.origin account.start) h.entries ∙ headed order.scope order.origin start m account.start entries digest in
+    ∙ ap (heading_by order.scope order.origin account.start) h.entries ∙ headed order.scope order.origin start m account.first account.start entries digest in
     let total = ap (λ (denials : Denials). denials.total) is.denials in
     let spelled : IsGiven order.scope.vm told.subject.heading told.subject.config told.subject.volumes.items told.subject.answered.calls told.subject.answered.denials.total told.ledger text = given in
-    let made : IsMadeOf order.origin order.form order.scope start m h.volumes told.subject.answered.calls told.subject.answered.denials.total text =
-    account_given order.form order.scope.vm (heading_of order.scope order.origin start m entries) m (listed entries) told.subject.answered.calls told.subject.answered.denials.total (notes m calls) account.kept.ledger text h.kept.ledger
+    let made : IsMadeOf order.origin order.form order.scope start m account.first h.volumes told.subject.answered.calls told.subject.answered.denials.total text =
+    account_given order.form order.scope.vm (heading_of order.scope order.origin start m account.first entries) m (listed entries) told.subject.answered.calls told.subject.answered.denials.total (notes m calls) account.kept.ledger text h.kept.ledger
     (rw (is.config, heading, is.listed_are ∙ ap listed h.entries, is.ledger) at spelled) in
     record {
       first = m;
@@ -198,12 +198,12 @@ text_of order account m start sources texts told text h is all begins digest giv
       told = notes m calls;
       custody = is_told m calls told.subject.answered.calls told.subject.answered.denials.total h.lawful is.count (total ∙ h.kept.denied);
       account = made;
-      blind = made_blind order.origin order.form order.scope start m h.volumes told.subject.answered.calls told.subject.answered.denials.total text h.lawful made;
+      blind = made_blind order.origin order.form order.scope start m account.first h.volumes told.subject.answered.calls told.subject.answered.denials.total text h.lawful made;
     }
 
 -- what the sink took of it is the text of all, if they are known
 pub gives_custody : (order : CustodyOrder) (account : CustodyAccount) (m : State) (start : Option (List ℕ)) (sources : List (Option (List ℕ))) (told : Told) (old new : Option (List ℕ)) (h : HasTold order account m sources) → IsToldOf account m (joined h.volumes) told
-    → IfSome start (λ text. BeginsIn order.origin text m account.first) → NamesStart (names_start order.scope.named) order.origin start m account.start → GivesAccount account.order.scope.vm told old new → Writes (IsCustodyText order.origin order.form order.scope) start (known sources) old new
+    → IfSome start (λ text. BeginsIn order.origin text m account.first) → NamesStart (names_start order.scope.named) order.origin start m account.first account.start → GivesAccount account.order.scope.vm told old new → Writes (IsCustodyText order.origin order.form order.scope) start (known sources) old new
 gives_custody order account m None sources told old new h is begins digest given = tt
 gives_custody order account m (Some start) sources told old new h is begins digest given =
     by_texts (known sources) (λ texts all. text_of order account m start sources texts told given.0 h is all begins digest (subst (λ (o : CustodyOrder). IsGivenOf o.scope.vm told given.0) h.ordered given.1))
@@ -213,7 +213,7 @@ gives_custody order account m (Some start) sources told old new h is begins dige
     by_texts (Some texts) made = (given.0, made texts refl, given.2)
 
 pub begins_custody : (order : CustodyOrder) (account : CustodyAccount) (m : State) (start : Option (List ℕ)) (sources : List (Option (List ℕ))) (told : Told) (old new : Option (List ℕ)) (h : HasTold order account m sources) → IsToldOf account m (joined h.volumes) told
-    → IfSome start (λ text. BeginsIn order.origin text m account.first) → NamesStart (names_start order.scope.named) order.origin start m account.start → BeginsAccount account.order.scope.vm told old new → Begins (IsCustodyText order.origin order.form order.scope) start (known sources) old new
+    → IfSome start (λ text. BeginsIn order.origin text m account.first) → NamesStart (names_start order.scope.named) order.origin start m account.first account.start → BeginsAccount account.order.scope.vm told old new → Begins (IsCustodyText order.origin order.form order.scope) start (known sources) old new
 begins_custody order account m None sources told old new h is begins digest given = tt
 begins_custody order account m (Some start) sources told old new h is begins digest given =
     by_texts (known sources) (λ texts all. text_of order account m start sources texts told given.0 h is all begins digest (subst (λ (o : CustodyOrder). IsGivenOf o.scope.vm told given.0) h.ordered given.2))

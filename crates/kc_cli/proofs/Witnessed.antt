@@ -9,6 +9,7 @@ use Rattle.kc_model.specs.State.{State}
 use Rattle.sha2.specs.declared.Sha256.{Sha256}
 use Rattle.kc_redact.specs.Witness.{witnessed, HasSeen}
 use Rattle.kc_trace.specs.declared.header.Header.{Header}
+use Rattle.kc_trace.specs.declared.expected.Expected.{Expected}
 use Rattle.kc_cli.specs.Traced.{Traced, trace_named, digest_if, HasWitnessed, HasPlaced, IsDigested}
 use Rattle.kc_faults.specs.declared.origin.Origin.TheVariants as origins
 use Rattle.kc_cli.specs.Custody.{NamesStart}
@@ -57,12 +58,12 @@ none_last [] calls is = is
 none_last (call ∷ before) calls is = absurd cc
 
 -- a configuration that was read to its end is named by the digest of what was read
-pub read_named : (asked : Bool) (first now : Option (List ℕ)) (bytes : List ℕ) (m : State) (digest : Option (List ℕ)) → Consumes first now bytes → IsAtEnd now
-    → (is_some digest ≡ asked) × IfSome digest (λ d. d ≡ sha256 bytes) → NamesStart asked origins.Boot first m digest
-read_named asked None now bytes m None read end is = (is.0, tt)
-read_named asked None now bytes m (Some d) read end is = (is.0, tt)
-read_named asked (Some text) None bytes m digest read end is = absurd read
-read_named asked (Some text) (Some rest) bytes m None read end is = (is.0, tt)
-read_named asked (Some text) (Some rest) bytes m (Some d) read end is =
+pub read_named : (asked : Bool) (first now : Option (List ℕ)) (bytes : List ℕ) (m : State) (expected : Expected) (digest : Option (List ℕ)) → Consumes first now bytes → IsAtEnd now
+    → (is_some digest ≡ asked) × IfSome digest (λ d. d ≡ sha256 bytes) → NamesStart asked origins.Boot first m expected digest
+read_named asked None now bytes m expected None read end is = (is.0, tt)
+read_named asked None now bytes m expected (Some d) read end is = (is.0, tt)
+read_named asked (Some text) None bytes m expected digest read end is = absurd read
+read_named asked (Some text) (Some rest) bytes m expected None read end is = (is.0, tt)
+read_named asked (Some text) (Some rest) bytes m expected (Some d) read end is =
     let all : text ≡ bytes = read ∙ ap (λ (more : List ℕ). bytes ++ more) end ∙ append-nil bytes in
     (is.0, is.1 ∙ ap sha256 (sym all))

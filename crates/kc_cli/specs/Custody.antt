@@ -28,7 +28,7 @@ use Rattle.kc_remarks.specs.declared.remark.Remarks.{Remarks}
 use Rattle.kc_remarks.specs.Denials.{is_denial}
 use Rattle.kc_html.specs.Html.{html_text_of}
 use Rattle.kc_svg.specs.Foot.{HasFoot}
-use Rattle.kc_state_text.specs.StateText.{state_text}
+use Rattle.kc_state_text.specs.StateText.{placed_state_text}
 use Rattle.kc_custody.specs.Chosen.{chosen, NamesOnly}
 use Rattle.kc_trace.specs.declared.expected.Expected.{Expected}
 use Rattle.kc_trace.specs.Trace.{IsTraceUnder}
@@ -43,7 +43,7 @@ use Rattle.kc_faults.specs.declared.fault.TextFault.{TextFault}
 use Rattle.kc_faults.specs.declared.fault.TextFault.TheVariants as texts
 use Rattle.kc_faults.specs.declared.origin.Origin.{Origin}
 use Rattle.kc_faults.specs.declared.origin.Origin.TheVariants as origins
-use Rattle.kc_faults.specs.Origins.{BeginsIn}
+use Rattle.kc_faults.specs.Origins.{BeginsIn, position_at}
 use Rattle.kc_cli.specs.declared.account.CustodyForm.{CustodyForm}
 use Rattle.kc_cli.specs.declared.account.CustodyForm.TheVariants.{Changes, Summary, Picture, Html}
 use Rattle.kc_cli.specs.declared.account.Named.{Named}
@@ -109,14 +109,14 @@ abbrev pub names_start : Named → Bool
 names_start names.Both = true
 names_start _ = false
 
--- what the calls begin with is named by a digest, too: a configuration by that of its text, and a state by that of the state with the pages of active VMs zeroed
-abbrev pub start_digest : Origin → List ℕ → State → List ℕ
-start_digest origins.Boot text m = sha256 text
-start_digest origins.State text m = sha256 (state_text (blank_state m))
+-- what the calls begin with is named by a digest, too: a configuration by that of its text, and a state by that of the text of the state with the pages of active VMs zeroed, with its position
+abbrev pub start_digest : Origin → List ℕ → State → Expected → List ℕ
+start_digest origins.Boot text m expected = sha256 text
+start_digest origins.State text m expected = sha256 (placed_state_text (position_at expected) (blank_state m))
 
 -- this digest is there if it is asked for, and it is that of the state which the source spells, if what the source held is known
-abbrev pub NamesStart : Bool → Origin → Option (List ℕ) → State → Option (List ℕ) → Type 0
-NamesStart asked origin source m digest = (is_some digest ≡ asked) × IfSome digest (λ d. IfSome source (λ text. d ≡ start_digest origin text m))
+abbrev pub NamesStart : Bool → Origin → Option (List ℕ) → State → Expected → Option (List ℕ) → Type 0
+NamesStart asked origin source m expected digest = (is_some digest ≡ asked) × IfSome digest (λ d. IfSome source (λ text. d ≡ start_digest origin text m expected))
 
 -- each volume by the line of its first call, of which the first volume's is this one, by the number of its calls, and by their digest, if that is asked for
 abbrev pub entries_of : Bool → ℕ → List Traced → List VolumeEntry
@@ -135,30 +135,30 @@ trace_digest (entry ∷ []) = entry.digest
 trace_digest _ = None
 
 -- the digests of what is named: the calls begin with this text, in this state
-abbrev pub digests_of : Named → Origin → List ℕ → State → Option (List ℕ) → Option Digests
-digests_of names.Nothing origin start m trace = None
-digests_of names.Trace origin start m trace = Some (record { trace = trace; start = starts.Default })
-digests_of names.Both origins.Boot start m trace = Some (record { trace = trace; start = starts.Config (start_digest origins.Boot start m) })
-digests_of names.Both origins.State start m trace = Some (record { trace = trace; start = starts.State (start_digest origins.State start m) })
+abbrev pub digests_of : Named → Origin → List ℕ → State → Expected → Option (List ℕ) → Option Digests
+digests_of names.Nothing origin start m expected trace = None
+digests_of names.Trace origin start m expected trace = Some (record { trace = trace; start = starts.Default })
+digests_of names.Both origins.Boot start m expected trace = Some (record { trace = trace; start = starts.Config (start_digest origins.Boot start m expected) })
+digests_of names.Both origins.State start m expected trace = Some (record { trace = trace; start = starts.State (start_digest origins.State start m expected) })
 
 -- what the first line says beside the sizes of the core
-abbrev pub heading_of : Scope → Origin → List ℕ → State → List VolumeEntry → Heading
-heading_of scope origin start m entries =
-    record { digests = digests_of scope.named origin start m (trace_digest entries); is_unseen = scope.is_unseen; volumes = length (listed entries) }
+abbrev pub heading_of : Scope → Origin → List ℕ → State → Expected → List VolumeEntry → Heading
+heading_of scope origin start m expected entries =
+    record { digests = digests_of scope.named origin start m expected (trace_digest entries); is_unseen = scope.is_unseen; volumes = length (listed entries) }
 
 -- the volumes as they are named in what this is the scope of
 abbrev pub entries_in : Scope → List Traced → List VolumeEntry
 entries_in scope volumes = entries_of (names_trace scope.named) first_line volumes
 
 -- the text is what is reported of all calls of these volumes, as if they were one trace, from this state on, which the first text is of
-abbrev pub IsMadeOf : Origin → CustodyForm → Scope → List ℕ → State → List Traced → ℕ → ℕ → List ℕ → Type 0
-IsMadeOf origin form scope start m volumes count refused text =
-    IsAccount form scope.vm (heading_of scope origin start m (entries_in scope volumes)) m (listed (entries_in scope volumes)) count refused (notes m (joined volumes)) text
+abbrev pub IsMadeOf : Origin → CustodyForm → Scope → List ℕ → State → Expected → List Traced → ℕ → ℕ → List ℕ → Type 0
+IsMadeOf origin form scope start m expected volumes count refused text =
+    IsAccount form scope.vm (heading_of scope origin start m expected (entries_in scope volumes)) m (listed (entries_in scope volumes)) count refused (notes m (joined volumes)) text
 
 -- it shows nothing of what guests wrote: it is also what is reported of the redacted volumes, from the state on in which the pages of active VMs are zeroed, whatever the text of that; a configuration is the same one
-abbrev pub IsMadeBlind : Origin → CustodyForm → Scope → List ℕ → State → List Traced → ℕ → ℕ → List ℕ → Type 0
-IsMadeBlind origin form scope start m volumes count refused text =
-    (other : List ℕ) → (origin ≡ origins.Boot → other ≡ start) → IsMadeOf origin form scope other (blank_state m) (map redacted_trace volumes) count refused text
+abbrev pub IsMadeBlind : Origin → CustodyForm → Scope → List ℕ → State → Expected → List Traced → ℕ → ℕ → List ℕ → Type 0
+IsMadeBlind origin form scope start m expected volumes count refused text =
+    (other : List ℕ) → (origin ≡ origins.Boot → other ≡ start) → IsMadeOf origin form scope other (blank_state m) expected (map redacted_trace volumes) count refused text
 
 -- the text is made of the notes on all calls of the volumes, and shows nothing of what guests wrote
 pub record IsCustodyText (origin : Origin) (form : CustodyForm) (scope : Scope) (start : List ℕ) (traces : List (List ℕ)) (text : List ℕ) : Type 0 where
@@ -171,8 +171,8 @@ pub record IsCustodyText (origin : Origin) (form : CustodyForm) (scope : Scope) 
   pub refused : ℕ
   pub told : List Note
   pub custody : IsCustodyTold first (joined volumes) count refused told
-  pub account : IsMadeOf origin form scope start first volumes count refused text
-  pub blind : IsMadeBlind origin form scope start first volumes count refused text
+  pub account : IsMadeOf origin form scope start first expected volumes count refused text
+  pub blind : IsMadeBlind origin form scope start first expected volumes count refused text
 
 -- the machine that calls begin on has the slot of this number, or has not
 abbrev pub HasSlot : Origin → List ℕ → ℕ → Type 0

@@ -184,7 +184,7 @@ impl CustodyAccount {
         requires { C.failed start.old ≡ false }
         ensures ok { IfOk result (λ account. (m : State)
             × IfSome (C.left start.old) (λ text. BeginsIn order.origin text m account.first)
-            × NamesStart (names_start order.scope.named) order.origin (C.left start.old) m account.start
+            × NamesStart (names_start order.scope.named) order.origin (C.left start.old) m account.first account.start
             × HasTold order account m []) }
         ensures sources { TellsSources (seen C.failed C.left start.old start.new ∷ []) result }
         ensures texts { (trace : Seen)
@@ -292,13 +292,13 @@ impl CustodyAccount {
         ensures ok { (order : CustodyOrder) (m : State) (start : Option (List ℕ))
             (sources : List (Option (List ℕ))) → HasTold order self m sources
             → IfSome start (λ text. BeginsIn order.origin text m self.first)
-            → NamesStart (names_start order.scope.named) order.origin start m self.start
+            → NamesStart (names_start order.scope.named) order.origin start m self.first self.start
             → OnOk result (Writes (IsCustodyText order.origin order.form order.scope) start (known sources)
             (K.taken out.old) (K.taken out.new)) }
         ensures sink { (order : CustodyOrder) (m : State) (start : Option (List ℕ))
             (sources : List (Option (List ℕ))) → HasTold order self m sources
             → IfSome start (λ text. BeginsIn order.origin text m self.first)
-            → NamesStart (names_start order.scope.named) order.origin start m self.start
+            → NamesStart (names_start order.scope.named) order.origin start m self.first self.start
             → TellsSink (K.failed out.new) (Begins (IsCustodyText order.origin order.form order.scope) start
             (known sources) (K.taken out.old) (K.taken out.new)) (out.new ≡ out.old) result }
         ensures fault { IfErr result (λ fault. (fault ≡ TextFault.Memory) ⊎ (fault ≡ TextFault.Write)) }

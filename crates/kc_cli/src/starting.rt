@@ -8,7 +8,7 @@ ghost use Rattle.kc_config_text.specs.ConfigText.{config_in};
 ghost use Rattle.kc_config_text.specs.declared.config_text.ConfigTextFault.{ConfigTextFault};
 ghost use Rattle.kc_state_text.specs.Refused.{IsRefusedPlaced};
 ghost use Rattle.kc_texts.specs.Ends.{ReadFailed};
-ghost use Rattle.kc_faults.specs.Origins.{BeginsIn, expected_at};
+ghost use Rattle.kc_faults.specs.Origins.{BeginsIn, expected_at, position_at};
 ghost use Rattle.kc_faults.specs.Outcomes.{IsConfigFault, IsStartFault};
 ghost use Rattle.kc_cli.specs.Engine.{IsStateFault};
 ghost use Rattle.kc_cli.specs.Custody.{NamesStart};
@@ -52,17 +52,32 @@ fn text_digest(text: &[u8], is_named: bool) -> Option<[u8; 32]>
     Some(hasher.finalize())
 }
 
-/// The digest of a core's state with the pages of active VMs zeroed, if it is asked for: the text that it is of is
-/// made a piece at a time, and the core stays as it is.
-fn blank_digest(alloc: Global, core: &KCore, is_named: bool) -> Result<Option<[u8; 32]>, TextFault>
+/// The position of a state from which the trace with this header goes on, if it has one.
+fn position_at(expected: Expected) -> Option<Position>
+    ensures { result ≡ position_at expected }
+{
+    match expected {
+        Expected::At(position) => Some(position),
+        _ => None,
+    }
+}
+
+/// The digest of a core's state with the pages of active VMs zeroed and with its position, if it is asked for: the text
+/// that it is of is made a piece at a time, and the core stays as it is.
+fn blank_digest(
+    alloc: Global,
+    core: &KCore,
+    expected: Expected,
+    is_named: bool,
+) -> Result<Option<[u8; 32]>, TextFault>
     ensures digest { IfOk result (λ digest. (source : Option (List ℕ))
-        → NamesStart is_named Origin.State source core.now digest) }
+        → NamesStart is_named Origin.State source core.now expected digest) }
     ensures fault { IfErr result (λ fault. fault ≡ TextFault.Memory) }
 {
     if !is_named {
         return Ok(None);
     }
-    match state_digest(alloc, core, None, StateForm::Blank) {
+    match state_digest(alloc, core, position_at(expected), StateForm::Blank) {
         Ok(digest) => Ok(Some(digest)),
         Err(_) => Err(TextFault::Memory),
     }
@@ -90,7 +105,7 @@ fn boot_core<C: Source>(alloc: Global, start: &mut C, is_named: bool) -> Result<
     ensures ok { IfOk result
         (λ begun. IfSome (C.left start.old) (λ text. BeginsIn Origin.Boot text begun.core begun.expected)) }
     ensures digest { IfOk result
-        (λ begun. NamesStart is_named Origin.Boot (C.left start.old) begun.core begun.digest) }
+        (λ begun. NamesStart is_named Origin.Boot (C.left start.old) begun.core begun.expected begun.digest) }
     ensures lawful { IfOk result (λ begun. IsLawful begun.core) }
     ensures ended { OnOk result (IsAtEnd (C.left start.new)) }
     ensures mark { OnOk result (C.failed start.new ≡ false) }
@@ -152,7 +167,7 @@ fn read_core<C: Source>(
     ensures ok { IfOk result
         (λ begun. IfSome (C.left start.old) (λ text. BeginsIn Origin.State text begun.core begun.expected)) }
     ensures digest { IfOk result
-        (λ begun. NamesStart is_named Origin.State (C.left start.old) begun.core begun.digest) }
+        (λ begun. NamesStart is_named Origin.State (C.left start.old) begun.core begun.expected begun.digest) }
     ensures lawful { IfOk result (λ begun. IsLawful begun.core) }
     ensures ended { OnOk result (IsAtEnd (C.left start.new)) }
     ensures mark { OnOk result (C.failed start.new ≡ false) }
@@ -167,7 +182,7 @@ fn read_core<C: Source>(
     let Start { core, expected } = start_in(rt, alloc, text.as_slice(), lanes)?;
     // (its memory is given back before the state is hashed)
     let _wiped = text;
-    let digest = blank_digest(alloc, &core, is_named)?;
+    let digest = blank_digest(alloc, &core, expected, is_named)?;
     Ok(Begun {
         core,
         expected,
@@ -190,7 +205,7 @@ pub(crate) fn begin<C: Source>(
     ensures ok { IfOk result
         (λ begun. IfSome (C.left start.old) (λ text. BeginsIn origin text begun.core begun.expected)) }
     ensures digest { IfOk result
-        (λ begun. NamesStart is_named origin (C.left start.old) begun.core begun.digest) }
+        (λ begun. NamesStart is_named origin (C.left start.old) begun.core begun.expected begun.digest) }
     ensures lawful { IfOk result (λ begun. IsLawful begun.core) }
     ensures ended { OnOk result (IsAtEnd (C.left start.new)) }
     ensures mark { OnOk result (C.failed start.new ≡ false) }

@@ -23,6 +23,11 @@ abbrev pub expected_at : Option Position → Expected
 expected_at None = Bare
 expected_at (Some position) = At position
 
+-- the position of a state from which the trace with this header goes on, if it has one
+abbrev pub position_at : Expected → Option Position
+position_at (At position) = Some position
+position_at expected = None
+
 -- calls begin in this state, and their trace may have the header that is expected there: the boot state of the
 -- configuration that the text spells, or the state that it spells
 abbrev pub BeginsIn : Origin → List ℕ → State → Expected → Type 0

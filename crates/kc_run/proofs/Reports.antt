@@ -36,9 +36,9 @@ use Rattle.kc_run.proofs.Carried.{sink_err}
 -- what is said of a text that is given, if it is given to this sink
 pub record Gives (account : CustodyAccount) (ends : Ends) (r : Result Answered TextFault) : Type 0 where
   pub answered : (order : CustodyOrder) (m : State) (start : Option (List ℕ)) (sources : List (Option (List ℕ))) → HasTold order account m sources → IfSome start (λ text. BeginsIn order.origin text m account.first) → IfOk r (AreAllAnswered order.origin start (known sources))
-  pub ok : (order : CustodyOrder) (m : State) (start : Option (List ℕ)) (sources : List (Option (List ℕ))) → HasTold order account m sources → IfSome start (λ text. BeginsIn order.origin text m account.first) → NamesStart (names_start order.scope.named) order.origin start m account.start
+  pub ok : (order : CustodyOrder) (m : State) (start : Option (List ℕ)) (sources : List (Option (List ℕ))) → HasTold order account m sources → IfSome start (λ text. BeginsIn order.origin text m account.first) → NamesStart (names_start order.scope.named) order.origin start m account.first account.start
       → OnOk r (Writes (IsCustodyText order.origin order.form order.scope) start (known sources) ends.out.had ends.out.has)
-  pub sink : (order : CustodyOrder) (m : State) (start : Option (List ℕ)) (sources : List (Option (List ℕ))) → HasTold order account m sources → IfSome start (λ text. BeginsIn order.origin text m account.first) → NamesStart (names_start order.scope.named) order.origin start m account.start
+  pub sink : (order : CustodyOrder) (m : State) (start : Option (List ℕ)) (sources : List (Option (List ℕ))) → HasTold order account m sources → IfSome start (λ text. BeginsIn order.origin text m account.first) → NamesStart (names_start order.scope.named) order.origin start m account.first account.start
       → TellsSink ends.out.failed (Begins (IsCustodyText order.origin order.form order.scope) start (known sources) ends.out.had ends.out.has) ends.untouched r
   pub fault : IfErr r IsLastFault
 
@@ -88,8 +88,9 @@ volumes_given {left = left} {failed = failed} order old account m start after en
     told : HasTold order account m (ends.input.had ∷ held_by ends.held after)
     told = subst (λ (held : List (Option (List ℕ))). HasTold order account m held) (all_held ends after files opened long) (reads.told refl order m [] begun.told)
 
-    digest : NamesStart (names_start order.scope.named) order.origin start.had m account.start
-    digest = subst (λ (d : Option (List ℕ)). NamesStart (names_start order.scope.named) order.origin start.had m d) (sym (reads.same refl)) begun.digest
+    digest : NamesStart (names_start order.scope.named) order.origin start.had m account.first account.start
+    digest = subst (λ (e : Expected). NamesStart (names_start order.scope.named) order.origin start.had m e account.start) (sym (reads.first refl))
+        (subst (λ (d : Option (List ℕ)). NamesStart (names_start order.scope.named) order.origin start.had m old.first d) (sym (reads.same refl)) begun.digest)
 
     begins : IfSome start.had (λ text. BeginsIn order.origin text m account.first)
     begins = subst (λ (expected : Expected). IfSome start.had (λ text. BeginsIn order.origin text m expected)) (sym (reads.first refl)) begun.begins
@@ -190,8 +191,9 @@ trace_given order old account m start ends r begun opened more same first ended 
     told : HasTold order account m (ends.input.had ∷ [])
     told = more order m [] begun.told
 
-    digest : NamesStart (names_start order.scope.named) order.origin start.had m account.start
-    digest = subst (λ (d : Option (List ℕ)). NamesStart (names_start order.scope.named) order.origin start.had m d) (sym same) begun.digest
+    digest : NamesStart (names_start order.scope.named) order.origin start.had m account.first account.start
+    digest = subst (λ (e : Expected). NamesStart (names_start order.scope.named) order.origin start.had m e account.start) (sym first)
+        (subst (λ (d : Option (List ℕ)). NamesStart (names_start order.scope.named) order.origin start.had m old.first d) (sym same) begun.digest)
 
     begins : IfSome start.had (λ text. BeginsIn order.origin text m account.first)
     begins = subst (λ (expected : Expected). IfSome start.had (λ text. BeginsIn order.origin text m expected)) (sym first) begun.begins

@@ -90,7 +90,7 @@ pub record ReadsFiles {S : Type 0} (left : S → Option (List ℕ)) (failed : S 
 pub record HasBegun (order : CustodyOrder) (account : CustodyAccount) (m : State) (start : Seen) : Type 0 where
   pub told : HasTold order account m []
   pub begins : IfSome start.had (λ text. BeginsIn order.origin text m account.first)
-  pub digest : NamesStart (names_start order.scope.named) order.origin start.had m account.start
+  pub digest : NamesStart (names_start order.scope.named) order.origin start.had m account.first account.start
   pub slot : IfSome order.scope.vm (λ number. IfSome start.had (λ text. HasSlot order.origin text number))
   pub ended : IsAtEnd start.has
   pub mark : start.failed ≡ false
