@@ -17,7 +17,7 @@ pub returns-in_err-read-clause-texts : goal.returns-in_err-read-clause-texts
 returns-in_err-read-clause-texts g c =
     let made = err_from_is_err_and c.from_residual-in_err-read.result c.from_residual-in_err-read.ensures.1 in
     let fault = c.in_err-read.field-0.0 in
-    rw (made.1, made.2) (texts_trace _ _ _ _ _ First _ (boots _ c.in_ok-config.config c.in_ok-config.ensures.ok) (λ said same. let is = c.in_err-read.ensures.trace said (ap Err (trace_said fault said same)) in (known_refused_there _ _ _ said is.0, is.1)) (stream_config fault) (stream_state fault) (stream_told fault (λ e. c.in_err-read.ensures.told (ap Err e))))
+    rw (made.1, made.2) (texts_trace _ _ _ _ _ First _ (boots _ c.in_ok-config.config c.in_ok-config.ensures.ok) (λ said same. let is = c.in_err-read.ensures.trace said (ap Err (trace_said fault said same)) in (known_refused_there (boot c.in_ok-config.config).config First _ said is.0, is.1)) (stream_config fault) (stream_state fault) (stream_told fault (λ e. c.in_err-read.ensures.told (ap Err e))))
 
 pub returns-in-Some-clause-texts : goal.returns-in-Some-clause-texts
 returns-in-Some-clause-texts g c =
