@@ -126,7 +126,9 @@ class Chain:
             return None
         is_named, is_unseen, _, options = self.some(rng, [vm % len(self.core.slots)])
         whole = self.file("whole", calls.trace_of(self.lines, self.is_of_ranges))
-        one = run(["custody", *self.start, "--svg", *options, whole], "")
+        # (the whole trace has no head, so the state that it goes on from has no position)
+        start = self.start if self.state is None else ["--from", self.file("bare", self.state)]
+        one = run(["custody", *start, "--svg", *options, whole], "")
         other = self.ran(rng, "--svg", *options)
         feet = [FOOT.search(out) for _, out, _ in (one, other)]
         if not all(feet) or other[2] != self.warning or FOOT.sub("", one[1]) != FOOT.sub("", other[1]):
