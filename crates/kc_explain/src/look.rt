@@ -25,6 +25,8 @@ pub enum Look {
     CarriageReturn,
     /// The wanted header, without its newline.
     Unended,
+    /// A header that a head follows, without all of that.
+    Headless,
     /// The header of a version that this program does not read.
     Newer(u32),
     /// The name of the wanted header, whose newest version is this, followed by something that is not a version.
@@ -50,10 +52,11 @@ impl fmt::Display for Look {
             Look::Zstd => "it looks like zstd",
             Look::CarriageReturn => "its first line ends with CR and LF",
             Look::Unended => "its first line does not end",
+            Look::Headless => "it ends before its head does",
             Look::Newer(version) => {
                 return write!(f, "version {version}: a newer kcore reads it");
             },
-            Look::NoVersion(1) => "its first line does not end with a version, which is 1",
+            Look::NoVersion(3) => "its first line does not end with a version, 1, 2 or 3",
             Look::NoVersion(_) => "its first line does not end with a version, 1 or 2",
             Look::Trace => "it looks like a trace",
             Look::Dump => "it looks like a dump",
@@ -123,7 +126,10 @@ fn look_of_header(version: &[u8], newest: u32) -> Look {
 fn ours(text: &[u8], wanted: Header) -> Option<Look> {
     if let Some(version) = text.strip_prefix(b"kcore-trace ") {
         Some(match wanted {
-            Header::Trace => look_of_header(version, 2),
+            Header::Trace => match look_of_header(version, 3) {
+                Look::Unended if split_line(version).is_some() => Look::Headless,
+                look => look,
+            },
             _ => Look::Trace,
         })
     } else if let Some(version) = text.strip_prefix(b"kcore-dump ") {
@@ -133,7 +139,7 @@ fn ours(text: &[u8], wanted: Header) -> Option<Look> {
         })
     } else if let Some(version) = text.strip_prefix(b"kcore-state ") {
         Some(match wanted {
-            Header::State => look_of_header(version, 1),
+            Header::State => look_of_header(version, 2),
             _ => Look::State,
         })
     } else {
