@@ -11,8 +11,8 @@ use Rattle.kc_trace.specs.Spelling.{trace_of}
 use Rattle.kc_cli.specs.Reading.{HaveRead}
 use Rattle.kc_texts.specs.Written.{Begins}
 use Rattle.kc_types.specs.Limits.{call_limit}
-use Rattle.kc_config_text.specs.ConfigText.{config_in}
 use Rattle.kc_texts.specs.Ends.{Seen}
+use Rattle.kc_faults.specs.Origins.{SpellsMachine}
 use Rattle.kc_faults.specs.Outcomes.{TellsTexts}
 use Rattle.kc_faults.specs.declared.origin.Origin.TheVariants as origins
 use Rattle.kc_faults.specs.declared.fault.TextFault.{TextFault}
@@ -32,7 +32,7 @@ begins_live (Some config_text) (Some trace_text) old new config calls made read 
     (trace_of made, cut.0, (config, calls, record { configured = read.configured; traced = read.traced }, may, (made, keeps, is, refl)), cut.1)
 
 -- no text is refused for what a live run of few calls is refused for
-pub live_refused : {A : Type 0} (start trace : Seen) (unread : Type 0) (config : Configuration) (calls : List Call) (f : TextFault) → IfSome start.had (λ text. config_in text ≡ Ok config) → length calls ≤ call_limit → IsLiveFault config calls f → TellsTexts {A = A} origins.Boot start trace unread (Err f)
+pub live_refused : {A : Type 0} (start trace : Seen) (unread : Type 0) (config : Configuration) (calls : List Call) (f : TextFault) → IfSome start.had (λ text. SpellsMachine text config) → length calls ≤ call_limit → IsLiveFault config calls f → TellsTexts {A = A} origins.Boot start trace unread (Err f)
 live_refused start trace unread config calls f known few is =
     texts_trace origins.Boot start trace unread (boot config) First f (boots start.had config known)
     (λ said same. absurd (let many = (is.trace said same).1 in omega (arith, few, many))) is.config is.state

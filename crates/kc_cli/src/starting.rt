@@ -13,7 +13,7 @@ ghost use Rattle.kc_faults.specs.Outcomes.{IsConfigFault, IsStartFault};
 ghost use Rattle.kc_cli.specs.Engine.{IsStateFault};
 ghost use Rattle.kc_cli.specs.Custody.{NamesStart};
 
-use kc_config_text::read_config;
+use crate::reading::machine_in;
 use kc_core::KCore;
 use kc_digests::Lanes;
 use kc_dumping::StateForm;
@@ -83,7 +83,7 @@ fn blank_digest(
     }
 }
 
-/// The core in the boot state of a configuration.
+/// The core in the boot state of the machine that a text spells.
 fn boot_of(alloc: Global, text: &[u8]) -> Result<KCore, TextFault>
     ensures ok { IfOk result (λ core. BeginsIn Origin.Boot text.now core Expected.First) }
     ensures lawful { IfOk result IsLawful }
@@ -92,14 +92,14 @@ fn boot_of(alloc: Global, text: &[u8]) -> Result<KCore, TextFault>
     ensures read { result ≢ Err TextFault.Read }
     ensures fault { IfErr result IsConfigFault }
 {
-    let config = read_config(alloc, text)?;
+    let config = machine_in(alloc, text)?;
     match KCore::boot(alloc, config) {
         Ok(core) => Ok(core),
         Err(_) => Err(TextFault::Memory),
     }
 }
 
-/// Reads a configuration to its end: the core in its boot state.
+/// Reads the text of a machine to its end: the core in its boot state.
 fn boot_core<C: Source>(alloc: Global, start: &mut C, is_named: bool) -> Result<Begun, TextFault>
     requires { C.failed start.old ≡ false }
     ensures ok { IfOk result
@@ -190,8 +190,7 @@ fn read_core<C: Source>(
     })
 }
 
-/// Reads what the calls begin with to its end: the core in the boot state of a configuration, or in the state of a
-/// text, and the digest by which this is named, if that is asked for. A source that fails, or that has more than
+/// Reads what the calls begin with to its end: the core in the boot state of a machine, or in the state of a text, and the digest by which this is named, if that is asked for. A source that fails, or that has more than
 /// 1,073,741,824 bytes, is `Read`.
 pub(crate) fn begin<C: Source>(
     rt: &(impl Threads + Sync),

@@ -18,7 +18,7 @@ use Rattle.kc_state_text.specs.Refused.{IsRefusedPlaced}
 use Rattle.kc_faults.specs.declared.origin.Origin.{Origin}
 use Rattle.kc_faults.specs.declared.origin.Origin.TheVariants as origins
 use Rattle.kc_trace.specs.Expected.{IsRefusedThere}
-use Rattle.kc_faults.specs.Origins.{BeginsIn, IsBegun}
+use Rattle.kc_faults.specs.Origins.{SpellsMachine, BeginsIn, IsBegun}
 use Rattle.kc_faults.proofs.Placed.{known_refused_from}
 use Rattle.kc_faults.specs.Outcomes.{IsStartFault, IsTold, TellsSources, TellsTexts, TellsReplay, TellsSink}
 use Rattle.kc_texts.specs.Ends.{Seen}
@@ -87,8 +87,8 @@ pub begun_is : (origin : Origin) (had : Option (List ℕ)) (m : State) (expected
 begun_is origin None m expected h = tt
 begun_is origin (Some text) m expected h = (m, expected, h)
 
--- that of a configuration is its boot state
-pub boots : (had : Option (List ℕ)) (config : Configuration) → IfSome had (λ text. config_in text ≡ Ok config) → IfSome had (λ text. BeginsIn origins.Boot text (boot config) First)
+-- that of a machine is its boot state
+pub boots : (had : Option (List ℕ)) (config : Configuration) → IfSome had (λ text. SpellsMachine text config) → IfSome had (λ text. BeginsIn origins.Boot text (boot config) First)
 boots None config h = tt
 boots (Some text) config h = (config, h, refl, refl)
 
@@ -131,3 +131,15 @@ texts_misplaced origin start trace unread m expected wrong known refused ended =
 pub on_err : {T E P : Type 0} (r : Result T E) → is_err r ≡ true → OnErr r P → P
 on_err (Ok x) e h = cc
 on_err (Err f) e h = h
+
+-- ---- what was said if the trace was not read, and less is known
+
+pub texts_unread : {A : Type 0} (origin : Origin) (start trace : Seen) (unread less : Type 0) (result : Result A TextFault) → (unread → less) → TellsTexts origin start trace unread result → TellsTexts origin start trace less result
+texts_unread origin start trace unread less result step h = record {
+  config_fault = λ f e. let is = h.config_fault f e in (is.0, is.1, is.2, step is.3);
+  state_fault = λ f e. let is = h.state_fault f e in (is.0, is.1, is.2, step is.3);
+  trace_fault = h.trace_fault;
+  after_start = elim h.after_start [ | inl none ↦ inl (step none) | inr begun ↦ inr begun ];
+  begun = h.begun;
+  told = h.told;
+}

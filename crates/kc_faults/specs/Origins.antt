@@ -1,5 +1,5 @@
 -- Where the calls of a trace begin, by what the first source of an engine holds.
-use Rattle.std.specs.Prelude.{◌≡◌, List, ℕ, Option, Some, None, Ok, IfSome}
+use Rattle.std.specs.Prelude.{◌≡◌, ◌⊎◌, List, ℕ, Option, Some, None, Ok, IfSome}
 use Rattle.kc_types.specs.Configuration.{Configuration}
 use Rattle.kc_model.specs.State.{State}
 use Rattle.kc_model.specs.Boot.{boot}
@@ -7,7 +7,9 @@ use Rattle.kc_model.specs.Volumes.{IsCoreState}
 use Rattle.kc_config_text.specs.ConfigText.{config_in}
 use Rattle.kc_state_text.specs.StateText.{placed_state_text}
 use Rattle.kc_trace.specs.declared.header.Position.{Position}
-use Rattle.kc_trace.specs.Header.{IsPosition}
+use Rattle.kc_trace.specs.declared.header.Head.{Head}
+use Rattle.kc_trace.specs.declared.header.Header.TheVariants.{Three}
+use Rattle.kc_trace.specs.Header.{IsPosition, IsHead, trace_header}
 use Rattle.kc_trace.specs.Trace.{IsRefused}
 use Rattle.kc_trace.specs.Expected.{IsRefusedThere}
 use Rattle.kc_trace.specs.declared.expected.Expected.{Expected}
@@ -28,10 +30,14 @@ abbrev pub position_at : Expected → Option Position
 position_at (At position) = Some position
 position_at expected = None
 
+-- the text spells this machine: it is that of a configuration, or the header of a trace that names the machine in its head
+abbrev pub SpellsMachine : List ℕ → Configuration → Type 0
+SpellsMachine text config = (config_in text ≡ Ok config) ⊎ ((head : Head) × IsHead head × (text ≡ trace_header (Three head)) × (config ≡ head.config))
+
 -- calls begin in this state, and their trace may have the header that is expected there: the boot state of the
--- configuration that the text spells, or the state that it spells
+-- machine that the text spells, or the state that it spells
 abbrev pub BeginsIn : Origin → List ℕ → State → Expected → Type 0
-BeginsIn origins.Boot text m expected = (config : Configuration) × (config_in text ≡ Ok config) × (m ≡ boot config) × (expected ≡ First)
+BeginsIn origins.Boot text m expected = (config : Configuration) × SpellsMachine text config × (m ≡ boot config) × (expected ≡ First)
 BeginsIn origins.State text m expected = IsCoreState m × (position : Option Position) × IfSome position IsPosition × (text ≡ placed_state_text position m) × (expected ≡ expected_at position)
 
 -- the text is a trace whose header may not be where the other text is of the start, and this is wrong with it

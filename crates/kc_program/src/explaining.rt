@@ -66,7 +66,7 @@ pub fn explain_open(rt: &HostRuntime, path: &str, kind: ErrorKind) {
 
 /// Why a file could not be read, if that is so. A read that failed fails once more.
 fn unread_file(file: &Named<'_>) -> Option<&'static str> {
-    if file.source.total() > BYTE_LIMIT as u64 {
+    if file.noted().total() > BYTE_LIMIT as u64 {
         return Some(TOO_LONG);
     }
     let Opened::File(file) = file.opened() else {
@@ -101,8 +101,8 @@ fn unread_input(rt: &HostRuntime, total: u64) -> &'static str {
 
 /// Says which key of a configuration is wrong, or where its text is not JSON, if it is kept whole.
 fn explain_keys(rt: &HostRuntime, config: &Named<'_>) {
-    let text = config.source.head();
-    if config.source.total() == text.len() as u64 {
+    let text = config.noted().head();
+    if config.noted().total() == text.len() as u64 {
         explain_config(rt.alloc(), rt, text);
     }
 }
@@ -151,7 +151,7 @@ fn explain_text_line(rt: &HostRuntime, file: &Named<'_>, number: u32) {
         Some(path) if file.is_regular => line_again(rt, path.as_str(), number),
         _ => {
             let mut finder = LineFinder::new(rt.alloc(), u64::from(number));
-            let _ = finder.feed(file.source.head());
+            let _ = finder.feed(file.noted().head());
             Some(finder)
         },
     };
@@ -218,7 +218,7 @@ impl<'a> Reading<'a> {
         match fault {
             TextFault::Trace(fault) => self.explain_trace(rt, fault),
             TextFault::Dump(DumpFault::NoHeader) => {
-                let look = look_of(self.input.source.head(), Header::Dump);
+                let look = look_of(self.input.noted().head(), Header::Dump);
                 let _ = eprintln!(rt; "  {} is not a dump: {look}", self.input);
             },
             TextFault::Dump(DumpFault::BadLine(number)) => {
@@ -228,7 +228,7 @@ impl<'a> Reading<'a> {
             TextFault::Config(fault) => self.explain_config(rt, fault),
             TextFault::BadActor(program) => match self.again(rt) {
                 Some(noted) => explain_actor(rt, &noted, *program),
-                None => explain_actor(rt, &self.input.source, *program),
+                None => explain_actor(rt, self.input.noted(), *program),
             },
             TextFault::NoSlot(_) => {
                 let _ = eprintln!(rt;
@@ -269,12 +269,12 @@ impl<'a> Reading<'a> {
     fn explain_trace(&self, rt: &HostRuntime, fault: &TraceFault) {
         match fault {
             TraceFault::NoHeader => {
-                let look = look_of(self.input.source.head(), Header::Trace);
+                let look = look_of(self.input.noted().head(), Header::Trace);
                 let _ = eprintln!(rt; "  {} is not a trace: {look}", self.input);
             },
             TraceFault::BadLine(_) | TraceFault::NoNewline => match self.again(rt) {
                 Some(noted) => explain_trace_line(rt, &noted, fault),
-                None => explain_trace_line(rt, &self.input.source, fault),
+                None => explain_trace_line(rt, self.input.noted(), fault),
             },
             TraceFault::TooManyCalls if self.is_volume => {
                 let _ = eprintln!(rt;
@@ -300,7 +300,7 @@ impl<'a> Reading<'a> {
         };
         match fault {
             StateFault::NoHeader => {
-                let look = look_of(state.source.head(), Header::State);
+                let look = look_of(state.noted().head(), Header::State);
                 let _ = eprintln!(rt; "  {state} is not a state's text: {look}");
             },
             StateFault::BadLine(number) => explain_text_line(rt, state, *number),
@@ -338,7 +338,7 @@ impl<'a> Reading<'a> {
                 let _ = eprintln!(rt; "  {config}: approved has at most 64 entries");
             },
             ConfigTextFault::NotJson => {
-                let look = look_of(config.source.head(), Header::None);
+                let look = look_of(config.noted().head(), Header::None);
                 let _ = eprintln!(rt; "  {config}: {look}");
                 explain_keys(rt, config);
             },
@@ -355,7 +355,7 @@ impl<'a> Reading<'a> {
                 return;
             }
         }
-        let why = unread_input(rt, self.input.source.total());
+        let why = unread_input(rt, self.input.noted().total());
         let _ = eprintln!(rt; "  {}: {why}", self.input);
     }
 }

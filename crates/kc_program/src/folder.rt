@@ -3,9 +3,11 @@ ghost use Rattle.std.specs.Prelude.{◌≡◌, false, None, option_map, string_b
 ghost use Rattle.kc_program.specs.Opened.{has_failed};
 
 use crate::asked::{Asked, Kind};
-use kc_cli::{Failed, Source, Std};
+use kc_cli::{Ahead, Failed, Headed, ReadFault, Source, Std};
 use kc_explain::{Awaited, Masked, Noted, Progress, Shown};
 use kc_run::{Files, Unopened};
+use kc_trace::Head;
+use std::alloc::Global;
 use std::fmt;
 use std::fs::{File, OpenFile};
 use std::io::{ErrorKind, IsTerminal, Stdin};
@@ -48,12 +50,17 @@ pub struct Named<'a> {
     pub kind: Kind,
     /// Whether it is an ordinary file, which can be read again.
     pub is_regular: bool,
-    pub source: Noted<Shown<'a, Awaited<'a, Opened, HostRuntime>, HostRuntime>>,
+    pub source: Ahead<Noted<Shown<'a, Awaited<'a, Opened, HostRuntime>, HostRuntime>>>,
 }
 
 impl<'a> Named<'a> {
+    /// What was kept of it.
+    pub fn noted(&self) -> &Noted<Shown<'a, Awaited<'a, Opened, HostRuntime>, HostRuntime>> {
+        &self.source.inner
+    }
+
     pub fn opened(&self) -> &Opened {
-        &self.source.inner.inner.inner
+        &self.noted().inner.inner.inner
     }
 }
 
@@ -69,7 +76,7 @@ impl fmt::Display for Named<'_> {
 impl<'a> Source for Named<'a> {
     ghost left = { λ _. None };
 
-    ghost failed = { λ named. has_failed named.source.inner.inner.inner };
+    ghost failed = { λ named. has_failed named.source.inner.inner.inner.inner };
 
     fn read(&mut self, buffer: &mut [u8]) -> Result<usize, Failed> {
         self.source.read(buffer)
@@ -77,6 +84,12 @@ impl<'a> Source for Named<'a> {
 
     fn size_hint(&self) -> usize {
         self.source.size_hint()
+    }
+}
+
+impl<'a> Headed for Named<'a> {
+    fn head(&mut self, alloc: Global) -> Result<Option<Head>, ReadFault> {
+        self.source.head(alloc)
     }
 }
 
@@ -118,7 +131,7 @@ impl<'a> Folder<'a> {
 
     /// Standard input. If it waits for a terminal, it says so.
     pub fn standard_input(&self) -> Named<'a>
-        ensures { has_failed result.source.inner.inner.inner ≡ false }
+        ensures { has_failed result.source.inner.inner.inner.inner ≡ false }
     {
         let awaited = if self.rt.stderr().is_terminal() && self.rt.stdin().is_terminal() {
             Some(self.asked.kind.word())
@@ -139,7 +152,7 @@ impl<'a> Folder<'a> {
         opened: Opened,
         awaited: Option<&'static str>,
     ) -> Named<'a>
-        ensures { result.source.inner.inner.inner ≡ opened }
+        ensures { result.source.inner.inner.inner.inner ≡ opened }
     {
         let is_shown = (kind == self.asked.kind || kind == Kind::Volume)
             && self.rt.stderr().is_terminal()
@@ -159,7 +172,7 @@ impl<'a> Folder<'a> {
             path,
             kind,
             is_regular,
-            source,
+            source: Ahead::new(alloc, source),
         }
     }
 }

@@ -1,6 +1,6 @@
 -- What a run of the program leaves of its files, of standard input and of its sinks, and its exit status.
 use Rattle.std.specs.Prelude.{◌≡◌, ◌≢◌, ◌⊎◌, ◌<◌, ◌↔◌, ℕ, Bool, true, false, List, [], ◌∷◌, Option, Some, None, Result, Ok, Err, IfOk, IfErr, IfSome, OnOk, IsErrOf}
-use Rattle.std.specs.Io.KnownBytes.{IsAtEnd}
+use Rattle.std.specs.Io.KnownBytes.{Keeps, IsAtEnd}
 use Rattle.kc_types.specs.Limits.{worker_limit}
 use Rattle.kc_args.specs.declared.job.Job.{Job}
 use Rattle.kc_remarks.specs.declared.denials.Answered.{Answered}
@@ -26,7 +26,7 @@ use Rattle.kc_args.specs.declared.job.Action.TheVariants as actions
 use Rattle.kc_args.specs.Jobs.{Path, path_of, origin_at}
 use Rattle.kc_run.specs.declared.ending.Ending.{Ending}
 use Rattle.kc_run.specs.declared.ending.Ending.TheVariants as endings
-use Rattle.kc_run.specs.Opening.{IsDefault, IsOfFile, IsOpenFault}
+use Rattle.kc_run.specs.Opening.{IsUnnamedStart, IsUnseenFault, IsOfFile, IsOpenFault}
 use Rattle.kc_run.specs.Ends.{Ends, ends_of}
 use Rattle.kc_run.specs.Custody.{ReportsCustody}
 use Rattle.kc_run.specs.Endings.{Ended, Took, status_after, fault_in, answered_in, difference_in, volume_in, IsReported}
@@ -125,9 +125,25 @@ pub record RedactsHost (origin : Origin) (start : Seen) (ends : Ends) (ended : E
   pub sink : TellsSink ends.out.failed (Begins (IsHostRedacted origin) start.had ends.input.had ends.out.had ends.out.has) ends.untouched ended
   pub fault : IfErr ended IsHostRedactFault
 
--- what calls begin with is the default configuration, or the file that is named
+-- it could not be seen whether the trace has a head, and so nothing was written
+pub record IsUnseen (ends : Ends) (ended : Ended) : Type 0 where
+  pub fault : TextFault
+  pub ended_is : ended ≡ Err fault
+  pub reading : IsUnseenFault ends.input.failed fault
+  pub opened : ends.refused ≡ None
+  pub untouched : ends.untouched
+
+-- what calls begin with follows from the trace, of which the head was seen: the input is as it was then, and if nothing of it was read no byte was taken
+pub record IsSeen (Runs : Seen → Ends → Ended → Type 0) (ends : Ends) (ended : Ended) : Type 0 where
+  pub had : Option (List ℕ)
+  pub same : Keeps ends.input.had had
+  pub source : Seen
+  pub start : IsUnnamedStart had source
+  pub runs : Runs source (record ends { input = record ends.input { had = had }; unread = ends.input.has ≡ had }) ended
+
+-- what calls begin with is in the head of their trace or the default configuration, or in the file that is named
 abbrev pub BeginsAt : {S : Type 0} → (S → Option (List ℕ)) → (S → Bool) → Option Path → (Seen → Ends → Ended → Type 0) → Ends → Ended → Type 0
-BeginsAt left failed None Runs ends ended = (source : Seen) × IsDefault source × Runs source ends ended
+BeginsAt left failed None Runs ends ended = IsUnseen ends ended ⊎ IsSeen Runs ends ended
 BeginsAt left failed (Some path) Runs ends ended = OverFile left failed path Runs ends ended
 
 -- how an action ended; only custody reads the files of volumes after the input

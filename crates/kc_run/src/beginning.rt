@@ -1,31 +1,32 @@
 //! What calls begin with, as a source.
-ghost use Rattle.std.specs.Prelude.{◌≡◌, false, Some, None, IfOk, IfErr, OnOk};
-ghost use Rattle.kc_run.specs.Opening.{IsOpenFault, default_config};
+ghost use Rattle.std.specs.Prelude.{◌≡◌, false, true, Some, None, Err, IfOk, IfErr, OnOk};
+ghost use Rattle.std.specs.Io.KnownBytes.{Keeps};
+ghost use Rattle.kc_run.specs.Opening.{IsOpenFault, IsUnnamed, IsUnseenFault};
 
 use crate::files::{Files, Unopened};
-use kc_cli::{DEFAULT_CONFIG, Failed, Source, TextFault};
+use kc_cli::{DEFAULT_CONFIG, Failed, Headed, Source, TextFault};
+use kc_trace::{Header, LONGEST_CALL, push_header};
+use std::alloc::Global;
 
-/// What is left of the text of the default configuration.
+/// What is left of a text in memory, of which no read fails.
 #[derive(Clone, Copy, Debug)]
-pub(crate) struct DefaultText {
-    rest: &'static [u8],
+pub(crate) struct StartText<'a> {
+    rest: &'a [u8],
 }
 
-impl DefaultText {
+impl<'a> StartText<'a> {
     /// Makes a source of which nothing was read.
-    pub(crate) fn new() -> DefaultText
-        ensures { result.rest.now ≡ default_config }
+    pub(crate) fn new(text: &'a [u8]) -> StartText<'a>
+        ensures { result.rest.now ≡ text.now }
     {
-        DefaultText {
-            rest: DEFAULT_CONFIG.as_bytes(),
-        }
+        StartText { rest: text }
     }
 }
 
-impl Source for DefaultText {
+impl<'a> Source for StartText<'a> {
     ghost left = { λ text. Some text.rest.now };
 
-    // The program's own bytes can always be read.
+    // Bytes in memory can always be read.
     ghost failed = { λ _. false };
 
     fn read(&mut self, buffer: &mut [u8]) -> Result<usize, Failed> {
@@ -39,6 +40,30 @@ impl Source for DefaultText {
     fn size_hint(&self) -> usize {
         self.rest.len()
     }
+}
+
+/// Makes the text of what calls begin with if no file is named for it: the header of the trace that the input holds, if
+/// it has a head, and otherwise the default configuration.
+pub(crate) fn unnamed<T: Headed>(alloc: Global, input: &mut T) -> Result<Vec<u8>, TextFault>
+    requires { T.failed input.old ≡ false }
+    ensures text { IfOk result (λ text. IsUnnamed (T.left input.new) text.items) }
+    ensures same { OnOk result (Keeps (T.left input.old) (T.left input.new)) }
+    ensures ready { OnOk result (T.failed input.new ≡ false) }
+    ensures fault { IfErr result (λ fault. IsUnseenFault (T.failed input.new) fault) }
+{
+    let found = input.head(alloc)?;
+    let Ok(mut text) = Vec::with_capacity(alloc, LONGEST_CALL) else {
+        return Err(TextFault::Memory);
+    };
+    match found {
+        Some(head) => push_header(&mut text, &Header::Three(head)),
+        None => {
+            if text.extend_from_slice(DEFAULT_CONFIG.as_bytes()).is_err() {
+                return Err(TextFault::Memory);
+            }
+        },
+    }
+    Ok(text)
 }
 
 /// Opens the file at a path.

@@ -11,12 +11,12 @@ ghost use Rattle.kc_run.specs.Endings.{took};
 ghost use Rattle.kc_run.specs.Ends.{ends_of};
 ghost use Rattle.kc_run.specs.Run.{BeginsAt};
 
-use crate::beginning::{DefaultText, open};
+use crate::beginning::{StartText, open, unnamed};
 use crate::ending::Ending;
 use crate::engines::{System, counted};
 use crate::files::Files;
 use kc_args::Start;
-use kc_cli::{CustodyAccount, CustodyOrder, Sink, Source, TextFault};
+use kc_cli::{CustodyAccount, CustodyOrder, Headed, Sink, Source, TextFault};
 use std::alloc::Global;
 use std::sync::Wait;
 use std::thread::Threads;
@@ -186,7 +186,7 @@ fn custody_from<F: Files, C: Source, T: Source, K: Sink, R: Threads + Wait + Syn
 }
 
 /// Does the same from where calls begin.
-pub(crate) fn custody<F: Files, T: Source, K: Sink, R: Threads + Wait + Sync>(
+pub(crate) fn custody<F: Files, T: Headed, K: Sink, R: Threads + Wait + Sync>(
     system: &System<'_, R>,
     files: &mut F,
     start: Start<'_>,
@@ -204,8 +204,8 @@ pub(crate) fn custody<F: Files, T: Source, K: Sink, R: Threads + Wait + Sync>(
         (input.new ≡ input.old) (took K.failed K.taken out.old out.new) (out.new ≡ out.old)) result }
 {
     let Some(path) = start.path() else {
-        let mut text = DefaultText::new();
-        return custody_from(system, files, &mut text, input, after, out, order);
+        let text = unnamed(system.alloc, input)?;
+        return custody_from(system, files, &mut StartText::new(&text), input, after, out, order);
     };
     let mut file = open(files, path)?;
     let ended = custody_from(system, files, &mut file, input, after, out, order);

@@ -7,12 +7,12 @@ ghost use Rattle.kc_run.specs.Endings.{took, done_as, answered_as, compared_as, 
 ghost use Rattle.kc_run.specs.Ends.{ends_of};
 ghost use Rattle.kc_run.specs.Run.{BeginsAt, ReplaysTo, RunsLive, AuditsDump, RedactsTrace, RedactsHost};
 
-use crate::beginning::{DefaultText, open};
+use crate::beginning::{StartText, open, unnamed};
 use crate::ending::Ending;
 use crate::files::Files;
 use kc_args::Start;
 use kc_cli::{
-    Answered, Compared, Lanes, ReplayOrder, Sink, Source, TextFault, audit_text, live_text,
+    Answered, Compared, Headed, Lanes, ReplayOrder, Sink, Source, TextFault, audit_text, live_text,
     replay_text, replay_to_text,
 };
 use kc_redact_text::{redact_host_text, redact_text};
@@ -123,7 +123,7 @@ fn replay_to<F: Files, C: Source, T: Source, K: Sink, R: Threads + Wait + Sync>(
 }
 
 /// Replays the trace from where calls begin.
-pub(crate) fn replay<F: Files, T: Source, K: Sink, R: Threads + Wait + Sync>(
+pub(crate) fn replay<F: Files, T: Headed, K: Sink, R: Threads + Wait + Sync>(
     system: &System<'_, R>,
     files: &mut F,
     start: Start<'_>,
@@ -141,8 +141,8 @@ pub(crate) fn replay<F: Files, T: Source, K: Sink, R: Threads + Wait + Sync>(
         (input.new ≡ input.old) (took K.failed K.taken out.old out.new) (out.new ≡ out.old)) result }
 {
     let Some(path) = start.path() else {
-        let mut text = DefaultText::new();
-        return replay_to(system, files, &mut text, input, to, out, order);
+        let text = unnamed(system.alloc, input)?;
+        return replay_to(system, files, &mut StartText::new(&text), input, to, out, order);
     };
     let mut file = open(files, path)?;
     let ended = replay_to(system, files, &mut file, input, to, out, order);
@@ -152,7 +152,7 @@ pub(crate) fn replay<F: Files, T: Source, K: Sink, R: Threads + Wait + Sync>(
 
 /// Runs the trace live.
 #[inline(never)]
-pub(crate) fn live<F: Files, T: Source, K: Sink, R: Threads + Wait + Sync>(
+pub(crate) fn live<F: Files, T: Headed, K: Sink, R: Threads + Wait + Sync>(
     system: &System<'_, R>,
     files: &mut F,
     config: Option<&str>,
@@ -169,8 +169,9 @@ pub(crate) fn live<F: Files, T: Source, K: Sink, R: Threads + Wait + Sync>(
 {
     let (threads, alloc) = (system.threads, system.alloc);
     let Some(path) = config else {
-        let mut text = DefaultText::new();
-        return done(live_text(threads, alloc, &mut text, input, out, workers, &OpenGate));
+        let text = unnamed(alloc, input)?;
+        let mut start = StartText::new(&text);
+        return done(live_text(threads, alloc, &mut start, input, out, workers, &OpenGate));
     };
     let mut file = open(files, path)?;
     let answer = live_text(threads, alloc, &mut file, input, out, workers, &OpenGate);
@@ -214,7 +215,7 @@ pub(crate) fn redact<T: Source, K: Sink>(
 
 /// Redacts the trace from where calls begin, also of what the host writes to frames of active VMs.
 #[inline(never)]
-pub(crate) fn redact_host<F: Files, T: Source, K: Sink, R: Threads + Wait + Sync>(
+pub(crate) fn redact_host<F: Files, T: Headed, K: Sink, R: Threads + Wait + Sync>(
     system: &System<'_, R>,
     files: &mut F,
     start: Start<'_>,
@@ -231,8 +232,9 @@ pub(crate) fn redact_host<F: Files, T: Source, K: Sink, R: Threads + Wait + Sync
     let (threads, alloc, lanes) = (system.threads, system.alloc, system.lanes);
     let origin = start.origin();
     let Some(path) = start.path() else {
-        let mut text = DefaultText::new();
-        return counted(redact_host_text(threads, alloc, &mut text, input, out, origin, lanes));
+        let text = unnamed(alloc, input)?;
+        let mut start = StartText::new(&text);
+        return counted(redact_host_text(threads, alloc, &mut start, input, out, origin, lanes));
     };
     let mut file = open(files, path)?;
     let answer = redact_host_text(threads, alloc, &mut file, input, out, origin, lanes);

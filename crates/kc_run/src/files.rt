@@ -1,7 +1,7 @@
 //! The files that a job names.
 ghost use Rattle.std.specs.Prelude.{◌≡◌, false, List, ℕ, Option, Some, None, Err, IfOk, OnOk};
 
-use kc_cli::Source;
+use kc_cli::Headed;
 
 /// Why a file is not open.
 #[derive(Clone, Copy, Debug, PartialEq, Eq)]
@@ -15,7 +15,7 @@ pub enum Unopened {
 /// The files that a job names, by their paths.
 pub trait Files {
     /// A file that is open to be read.
-    type File: Source + Drop;
+    type File: Headed + Drop;
 
     /// The bytes of the file at a path, if the files report them.
     ghost held: { Self → List ℕ → Option (List ℕ) };

@@ -11,12 +11,12 @@ use crate::ending::{Ending, Exit, end};
 use crate::engines::{System, audit, live, redact, redact_host, replay};
 use crate::files::Files;
 use kc_args::{Action, Job};
-use kc_cli::{CustodyOrder, ReplayOrder, Sink, Source, TextFault};
+use kc_cli::{CustodyOrder, Headed, ReplayOrder, Sink, TextFault};
 use std::sync::Wait;
 use std::thread::Threads;
 
 /// Runs the engine of an action.
-fn run_action<F: Files, T: Source, K: Sink, R: Threads + Wait + Sync>(
+fn run_action<F: Files, T: Headed, K: Sink, R: Threads + Wait + Sync>(
     system: &System<'_, R>,
     files: &mut F,
     action: Action<'_>,
@@ -65,7 +65,7 @@ fn run_action<F: Files, T: Source, K: Sink, R: Threads + Wait + Sync>(
 }
 
 /// Runs the engine of an action over the file that is named, or over standard input if none is.
-fn run_over<F: Files, T: Source, K: Sink, R: Threads + Wait + Sync>(
+fn run_over<F: Files, T: Headed, K: Sink, R: Threads + Wait + Sync>(
     system: &System<'_, R>,
     files: &mut F,
     path: Option<&str>,
@@ -94,7 +94,7 @@ fn run_over<F: Files, T: Source, K: Sink, R: Threads + Wait + Sync>(
 /// and for custody the files of the volumes after it, writes onto the sink what is asked for, and onto the error sink
 /// the line of a fault, of a state that differs, or of a trace that is probably of another machine. Each file that was
 /// opened is given back.
-pub fn run_job<F: Files, T: Source, K: Sink, L: Sink, R: Threads + Wait + Sync>(
+pub fn run_job<F: Files, T: Headed, K: Sink, L: Sink, R: Threads + Wait + Sync>(
     system: &System<'_, R>,
     files: &mut F,
     job: Job<'_>,

@@ -9,7 +9,7 @@ use Rattle.kc_trace.proofs.HeadWords.{position_spelled, position_again, position
 use Rattle.kc_state_text.specs.StateText.{state_header, second_header, volume_line, header_of, placed_text}
 use Rattle.kc_state_text.specs.Refused.{HasNone, HasHeader}
 use Rattle.kc_state_text.specs.Reading.{BeginsAs}
-use Rattle.kc_state_text.proofs.Lines.{cut-same}
+use Rattle.kc_trace.proofs.Newlines.{cut-same}
 
 -- ---- the line of a position
 

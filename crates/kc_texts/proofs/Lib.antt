@@ -1,4 +1,5 @@
 pub mod Fed
 pub mod Pieces
 pub mod Bytes
+pub mod ReadAhead
 pub mod Volumes

@@ -1,3 +1,4 @@
 pub mod Streamed
 pub mod Ends
+pub mod Headed
 pub mod Written

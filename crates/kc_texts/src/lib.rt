@@ -2,13 +2,14 @@
 //! and texts read whole.
 //!
 //! - what bytes come from and go to: `src/source.rt`; a reader or a writer of std, or memory, as that:
-//!   `src/standard.rt`, `src/mem.rt`
+//!   `src/standard.rt`, `src/mem.rt`; a source whose head is seen before it is read: `src/ahead.rt`, `specs/Headed.antt`
 //! - a trace, as it comes: `src/stream.rt`, `specs/Streamed.antt`; all that a source has: `src/whole.rt`; how a source
 //!   may fail: `specs/Ends.antt`
 //! - what has a line: `src/line.rt`; the number of its volume before it: `src/placed.rt`; how lines are written in
 //!   pieces: `src/lines.rt`
 #![tactic(auto)]
 
+mod ahead;
 mod line;
 mod lines;
 mod mem;
@@ -18,6 +19,7 @@ mod standard;
 mod stream;
 mod whole;
 
+pub use ahead::{Ahead, Headed};
 pub use line::Line;
 pub use lines::{
     empty_piece, give_answers, give_lines, give_placed, give_replies, give_trace, write_whole,

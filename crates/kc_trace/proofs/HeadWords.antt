@@ -1,5 +1,5 @@
 -- Words and lines of a head have one spelling.
-use Rattle.std.proofs.Common.{ℕ, ◌≡◌, ◌≢◌, ◌<◌, ◌≤◌, ◌^◌, Bool, true, false, cond, List, [], ◌∷◌, ◌++◌, length, map, All, Option, Some, None, refl, sym, ap, subst, ◌∙◌, arith, inl, inr, append-nil}
+use Rattle.std.proofs.Common.{ℕ, ◌≡◌, ◌≢◌, ◌<◌, ◌≤◌, ◌^◌, Bool, true, false, cond, List, [], ◌∷◌, ◌++◌, length, map, All, Option, Some, None, refl, sym, ap, subst, ◌∙◌, arith, inl, inr, append-nil, length-append}
 use Rattle.std.specs.Prelude.{◌==◌, ◌*◌, ◌+◌, ◌||◌, ◌&&◌, nat_le, nat_lt, is_none, option_map, codes, option_and_then}
 use Rattle.std.specs.Str.{bytes_eq}
 use Rattle.std.specs.List.{AllByRecursion, flat_map, join_with_byte, list_all}
@@ -10,7 +10,8 @@ use Rattle.std.proofs.lemmas.Grind.{flat_map-append}
 use Rattle.kc_trace.specs.declared.header.Head.{Head}
 use Rattle.kc_trace.specs.declared.header.Position.{Position}
 use Rattle.kc_trace.specs.declared.header.Position.TheVariants.{First, Later}
-use Rattle.kc_trace.specs.Header.{Begun, IsPosition, version_number, machine_numbers, machine_line, approved_line, position_words, position_line, head_lines, ended_lines}
+use Rattle.kc_trace.specs.declared.header.Header.TheVariants.{Three}
+use Rattle.kc_trace.specs.Header.{Begun, IsHead, IsPosition, version_number, machine_numbers, machine_line, approved_line, position_words, position_line, head_lines, ended_lines, trace_header}
 use Rattle.hex.specs.Hex.{encode_lower, lower_digits}
 use Rattle.hex.proofs.HexLemmas.{length-encode_with}
 use Rattle.kc_model.specs.Volumes.{IsDigest}
@@ -421,3 +422,35 @@ pub position_fits : (position : Position) → IsPosition position → Fits (posi
 unfolding position_line
 position_fits position is =
     (join_is_one_line (codes "volume") (position_words position) (position_words_are position is), omega (arith, length-join (codes "volume") (position_words position), position_width position is))
+
+-- ---- how long a head is
+
+machine_width : (config : Configuration) (awaited : ℕ) → IsConfiguration config → awaited ≤ digest_limit → length (machine_line config awaited) ≤ 83
+unfolding machine_line
+machine_width config awaited is few = omega (arith, length-join (codes "config") (map decimal (machine_numbers config awaited)), width_of (machine_numbers config awaited) (numbers_fit config awaited is few))
+
+approved_width : (digest : List ℕ) → IsDigest digest → length (approved_line digest) ≡ 73
+unfolding approved_line
+approved_width digest is =
+    let long = is.long in
+    omega (arith, length-join (codes "approved") (encode_lower digest ∷ []), length-encode_with lower_digits digest, long)
+
+position_line_width : (position : Position) → IsPosition position → length (position_line position) ≤ 86
+unfolding position_line
+position_line_width position is = omega (arith, length-join (codes "volume") (position_words position), position_width position is)
+
+digests_width : (digests : List (List ℕ)) → AllByRecursion IsDigest digests → length (flat_map (λ digest. approved_line digest ++ 10 ∷ []) digests) ≡ 74 * length digests
+digests_width [] each = refl
+digests_width (digest ∷ digests) each = omega (arith, length-append (approved_line digest ++ 10 ∷ []) (flat_map (λ d. approved_line d ++ 10 ∷ []) digests), length-append (approved_line digest) (10 ∷ []), approved_width digest each.0, digests_width digests each.1)
+
+-- a head is no longer than the longest line of a call
+pub head_width : (head : Head) → IsHead head → length (trace_header (Three head)) ≤ line_limit
+head_width head is =
+    let config = head.config in
+    let few = is.config.few_digests in
+    let machine : List ℕ = machine_line config (length config.approved) ++ 10 ∷ [] in
+    let digests : List ℕ = flat_map (λ digest. approved_line digest ++ 10 ∷ []) config.approved in
+    let position : List ℕ = position_line head.position ++ 10 ∷ [] in
+    omega (arith, few, length-append (codes "kcore-trace 3" ++ 10 ∷ []) (ended_lines (head_lines head)), ap length (head_ended head), length-append machine (digests ++ position), length-append digests position,
+    length-append (machine_line config (length config.approved)) (10 ∷ []), length-append (position_line head.position) (10 ∷ []),
+    machine_width config (length config.approved) is.config few, digests_width config.approved is.digests, position_line_width head.position is.position)

@@ -74,7 +74,7 @@ first_fits line next e = elim (chosen (bytes_eq line (codes "kcore-trace 1")) (S
   ]
 ]
 
-read_fits : (head : HeadSoFar) (line : List ℕ) (next : NextLine) → next_line head line ≡ Some next → Fits line
+pub read_fits : (head : HeadSoFar) (line : List ℕ) (next : NextLine) → next_line head line ≡ Some next → Fits line
 read_fits Nothing line next e = first_fits line next e
 read_fits FirstLine line next e =
     let found = map_some (λ begun. More (Machine begun)) (machine_in (words_in line)) next e in
@@ -124,7 +124,7 @@ record IsReached (head : HeadSoFar) (lines : List (List ℕ)) (rest : List ℕ) 
   lines_are : lines_so_far reached ≡ lines_so_far head ++ lines
   goes : feed (at_head head) (ended_lines lines ++ rest) ≡ feed (at_head reached) rest
 
-line_first : (line : List ℕ) (lines : List (List ℕ)) (rest : List ℕ) → ended_lines (line ∷ lines) ++ rest ≡ line ++ 10 ∷ (ended_lines lines ++ rest)
+pub line_first : (line : List ℕ) (lines : List (List ℕ)) (rest : List ℕ) → ended_lines (line ∷ lines) ++ rest ≡ line ++ 10 ∷ (ended_lines lines ++ rest)
 line_first line lines rest = append_assoc (line ++ 10 ∷ []) (ended_lines lines) rest ∙ append_assoc line (10 ∷ []) (ended_lines lines ++ rest)
 
 some_line : (lines : List (List ℕ)) (last : List ℕ) (more : List (List ℕ)) → (first : List ℕ) × (others : List (List ℕ)) × (lines ++ last ∷ more ≡ first ∷ others)

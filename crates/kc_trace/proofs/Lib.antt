@@ -1,7 +1,9 @@
+pub mod Newlines
 pub mod HeadWords
 pub mod HeadStages
 pub mod Outcomes
 pub mod Headers
+pub mod HeaderCuts
 pub mod Lines
 pub mod Spelled
 pub mod Cuts

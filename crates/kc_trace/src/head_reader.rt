@@ -1,6 +1,7 @@
 //! Reading the lines of a header one after another: the first, and those of the head that may follow it.
-ghost use Rattle.std.specs.Prelude.{◌≡◌, ◌++◌, IfOk, IfSome, MatchOption, None, Some};
+ghost use Rattle.std.specs.Prelude.{◌≡◌, ◌≢◌, ◌++◌, ℕ, List, IfOk, IfSome, MatchOption, None, Some, Ok};
 ghost use Rattle.kc_trace.specs.Header.{IsHeader, trace_header};
+ghost use Rattle.kc_trace.specs.declared.header.Header.{Header};
 ghost use Rattle.kc_trace.specs.HeadReading.{take_name, take_word, take_number, take_pair, take_digest, words_in, version_numbered, machine_in, approved_in, position_of, position_in, first_line_read, machine_line_read, next_line, next_number, is_nothing};
 
 use crate::header::{Head, Header, Position};
@@ -268,8 +269,10 @@ impl HeadSoFar {
 /// Reads the header that some bytes begin with, and returns it with the bytes after it; `None` if they do not begin with
 /// all of one.
 pub fn read_header(alloc: Global, bytes: &[u8]) -> Result<Option<(Header, &[u8])>, Memory>
-    ensures { IfOk result (λ found. IfSome found
+    ensures found { IfOk result (λ found. IfSome found
         (λ cut. IsHeader cut.0 × (bytes.now ≡ trace_header cut.0 ++ cut.1.now))) }
+    ensures none { result ≡ Ok None
+        → (header : Header) (rest : List ℕ) → IsHeader header → bytes.now ≢ trace_header header ++ rest }
 {
     let mut head = HeadSoFar::Nothing;
     let mut rest = bytes;
