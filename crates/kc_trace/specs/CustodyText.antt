@@ -20,6 +20,8 @@ use Rattle.kc_types.specs.declared.custody.Event.TheVariants as event
 use Rattle.kc_trace.specs.declared.custody_writer.StartDigest.{StartDigest}
 use Rattle.kc_trace.specs.declared.custody_writer.StartDigest.TheVariants as start
 use Rattle.kc_trace.specs.declared.custody_writer.Digests.{Digests}
+use Rattle.kc_trace.specs.declared.volume_writer.VolumeNumbers.{VolumeNumbers}
+use Rattle.kc_trace.specs.declared.volume_writer.Chain.{Chain}
 use Rattle.kc_trace.specs.declared.custody_writer.Heading.{Heading}
 use Rattle.kc_trace.specs.declared.volume_writer.VolumeEntry.{VolumeEntry}
 
@@ -98,11 +100,11 @@ line_of_event _ = 0
 abbrev pub AreInLine : List VolumeEntry → Type 0
 AreInLine volumes = IsNonDecreasingBy (λ (volume : VolumeEntry). volume.line) volumes
 
--- the number of the volume that a line is in: how many of them begin on it or before it
+-- the place of the volume that a line is in, counted from 1: how many of them begin on it or before it
 abbrev pub volume_of : List VolumeEntry → ℕ → ℕ
 volume_of volumes line = length (filter (λ (volume : VolumeEntry). nat_le volume.line line) volumes)
 
--- a line of custody, with the number of its volume first if there are several
+-- a line of custody, with the place of its volume first if there are several
 abbrev pub placed_text : List VolumeEntry → ℕ → List ℕ → List ℕ
 placed_text [] line text = text
 placed_text volumes line [] = []
@@ -140,6 +142,21 @@ accesses_text true = codes ",\"accesses\":\"unseen\""
 abbrev pub volume_count_text : ℕ → List ℕ
 volume_count_text count = if count == 0 then [] else member (codes ",\"volumes\":") count
 
+-- the numbers of the first and the last volume, as their heads say
+abbrev pub numbers_text : VolumeNumbers → List ℕ
+numbers_text numbers = member (codes ",\"first\":") numbers.first ++ member (codes ",\"last\":") numbers.last
+
+-- these numbers; or, if there are several volumes and their heads do not say in which order they come, that this is not
+-- judged
+abbrev pub order_text : ℕ → Option VolumeNumbers → List ℕ
+order_text count None = if count == 0 then [] else codes ",\"order\":\"not judged\""
+order_text count (Some numbers) = numbers_text numbers
+
+-- which volumes were read, and whether it was judged that each follows the one before it; nothing for one trace without
+-- a head
+abbrev pub chain_text : Chain → List ℕ
+chain_text chain = volume_count_text chain.count ++ order_text chain.count chain.numbers
+
 -- the version of the text and of kcore
 abbrev pub versions_text : List ℕ
 versions_text = codes "2,\"kcore\":\"" ++ (version_text ++ codes "\"")
@@ -154,25 +171,30 @@ refused_count_text None = []
 refused_count_text (Some count) = member (codes ",\"refused\":") count
 
 -- what the first line says: the versions, what was read, the sizes of the core, perhaps how many calls were refused or
--- rejected, whether the machine's accesses are in the trace, and how many volumes it has
+-- rejected, whether the machine's accesses are in the trace, and which volumes were read
 abbrev pub heading_text : Heading → Configuration → Option ℕ → List ℕ
 heading_text heading config refused = versions_text ++ (digests_text heading.digests ++ (sizes_text config ++ (refused_count_text refused
-    ++ (accesses_text heading.is_unseen ++ (volume_count_text heading.volumes ++ (codes "}" ++ 10 ∷ []))))))
+    ++ (accesses_text heading.is_unseen ++ (chain_text heading.chain ++ (codes "}" ++ 10 ∷ []))))))
 
 -- the first line
 abbrev pub header_line : Heading → Configuration → List ℕ
 header_line heading config = codes "{\"custody\":" ++ heading_text heading config None
 
--- the line of a volume by its number: the line of its first call, how many calls it has, and its digest, if texts are
--- named
-abbrev pub volume_line : ℕ → VolumeEntry → List ℕ
-volume_line number volume = member (codes "{\"volume\":") number ++ (member (codes ",\"line\":") volume.line ++ (member (codes ",\"calls\":") volume.calls
-    ++ (trace_text volume.digest ++ (codes "}" ++ 10 ∷ []))))
+-- the number of a volume in its history, if it has a head, which says it
+abbrev pub head_number_text : Option ℕ → List ℕ
+head_number_text None = []
+head_number_text (Some number) = member (codes ",\"number\":") number
 
--- the lines of these volumes, by their numbers from this one on
+-- the line of a volume by its place among those that were read: the line of its first call, how many calls it has, its
+-- number if it has a head, and its digest, if texts are named
+abbrev pub volume_line : ℕ → VolumeEntry → List ℕ
+volume_line place volume = member (codes "{\"volume\":") place ++ (member (codes ",\"line\":") volume.line ++ (member (codes ",\"calls\":") volume.calls
+    ++ (head_number_text volume.number ++ (trace_text volume.digest ++ (codes "}" ++ 10 ∷ [])))))
+
+-- the lines of these volumes, by their places from this one on
 abbrev pub volumes_from : ℕ → List VolumeEntry → List ℕ
-volumes_from number [] = []
-volumes_from number (volume ∷ volumes) = volume_line number volume ++ volumes_from (number + 1) volumes
+volumes_from place [] = []
+volumes_from place (volume ∷ volumes) = volume_line place volume ++ volumes_from (place + 1) volumes
 
 -- the lines of all volumes
 abbrev pub volumes_text : List VolumeEntry → List ℕ
@@ -216,7 +238,11 @@ longest_start = 110
 abbrev pub longest_digests : ℕ
 longest_digests = 190
 
--- and for that of a volume's number with what comes before it, and of a volume's line
+-- for that of which volumes were read
+abbrev pub longest_chain : ℕ
+longest_chain = 88
+
+-- and for that of a volume's place with what comes before it, and of a volume's line
 abbrev pub longest_place : ℕ
 longest_place = 30
 

@@ -31,6 +31,11 @@ abbrev pub number_of : Position → ℕ
 number_of position.First = 1
 number_of (position.Later number after) = number
 
+-- the number of a volume, if it has a head
+abbrev pub head_number : Header → Option ℕ
+head_number (Three head) = Some (number_of head.position)
+head_number header = None
+
 -- which header the next volume may have, by the header of this one and the digest of its redacted text, if it has a head
 abbrev pub expected_after : Header → Option (List ℕ) → Expected
 expected_after (Three head) (Some digest) = After (number_of head.position) digest

@@ -4,8 +4,9 @@ ghost use Rattle.std.specs.List.{flat_map};
 ghost use Rattle.std.specs.Fmt.{decimal};
 ghost use Rattle.kc_types.specs.Limits.{image_limit};
 ghost use Rattle.kc_types.specs.Configuration.{slot_count};
-ghost use Rattle.kc_trace.specs.CustodyText.{owner_text, number_text, flag_text, phase_text, custody_text, frame_line, image_text, more_image_text, images_text, phase_line, change_line, version_text, digest_text, trace_text, start_text, digests_text, accesses_text, volume_count_text, versions_text, sizes_text, refused_count_text, heading_text, header_line, end_line, longest_custody, longest_image, longest_images, longest_change, longest_digest, longest_trace, longest_start, longest_digests};
+ghost use Rattle.kc_trace.specs.CustodyText.{owner_text, number_text, flag_text, phase_text, custody_text, frame_line, image_text, more_image_text, images_text, phase_line, change_line, version_text, digest_text, trace_text, start_text, digests_text, accesses_text, versions_text, sizes_text, refused_count_text, heading_text, header_line, end_line, longest_custody, longest_image, longest_images, longest_change, longest_digest, longest_trace, longest_start, longest_digests};
 
+use crate::volume_writer::{Chain, push_chain};
 use itoa::Buffer;
 use kc_lines::{push_bytes, push_digits};
 use kc_types::{
@@ -44,8 +45,8 @@ pub struct Heading {
     pub digests: Option<Digests>,
     /// Whether the machine's own reads and writes are not in the trace.
     pub is_unseen: bool,
-    /// How many volumes were read, if there were several; otherwise 0.
-    pub volumes: u32,
+    /// Which volumes were read.
+    pub chain: Chain,
 }
 
 /// Appends some bytes and a number.
@@ -314,18 +315,6 @@ fn push_accesses(text: &mut Vec<u8>, is_unseen: bool)
     }
 }
 
-/// Appends how many volumes were read, if there were several.
-fn push_volume_count(text: &mut Vec<u8>, count: u32)
-    requires { vec_len text.old + 31 ≤ vec_capacity text.old }
-    ensures items { text.new.items ≡ text.old.items ++ volume_count_text count }
-    ensures len { vec_len text.new ≤ vec_len text.old + 31 }
-    ensures capacity { vec_capacity text.old ≤ vec_capacity text.new }
-{
-    if count != 0 {
-        push_member(text, b",\"volumes\":", count as usize);
-    }
-}
-
 /// Appends the sizes of the core, from which the boot state follows.
 fn push_sizes(text: &mut Vec<u8>, config: &Config)
     requires { vec_len text.old + 128 ≤ vec_capacity text.old }
@@ -353,7 +342,7 @@ fn push_refused_count(text: &mut Vec<u8>, refused: Option<usize>)
 
 /// Appends what the first line of custody and of a summary says, with its newline: the versions, what was read, the
 /// sizes of the core, perhaps how many calls were refused or rejected, whether the machine's accesses are in the trace,
-/// and how many volumes it has.
+/// and which volumes were read.
 pub(crate) fn push_heading(
     text: &mut Vec<u8>,
     heading: &Heading,
@@ -369,7 +358,7 @@ pub(crate) fn push_heading(
     push_sizes(text, config);
     push_refused_count(text, refused);
     push_accesses(text, heading.is_unseen);
-    push_volume_count(text, heading.volumes);
+    push_chain(text, &heading.chain);
     push_bytes(text, b"}\n");
 }
 

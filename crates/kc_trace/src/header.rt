@@ -2,6 +2,7 @@
 //! they come.
 ghost use Rattle.std.specs.Prelude.{◌≡◌, ◌≤◌, IfOk};
 ghost use Rattle.kc_trace.specs.Header.{has_head, first_call_line};
+ghost use Rattle.kc_trace.specs.Expected.{head_number};
 
 use kc_types::{Config, Memory};
 use std::alloc::Global;
@@ -66,6 +67,16 @@ impl Header {
         ensures { result ≡ has_head self.now }
     {
         matches!(self, Header::Three(_))
+    }
+
+    /// The number of the volume, counted from 1, if it has a head.
+    pub fn number(&self) -> Option<u32>
+        ensures { result ≡ head_number self.now }
+    {
+        match self {
+            Header::Three(head) => Some(head.position.number()),
+            _ => None,
+        }
     }
 
     /// The number of the line of the first call, counted from 1: 2, or 4 more than digests are approved.

@@ -8,7 +8,7 @@
 //!   (`specs/CustodyText.antt`), `src/remark_writer.rt` (`specs/RemarkText.antt`), `src/summary_writer.rt`
 //!   (`specs/SummaryText.antt`)
 //! - the headers of traces: `src/header.rt`
-//! - the volumes of a chain, and which one a line is in: `src/volume_writer.rt`
+//! - the volumes that were read, and which one a line is in: `src/volume_writer.rt`
 #![tactic(auto)]
 
 mod answer_writer;
@@ -42,5 +42,7 @@ pub use reader::{TraceReader, read_trace};
 pub use remark_writer::{call_name, push_access, push_denied};
 pub use reply_writer::{LONGEST_REPLY, push_reply, write_replies};
 pub use summary_writer::summary_text;
-pub use volume_writer::{LONGEST_PLACE, VolumeEntry, push_place, push_volumes, volume_of};
+pub use volume_writer::{
+    Chain, LONGEST_PLACE, VolumeEntry, VolumeNumbers, push_place, push_volumes, volume_of,
+};
 pub use writer::{LONGEST_CALL, header_of, push_call, write_trace};

@@ -1,6 +1,7 @@
-//! The volumes of a chain that was read in one run: a line for each (JSON Lines, RFC 8259), and which one a line is in.
+//! The volumes that were read in one run: which ones they are, a line for each (JSON Lines, RFC 8259), and which one a
+//! line is in.
 ghost use Rattle.std.specs.Prelude.{◌≡◌, ◌≤◌, ◌+◌, ◌++◌, codes, vec_len, vec_capacity, OnOk};
-ghost use Rattle.kc_trace.specs.CustodyText.{AreInLine, volume_of, member, volume_line, volumes_text, longest_place, longest_volume};
+ghost use Rattle.kc_trace.specs.CustodyText.{AreInLine, volume_of, member, head_number_text, numbers_text, chain_text, volume_line, volumes_text, longest_chain, longest_place, longest_volume};
 
 use crate::custody_writer::{push_member, push_trace};
 use kc_lines::push_bytes;
@@ -9,21 +10,40 @@ use kc_types::Memory;
 /// More bytes than the line of a volume, with its newline.
 const LONGEST_VOLUME: usize = 256;
 
-/// The most bytes that the number of a volume has, with what comes before it.
+/// The most bytes that the place of a volume has, with what comes before it.
 pub const LONGEST_PLACE: usize = 30;
 
-/// A volume of a chain that was read in one run.
+/// A volume that was read.
 #[derive(Clone, Copy, Debug, PartialEq, Eq)]
 pub struct VolumeEntry {
     /// The line of its first call, as lines run on through all volumes: 2 for that of the first.
     pub line: u32,
     /// How many calls it has.
     pub calls: u32,
+    /// Its number in its history, counted from 1, if it has a head, which says it.
+    pub number: Option<u32>,
     /// The SHA-256 digest (FIPS 180-4) of its text, if texts are named.
     pub digest: Option<[u8; 32]>,
 }
 
-/// The number of the volume that a line is in: 1 for the first, and 0 for a line before all volumes.
+/// The numbers of the first and the last of some volumes, as their heads say.
+#[derive(Clone, Copy, Debug, PartialEq, Eq)]
+pub struct VolumeNumbers {
+    pub first: u32,
+    pub last: u32,
+}
+
+/// Which volumes a report is of, and whether it was judged that each follows the one before it.
+#[derive(Clone, Copy, Debug, PartialEq, Eq)]
+pub struct Chain {
+    /// How many volumes were read, if there were several; otherwise 0.
+    pub count: u32,
+    /// The numbers of the first and the last, if all have heads, by which each follows the one before it; `None` if
+    /// they have none: then their order is not judged.
+    pub numbers: Option<VolumeNumbers>,
+}
+
+/// The place of the volume that a line is in: 1 for the first that was read, and 0 for a line before all volumes.
 pub fn volume_of(volumes: &[VolumeEntry], line: u32) -> usize
     requires { AreInLine volumes.now }
     ensures { result ≡ volume_of volumes.now line }
@@ -31,28 +51,72 @@ pub fn volume_of(volumes: &[VolumeEntry], line: u32) -> usize
     volumes.partition_point(|volume| volume.line <= line)
 }
 
-/// Appends the number of a volume, with what the lines of its calls begin with, for which there is room: memory does
-/// not grow.
-pub fn push_place(text: &mut Vec<u8>, number: usize)
+/// Appends the place of a volume, with what the lines of its calls begin with, for which there is room: memory does not
+/// grow.
+pub fn push_place(text: &mut Vec<u8>, place: usize)
     requires { vec_len text.old + longest_place ≤ vec_capacity text.old }
-    ensures items { text.new.items ≡ text.old.items ++ member (codes "{\"volume\":") number }
+    ensures items { text.new.items ≡ text.old.items ++ member (codes "{\"volume\":") place }
     ensures len { vec_len text.new ≤ vec_len text.old + longest_place }
     ensures capacity { vec_capacity text.old ≤ vec_capacity text.new }
 {
-    push_member(text, b"{\"volume\":", number);
+    push_member(text, b"{\"volume\":", place);
+}
+
+/// Appends the number of a volume in its history, if its head says it.
+fn push_head_number(text: &mut Vec<u8>, number: Option<u32>)
+    requires { vec_len text.old + 30 ≤ vec_capacity text.old }
+    ensures items { text.new.items ≡ text.old.items ++ head_number_text number }
+    ensures len { vec_len text.new ≤ vec_len text.old + 30 }
+    ensures capacity { vec_capacity text.old ≤ vec_capacity text.new }
+{
+    if let Some(number) = number {
+        push_member(text, b",\"number\":", number as usize);
+    }
 }
 
 /// Appends the line of a volume, with its newline.
-fn push_volume(text: &mut Vec<u8>, number: usize, volume: &VolumeEntry)
+fn push_volume(text: &mut Vec<u8>, place: usize, volume: &VolumeEntry)
     requires { vec_len text.old + longest_volume ≤ vec_capacity text.old }
-    ensures line { text.new.items ≡ text.old.items ++ volume_line number volume.now }
+    ensures line { text.new.items ≡ text.old.items ++ volume_line place volume.now }
     ensures capacity { vec_capacity text.old ≤ vec_capacity text.new }
 {
-    push_place(text, number);
+    push_place(text, place);
     push_member(text, b",\"line\":", volume.line as usize);
     push_member(text, b",\"calls\":", volume.calls as usize);
+    push_head_number(text, volume.number);
     push_trace(text, &volume.digest);
     push_bytes(text, b"}\n");
+}
+
+/// Appends the numbers of the first and the last volume.
+fn push_numbers(text: &mut Vec<u8>, numbers: &VolumeNumbers)
+    requires { vec_len text.old + 57 ≤ vec_capacity text.old }
+    ensures items { text.new.items ≡ text.old.items ++ numbers_text numbers.now }
+    ensures len { vec_len text.new ≤ vec_len text.old + 57 }
+    ensures capacity { vec_capacity text.old ≤ vec_capacity text.new }
+{
+    push_member(text, b",\"first\":", numbers.first as usize);
+    push_member(text, b",\"last\":", numbers.last as usize);
+}
+
+/// Appends which volumes were read, and that their order was not judged, if it was not.
+pub(crate) fn push_chain(text: &mut Vec<u8>, chain: &Chain)
+    requires { vec_len text.old + longest_chain ≤ vec_capacity text.old }
+    ensures items { text.new.items ≡ text.old.items ++ chain_text chain.now }
+    ensures len { vec_len text.new ≤ vec_len text.old + longest_chain }
+    ensures capacity { vec_capacity text.old ≤ vec_capacity text.new }
+{
+    if chain.count != 0 {
+        push_member(text, b",\"volumes\":", chain.count as usize);
+    }
+    match &chain.numbers {
+        Some(numbers) => push_numbers(text, numbers),
+        None => {
+            if chain.count != 0 {
+                push_bytes(text, b",\"order\":\"not judged\"");
+            }
+        },
+    }
 }
 
 /// Appends the lines of all volumes. `Memory` if memory runs out.
