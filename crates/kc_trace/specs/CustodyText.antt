@@ -121,6 +121,7 @@ digest_text digest = codes "\"" ++ (encode_lower digest ++ codes "\"")
 -- the configuration, by its digest if it is not the default one, or the state
 abbrev pub start_text : StartDigest → List ℕ
 start_text start.Default = codes ",\"config\":\"default\",\"state\":null"
+start_text start.Head = codes ",\"config\":\"head\",\"state\":null"
 start_text (start.Config digest) = codes ",\"config\":" ++ (digest_text digest ++ codes ",\"state\":null")
 start_text (start.State digest) = codes ",\"config\":null,\"state\":" ++ digest_text digest
 

@@ -19,11 +19,13 @@ pub const LONGEST_CHANGE: usize = 768;
 /// The version of kcore, which `kcore --version` prints too.
 pub const VERSION: &str = "2.0.0";
 
-/// What calls begin with, by the SHA-256 digest (FIPS 180-4) of its text.
+/// What calls begin with, by the SHA-256 digest (FIPS 180-4) of its text if that is a file's.
 #[derive(Clone, Copy, Debug, PartialEq, Eq)]
 pub enum StartDigest {
     /// The default configuration.
     Default,
+    /// The machine in the head of the first trace.
+    Head,
     /// The configuration with this digest.
     Config([u8; 32]),
     /// The state with this digest.
@@ -267,6 +269,7 @@ fn push_start(text: &mut Vec<u8>, start: &StartDigest)
 {
     match start {
         StartDigest::Default => push_bytes(text, b",\"config\":\"default\",\"state\":null"),
+        StartDigest::Head => push_bytes(text, b",\"config\":\"head\",\"state\":null"),
         StartDigest::Config(digest) => {
             push_bytes(text, b",\"config\":");
             push_digest(text, digest);
