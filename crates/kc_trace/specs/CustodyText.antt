@@ -118,7 +118,7 @@ version_text = codes "2.0.0"
 abbrev pub digest_text : List ℕ → List ℕ
 digest_text digest = codes "\"" ++ (encode_lower digest ++ codes "\"")
 
--- the configuration, by its digest if it is not the default one, or the state
+-- the configuration, by its digest if it is that of a file, or the state
 abbrev pub start_text : StartDigest → List ℕ
 start_text start.Default = codes ",\"config\":\"default\",\"state\":null"
 start_text start.Head = codes ",\"config\":\"head\",\"state\":null"
