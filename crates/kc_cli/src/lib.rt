@@ -35,7 +35,9 @@ pub use history::replay_history;
 pub use kc_digests::Lanes;
 pub use kc_faults::{Origin, TextFault, tell};
 pub use kc_remarks::{Answered, Denials, Remarks, refusals};
-pub use kc_texts::{Ahead, Failed, Headed, Mem, ReadFault, Sink, Source, Std, read_whole, write_whole};
+pub use kc_texts::{
+    Ahead, Failed, Headed, Mem, ReadFault, Sink, Source, Std, read_whole, write_whole,
+};
 pub use live::live_text;
 pub use order::{ReplayForm, ReplayOrder};
 pub use reading::{DEFAULT_CONFIG, read_both, read_configuration};

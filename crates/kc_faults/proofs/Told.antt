@@ -139,7 +139,7 @@ texts_unread origin start trace unread less result step h = record {
   config_fault = λ f e. let is = h.config_fault f e in (is.0, is.1, is.2, step is.3);
   state_fault = λ f e. let is = h.state_fault f e in (is.0, is.1, is.2, step is.3);
   trace_fault = h.trace_fault;
-  after_start = elim h.after_start [ | inl none ↦ inl (step none) | inr begun ↦ inr begun ];
+  after_start = elim h.after_start [ inl none ↦ inl (step none) | inr begun ↦ inr begun ];
   begun = h.begun;
   told = h.told;
 }

@@ -142,7 +142,15 @@ pub(crate) fn replay<F: Files, T: Headed, K: Sink, R: Threads + Wait + Sync>(
 {
     let Some(path) = start.path() else {
         let text = unnamed(system.alloc, input)?;
-        return replay_to(system, files, &mut StartText::new(&text), input, to, out, order);
+        return replay_to(
+            system,
+            files,
+            &mut StartText::new(&text),
+            input,
+            to,
+            out,
+            order,
+        );
     };
     let mut file = open(files, path)?;
     let ended = replay_to(system, files, &mut file, input, to, out, order);

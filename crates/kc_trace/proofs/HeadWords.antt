@@ -451,6 +451,16 @@ head_width head is =
     let machine : List ℕ = machine_line config (length config.approved) ++ 10 ∷ [] in
     let digests : List ℕ = flat_map (λ digest. approved_line digest ++ 10 ∷ []) config.approved in
     let position : List ℕ = position_line head.position ++ 10 ∷ [] in
-    omega (arith, few, length-append (codes "kcore-trace 3" ++ 10 ∷ []) (ended_lines (head_lines head)), ap length (head_ended head), length-append machine (digests ++ position), length-append digests position,
-    length-append (machine_line config (length config.approved)) (10 ∷ []), length-append (position_line head.position) (10 ∷ []),
-    machine_width config (length config.approved) is.config few, digests_width config.approved is.digests, position_line_width head.position is.position)
+    omega (
+      arith,
+      few,
+      length-append (codes "kcore-trace 3" ++ 10 ∷ []) (ended_lines (head_lines head)),
+      ap length (head_ended head),
+      length-append machine (digests ++ position),
+      length-append digests position,
+      length-append (machine_line config (length config.approved)) (10 ∷ []),
+      length-append (position_line head.position) (10 ∷ []),
+      machine_width config (length config.approved) is.config few,
+      digests_width config.approved is.digests,
+      position_line_width head.position is.position,
+    )

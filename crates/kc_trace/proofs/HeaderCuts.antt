@@ -81,6 +81,7 @@ goes_on_after head next line rest header after is header_is found read = by_more
   where
     made : IsMore head next line
     made = line_next head line (More next) is read
+
     by_more : (more : List (List ℕ)) → header_lines header ≡ lines_so_far head ++ line ∷ more → rest ≡ ended_lines more ++ after → GoesOnAs next rest header after
     by_more [] lines rest_is = absurd (unfinished next header made.is header_is (lines ∙ sym made.lines))
     by_more (first ∷ others) lines rest_is = record {
