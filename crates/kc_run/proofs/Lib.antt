@@ -1,3 +1,5 @@
 pub mod Carried
+pub mod Beginning
+pub mod Unread
 pub mod Reading
 pub mod Reports
