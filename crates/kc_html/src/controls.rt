@@ -47,7 +47,8 @@ function scriptDigest() {
 }
 
 function fillDigests() {
-  const config = head.config === "default" ? "the default one" : head.config ?? (head.state ? "none: the calls begin in a state's text" : null);
+  const known = { default: "the default one", head: "the machine in the head of the trace" };
+  const config = known[head.config] ?? head.config ?? (head.state ? "none: the calls begin in a state's text" : null);
   const read = volumes.some(it => it.trace) ? volumes.map(it => [`SHA-256 of volume ${it.volume}`, it.trace]) : [[`SHA-256 of the ${volumes.length ? "volumes" : "trace"}`, head.trace]];
   const rows = [["kcore", head.kcore], ...read, ["of the configuration", config], ["of the state's text", head.state ?? (head.state === null ? "none: the calls begin at boot" : null)], ["of this page's script", scriptDigest()]];
   for (const [name, text] of rows) {
