@@ -97,9 +97,8 @@ custody_action summary svg html remarks unseen digests None vm = Err clashes.Cus
 custody_action summary svg html remarks unseen digests (Some start) vm =
     form_action (custody_form summary svg html remarks) remarks.accesses start (record { vm = vm; is_unseen = unseen; named = named_by digests start })
 
--- the host's writes are blanked too by replaying the trace, whose start has then to be named; otherwise none may be
+-- the host's writes are blanked too by replaying the trace; otherwise no start may be named
 abbrev pub redact_action : Bool → Start → Result Action Clash
-redact_action true (starts.Boot None) = Err clashes.HostAlone
 redact_action true start = Ok (actions.RedactHost start)
 redact_action false (starts.Boot None) = Ok actions.Redact
 redact_action false (starts.Boot (Some config)) = Err clashes.ConfigAlone

@@ -27,8 +27,6 @@ pub enum Clash {
     ConfigAlone,
     /// `redact --from PATH` without `--host`
     FromAlone,
-    /// `redact --host` without `--config PATH` and `--from PATH`
-    HostAlone,
     /// `custody --summary --refused`
     SummaryRefused,
     /// `custody --summary --accesses`
@@ -62,7 +60,6 @@ impl Clash {
             | Clash::SummaryAccesses
             | Clash::SummaryHtml => "--summary",
             Clash::FromAlone => "--from",
-            Clash::HostAlone => "--host",
             Clash::SvgRefused | Clash::SvgAccesses | Clash::SvgHtml => "--svg",
             Clash::UnseenAccesses => "--unseen",
         }
@@ -73,7 +70,7 @@ impl Clash {
     {
         match self {
             Clash::BlankAlone => "' needs one of '",
-            Clash::ConfigAlone | Clash::FromAlone | Clash::HostAlone => "' needs '",
+            Clash::ConfigAlone | Clash::FromAlone => "' needs '",
             _ => "' cannot be used with '",
         }
     }
@@ -89,7 +86,6 @@ impl Clash {
                 "--from",
             Clash::SummarySvg => "--svg",
             Clash::ConfigAlone | Clash::FromAlone => "--host",
-            Clash::HostAlone => "--config' or '--from",
             Clash::SummaryRefused | Clash::SvgRefused => "--refused",
             Clash::SummaryAccesses | Clash::SvgAccesses | Clash::UnseenAccesses => "--accesses",
             Clash::SummaryHtml | Clash::SvgHtml => "--html",
@@ -105,7 +101,7 @@ impl Clash {
             | Clash::LinesState
             | Clash::BlankAlone
             | Clash::ReplayConfigFrom => "replay [OPTIONS] [FILE]",
-            Clash::RedactConfigFrom | Clash::ConfigAlone | Clash::FromAlone | Clash::HostAlone =>
+            Clash::RedactConfigFrom | Clash::ConfigAlone | Clash::FromAlone =>
                 "redact [OPTIONS] [FILE]",
             _ => "custody [OPTIONS] [FILE]...",
         }

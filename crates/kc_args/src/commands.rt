@@ -40,7 +40,7 @@ fn config_arg<'a>(alloc: Global) -> Arg<'a>
     path_arg(
         alloc,
         "config",
-        "A JSON text: frames, core, host, leaves and approved",
+        "A JSON text: frames, core, host, leaves and approved; a trace with a head needs none",
     )
 }
 
@@ -282,7 +282,7 @@ fn redact_command<'a>(alloc: Global) -> Result<Command<'a>, AllocError>
     );
     let command = with_start(alloc, command)?;
     let help =
-        "Blank also what the host writes to frames of active VMs; needs --config or --from, since the trace is replayed";
+        "Blank also what the host writes to frames of active VMs; a trace without a head needs --config or --from, since it is replayed";
     let command = with_flag(alloc, command, "host", help)?;
     ended(alloc, command, file_arg(alloc, TRACE_HELP))
 }

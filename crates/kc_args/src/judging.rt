@@ -97,12 +97,11 @@ fn named_by(digests: bool, start: Start<'_>) -> Named
     }
 }
 
-/// Whose writes are blanked, by `--host`: with it a start has to be named, and without it none may be.
+/// Whose writes are blanked, by `--host`: without it no start may be named.
 fn redact_action<'a>(host: bool, start: Start<'a>) -> Result<Action<'a>, Clash>
     ensures { result ≡ redact_action host start.entry }
 {
     match (host, start) {
-        (true, Start::Boot(None)) => Err(Clash::HostAlone),
         (true, start) => Ok(Action::RedactHost { start }),
         (false, Start::Boot(None)) => Ok(Action::Redact),
         (false, Start::Boot(Some(_))) => Err(Clash::ConfigAlone),

@@ -78,8 +78,8 @@ impl<'a> Asked<'a> {
         }
     }
 
-    /// Whether calls begin in the boot state of the default configuration.
-    pub fn is_default(&self) -> bool {
+    /// Whether no file is named for what calls begin with.
+    pub fn is_unnamed(&self) -> bool {
         self.start == Start::Boot(None)
     }
 

@@ -31,7 +31,7 @@ pub fn explain_denials(rt: &HostRuntime, answered: &Answered) {
     let _ = eprintln!(rt; "  {denied} of {calls} calls were refused or rejected{reasons}");
 }
 
-/// Says which machine calls were made on if no configuration was named.
+/// Says which machine calls were made on if nothing names one.
 pub fn explain_default(rt: &HostRuntime) {
     let _ = eprintln!(rt;
         "  without --config the machine is the default one: frames 0 to 7, slots 0 to 15"

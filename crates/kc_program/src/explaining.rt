@@ -50,7 +50,7 @@ fn misplacing(fault: &HeaderFault) -> &'static str {
             "its head says after which volume it comes, and that is not the one before it"
         },
         HeaderFault::Missing => {
-            "it has header 1 or 2, which does not say where it comes, and what is before it has header 3"
+            "it has header 1 or 2, which says neither its machine nor where it comes: a head is needed if what is before it has one, and for redact --host without --config and --from"
         },
         HeaderFault::Unexpected => {
             "it has header 3, which says where it comes, and what is before it does not say where it ends"
@@ -211,6 +211,11 @@ impl<'a> Reading<'a> {
     /// The file of this kind, if one was read.
     fn file(&self, kind: Kind) -> Option<&'a Named<'a>> {
         self.files.iter().find(|file| file.kind == kind)
+    }
+
+    /// Whether the trace has a head.
+    pub fn has_head(&self) -> bool {
+        self.input.noted().head().starts_with(b"kcore-trace 3\n")
     }
 
     /// Says more about a fault, after its line.

@@ -36,9 +36,14 @@ fn explain_exit(rt: &HostRuntime, files: &Folder<'_>, input: &Named<'_>, exit: &
 }
 
 /// Says more of how the calls were answered.
-fn explain_answered(rt: &HostRuntime, asked: &Asked<'_>, answered: &Answered) {
+fn explain_answered(
+    rt: &HostRuntime,
+    asked: &Asked<'_>,
+    reading: &Reading<'_>,
+    answered: &Answered,
+) {
     explain_denials(rt, answered);
-    if asked.is_default() {
+    if asked.is_unnamed() && !reading.has_head() {
         explain_default(rt);
     }
 }
@@ -85,7 +90,7 @@ fn run_with<'a, R: Threads + Wait + Sync>(
     if let Some(answered) = &exit.answered
         && (is_told || (asked.explain && answered.is_doubted()))
     {
-        explain_answered(rt, &asked, answered);
+        explain_answered(rt, &asked, &Reading::of(&files, &input, None), answered);
     }
     exit.status
 }

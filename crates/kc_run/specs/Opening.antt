@@ -17,18 +17,20 @@ Held = List ℕ → Option (List ℕ)
 abbrev pub default_config : List ℕ
 default_config = codes "{\"frames\":8,\"core\":1,\"host\":4,\"leaves\":1,\"approved\":[\"ba7816bf8f01cfea414140de5dae2223b00361a396177a9cb410ff61f20015ad\"]}"
 
+-- the text is the header of this trace, which has a head
+abbrev pub IsHeaderOf : Option (List ℕ) → List ℕ → Type 0
+IsHeaderOf trace text = (head : Head) × IsHeadOf trace (Some head) × (text ≡ trace_header (Three head))
+
 -- the text of what calls begin with if no file is named for it: the header of their trace, if that has a head, and otherwise the default configuration
 abbrev pub IsUnnamed : Option (List ℕ) → List ℕ → Type 0
-IsUnnamed trace text =
-    ((head : Head) × IsHeadOf trace (Some head) × (text ≡ trace_header (Three head)))
-    ⊎ (IsHeadOf trace None × (text ≡ default_config))
+IsUnnamed trace text = IsHeaderOf trace text ⊎ (IsHeadOf trace None × (text ≡ default_config))
 
--- this source holds it, and no read of it fails
-pub record IsUnnamedStart (trace : Option (List ℕ)) (source : Seen) : Type 0 where
+-- this source holds such a text, and no read of it fails
+pub record HoldsStart (Spells : List ℕ → Type 0) (source : Seen) : Type 0 where
   pub text : List ℕ
   pub had_is : source.had ≡ Some text
   pub ready : source.failed ≡ false
-  pub unnamed : IsUnnamed trace text
+  pub spells : Spells text
 
 -- whether the trace has a head could not be seen: a read of it failed, or memory ran out
 abbrev pub IsUnseenFault : Bool → TextFault → Type 0

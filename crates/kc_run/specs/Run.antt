@@ -7,7 +7,10 @@ use Rattle.kc_remarks.specs.declared.denials.Answered.{Answered}
 use Rattle.kc_dump_text.specs.declared.fault.DumpFault.{DumpFault}
 use Rattle.kc_dump_text.specs.Refused.{IsRefusedDump}
 use Rattle.kc_trace.specs.declared.fault.TraceFault.{TraceFault}
+use Rattle.kc_trace.specs.declared.fault.TraceFault.TheVariants.{Misplaced}
+use Rattle.kc_trace.specs.declared.expected.HeaderFault.TheVariants.{Missing}
 use Rattle.kc_trace.specs.Trace.{IsRefused}
+use Rattle.kc_texts.specs.Headed.{IsHeadOf}
 use Rattle.kc_faults.specs.declared.origin.Origin.{Origin}
 use Rattle.kc_faults.specs.declared.origin.Origin.TheVariants as origins
 use Rattle.kc_faults.specs.declared.fault.TextFault.{TextFault}
@@ -26,7 +29,7 @@ use Rattle.kc_args.specs.declared.job.Action.TheVariants as actions
 use Rattle.kc_args.specs.Jobs.{Path, path_of, origin_at}
 use Rattle.kc_run.specs.declared.ending.Ending.{Ending}
 use Rattle.kc_run.specs.declared.ending.Ending.TheVariants as endings
-use Rattle.kc_run.specs.Opening.{IsUnnamedStart, IsUnseenFault, IsOfFile, IsOpenFault}
+use Rattle.kc_run.specs.Opening.{IsHeaderOf, IsUnnamed, HoldsStart, IsUnseenFault, IsOfFile, IsOpenFault}
 use Rattle.kc_run.specs.Ends.{Ends, ends_of}
 use Rattle.kc_run.specs.Custody.{ReportsCustody}
 use Rattle.kc_run.specs.Endings.{Ended, Took, status_after, fault_in, answered_in, difference_in, volume_in, IsReported}
@@ -133,18 +136,33 @@ pub record IsUnseen (ends : Ends) (ended : Ended) : Type 0 where
   pub opened : ends.refused ≡ None
   pub untouched : ends.untouched
 
--- what calls begin with follows from the trace, of which the head was seen: the input is as it was then, and if nothing of it was read no byte was taken
-pub record IsSeen (Runs : Seen → Ends → Ended → Type 0) (ends : Ends) (ended : Ended) : Type 0 where
+-- whether the trace has a head was seen, and by that a text of this kind is what calls begin with; if nothing more was read of the trace, all its bytes are left
+pub record IsSeen (Spells : Option (List ℕ) → List ℕ → Type 0) (Runs : Seen → Ends → Ended → Type 0) (ends : Ends) (ended : Ended) : Type 0 where
+  -- what the input held then
   pub had : Option (List ℕ)
   pub same : Keeps ends.input.had had
   pub source : Seen
-  pub start : IsUnnamedStart had source
+  pub start : HoldsStart (Spells had) source
   pub runs : Runs source (record ends { input = record ends.input { had = had }; unread = ends.input.has ≡ had }) ended
+
+-- the trace has no head, so nothing says its machine, and nothing was written
+pub record IsMachineless (ends : Ends) (ended : Ended) : Type 0 where
+  pub same : Keeps ends.input.had ends.input.has
+  pub none : IsHeadOf ends.input.has None
+  pub ended_is : ended ≡ Err (texts.Trace (Misplaced Missing))
+  pub ready : ends.input.failed ≡ false
+  pub opened : ends.refused ≡ None
+  pub untouched : ends.untouched
 
 -- what calls begin with is in the head of their trace or the default configuration, or in the file that is named
 abbrev pub BeginsAt : {S : Type 0} → (S → Option (List ℕ)) → (S → Bool) → Option Path → (Seen → Ends → Ended → Type 0) → Ends → Ended → Type 0
-BeginsAt left failed None Runs ends ended = IsUnseen ends ended ⊎ IsSeen Runs ends ended
+BeginsAt left failed None Runs ends ended = IsUnseen ends ended ⊎ IsSeen IsUnnamed Runs ends ended
 BeginsAt left failed (Some path) Runs ends ended = OverFile left failed path Runs ends ended
+
+-- a redaction of the host's writes too ended so: from the file that is named, or on the machine in the head of the trace
+abbrev pub RedactsHostAt : {S : Type 0} → (S → Option (List ℕ)) → (S → Bool) → Option Path → Origin → Ends → Ended → Type 0
+RedactsHostAt left failed None origin ends ended = IsUnseen ends ended ⊎ (IsMachineless ends ended ⊎ IsSeen IsHeaderOf (RedactsHost origin) ends ended)
+RedactsHostAt left failed (Some path) origin ends ended = OverFile left failed path (RedactsHost origin) ends ended
 
 -- how an action ended; only custody reads the files of volumes after the input
 abbrev pub IsEnding : {S : Type 0} → (S → Option (List ℕ)) → (S → Bool) → Action → List Path → Ends → Ended → Type 0
@@ -153,7 +171,7 @@ IsEnding left failed (actions.Live config workers) after ends ended = BeginsAt l
 IsEnding left failed (actions.Custody start form scope) after ends ended = BeginsAt left failed (path_of start) (ReportsCustody left failed (origin_at start) form scope after) ends ended
 IsEnding left failed (actions.Audit all) after ends ended = AuditsDump all ends ended
 IsEnding left failed actions.Redact after ends ended = RedactsTrace ends ended
-IsEnding left failed (actions.RedactHost start) after ends ended = BeginsAt left failed (path_of start) (RedactsHost (origin_at start)) ends ended
+IsEnding left failed (actions.RedactHost start) after ends ended = RedactsHostAt left failed (path_of start) (origin_at start) ends ended
 
 -- how an action ended over the file that is named, by all the bytes that it held; `left` and `failed` say of a file what is left of it, and whether a read of it failed. Nothing was read of standard input
 pub record ReadsFile {S : Type 0} (left : S → Option (List ℕ)) (failed : S → Bool) (path : Path) (action : Action) (after : List Path) (ends : Ends) (ended : Ended) : Type 0 where

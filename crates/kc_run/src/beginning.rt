@@ -1,7 +1,8 @@
 //! What calls begin with, as a source.
-ghost use Rattle.std.specs.Prelude.{◌≡◌, false, true, Some, None, Err, IfOk, IfErr, OnOk};
+ghost use Rattle.std.specs.Prelude.{◌≡◌, false, Some, None, Ok, IfOk, IfErr, IfSome, OnOk};
 ghost use Rattle.std.specs.Io.KnownBytes.{Keeps};
-ghost use Rattle.kc_run.specs.Opening.{IsOpenFault, IsUnnamed, IsUnseenFault};
+ghost use Rattle.kc_texts.specs.Headed.{IsHeadOf};
+ghost use Rattle.kc_run.specs.Opening.{IsOpenFault, IsHeaderOf, IsUnnamed, IsUnseenFault};
 
 use crate::files::{Files, Unopened};
 use kc_cli::{DEFAULT_CONFIG, Failed, Headed, Source, TextFault};
@@ -42,28 +43,44 @@ impl<'a> Source for StartText<'a> {
     }
 }
 
+/// Makes the text of the header of the trace that the input holds, if it has a head.
+pub(crate) fn header_text<T: Headed>(
+    alloc: Global,
+    input: &mut T,
+) -> Result<Option<Vec<u8>>, TextFault>
+    requires { T.failed input.old ≡ false }
+    ensures found { IfOk result (λ found. IfSome found (λ text. IsHeaderOf (T.left input.new) text.items)) }
+    ensures none { result ≡ Ok None → IsHeadOf (T.left input.new) None }
+    ensures same { OnOk result (Keeps (T.left input.old) (T.left input.new)) }
+    ensures ready { OnOk result (T.failed input.new ≡ false) }
+    ensures fault { IfErr result (λ fault. IsUnseenFault (T.failed input.new) fault) }
+{
+    let Some(head) = input.head(alloc)? else {
+        return Ok(None);
+    };
+    let Ok(mut text) = Vec::with_capacity(alloc, LONGEST_CALL) else {
+        return Err(TextFault::Memory);
+    };
+    push_header(&mut text, &Header::Three(head));
+    Ok(Some(text))
+}
+
 /// Makes the text of what calls begin with if no file is named for it: the header of the trace that the input holds, if
 /// it has a head, and otherwise the default configuration.
-pub(crate) fn unnamed<T: Headed>(alloc: Global, input: &mut T) -> Result<Vec<u8>, TextFault>
+pub(crate) fn unnamed_text<T: Headed>(alloc: Global, input: &mut T) -> Result<Vec<u8>, TextFault>
     requires { T.failed input.old ≡ false }
     ensures text { IfOk result (λ text. IsUnnamed (T.left input.new) text.items) }
     ensures same { OnOk result (Keeps (T.left input.old) (T.left input.new)) }
     ensures ready { OnOk result (T.failed input.new ≡ false) }
     ensures fault { IfErr result (λ fault. IsUnseenFault (T.failed input.new) fault) }
 {
-    let found = input.head(alloc)?;
-    let Ok(mut text) = Vec::with_capacity(alloc, LONGEST_CALL) else {
-        return Err(TextFault::Memory);
-    };
-    match found {
-        Some(head) => push_header(&mut text, &Header::Three(head)),
-        None => {
-            if text.extend_from_slice(DEFAULT_CONFIG.as_bytes()).is_err() {
-                return Err(TextFault::Memory);
-            }
-        },
+    if let Some(text) = header_text(alloc, input)? {
+        return Ok(text);
     }
-    Ok(text)
+    match Vec::from_slice(alloc, DEFAULT_CONFIG.as_bytes()) {
+        Ok(text) => Ok(text),
+        Err(_) => Err(TextFault::Memory),
+    }
 }
 
 /// Opens the file at a path.

@@ -11,7 +11,7 @@ ghost use Rattle.kc_run.specs.Endings.{took};
 ghost use Rattle.kc_run.specs.Ends.{ends_of};
 ghost use Rattle.kc_run.specs.Run.{BeginsAt};
 
-use crate::beginning::{StartText, open, unnamed};
+use crate::beginning::{StartText, open, unnamed_text};
 use crate::ending::Ending;
 use crate::engines::{System, counted};
 use crate::files::Files;
@@ -204,7 +204,7 @@ pub(crate) fn custody<F: Files, T: Headed, K: Sink, R: Threads + Wait + Sync>(
         (input.new ≡ input.old) (took K.failed K.taken out.old out.new) (out.new ≡ out.old)) result }
 {
     let Some(path) = start.path() else {
-        let text = unnamed(system.alloc, input)?;
+        let text = unnamed_text(system.alloc, input)?;
         return custody_from(
             system,
             files,

@@ -5,9 +5,9 @@ ghost use Rattle.kc_args.specs.Jobs.{origin_at, path_of};
 ghost use Rattle.kc_run.specs.Opening.{Held};
 ghost use Rattle.kc_run.specs.Endings.{took, done_as, answered_as, compared_as, ending_of, judged_as};
 ghost use Rattle.kc_run.specs.Ends.{ends_of};
-ghost use Rattle.kc_run.specs.Run.{BeginsAt, ReplaysTo, RunsLive, AuditsDump, RedactsTrace, RedactsHost};
+ghost use Rattle.kc_run.specs.Run.{BeginsAt, ReplaysTo, RunsLive, AuditsDump, RedactsTrace, RedactsHostAt};
 
-use crate::beginning::{StartText, open, unnamed};
+use crate::beginning::{StartText, header_text, open, unnamed_text};
 use crate::ending::Ending;
 use crate::files::Files;
 use kc_args::Start;
@@ -17,6 +17,7 @@ use kc_cli::{
 };
 use kc_redact_text::{redact_host_text, redact_text};
 use kc_replay::OpenGate;
+use kc_trace::{HeaderFault, TraceFault};
 use std::alloc::Global;
 use std::sync::Wait;
 use std::thread::Threads;
@@ -141,7 +142,7 @@ pub(crate) fn replay<F: Files, T: Headed, K: Sink, R: Threads + Wait + Sync>(
         (input.new ≡ input.old) (took K.failed K.taken out.old out.new) (out.new ≡ out.old)) result }
 {
     let Some(path) = start.path() else {
-        let text = unnamed(system.alloc, input)?;
+        let text = unnamed_text(system.alloc, input)?;
         return replay_to(
             system,
             files,
@@ -177,7 +178,7 @@ pub(crate) fn live<F: Files, T: Headed, K: Sink, R: Threads + Wait + Sync>(
 {
     let (threads, alloc) = (system.threads, system.alloc);
     let Some(path) = config else {
-        let text = unnamed(alloc, input)?;
+        let text = unnamed_text(alloc, input)?;
         let mut start = StartText::new(&text);
         return done(live_text(threads, alloc, &mut start, input, out, workers, &OpenGate));
     };
@@ -221,7 +222,8 @@ pub(crate) fn redact<T: Source, K: Sink>(
     done(redact_text(alloc, input, out))
 }
 
-/// Redacts the trace from where calls begin, also of what the host writes to frames of active VMs.
+/// Redacts the trace from where calls begin, also of what the host writes to frames of active VMs. If no file is named
+/// for that, the trace has to have a head: on the default machine the writes that are blanked might be others.
 #[inline(never)]
 pub(crate) fn redact_host<F: Files, T: Headed, K: Sink, R: Threads + Wait + Sync>(
     system: &System<'_, R>,
@@ -233,14 +235,16 @@ pub(crate) fn redact_host<F: Files, T: Headed, K: Sink, R: Threads + Wait + Sync
     requires files { F.refused files.old ≡ None }
     requires input { T.failed input.old ≡ false }
     requires out { K.failed out.old ≡ false }
-    ensures { BeginsAt F.File.left F.File.failed (path_of start.entry) (RedactsHost (origin_at start.entry))
+    ensures { RedactsHostAt F.File.left F.File.failed (path_of start.entry) (origin_at start.entry)
         (ends_of (F.held files.old) (F.refused files.new) (seen T.failed T.left input.old input.new)
         (input.new ≡ input.old) (took K.failed K.taken out.old out.new) (out.new ≡ out.old)) result }
 {
     let (threads, alloc, lanes) = (system.threads, system.alloc, system.lanes);
     let origin = start.origin();
     let Some(path) = start.path() else {
-        let text = unnamed(alloc, input)?;
+        let Some(text) = header_text(alloc, input)? else {
+            return Err(TextFault::Trace(TraceFault::Misplaced(HeaderFault::Missing)));
+        };
         let mut start = StartText::new(&text);
         return counted(redact_host_text(threads, alloc, &mut start, input, out, origin, lanes));
     };
