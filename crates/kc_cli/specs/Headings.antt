@@ -1,5 +1,5 @@
 -- How the first line comes of digests that were made as texts were read.
-use Rattle.std.specs.Prelude.{ℕ, List, length, Option, Some, None}
+use Rattle.std.specs.Prelude.{ℕ, List, Option, Some, None}
 use Rattle.kc_trace.specs.declared.custody_writer.StartDigest.{StartDigest}
 use Rattle.kc_trace.specs.declared.custody_writer.StartDigest.TheVariants as starts
 use Rattle.kc_trace.specs.declared.custody_writer.Digests.{Digests}
@@ -10,7 +10,7 @@ use Rattle.kc_faults.specs.declared.origin.Origin.TheVariants as origins
 use Rattle.kc_cli.specs.declared.account.Named.{Named}
 use Rattle.kc_cli.specs.declared.account.Named.TheVariants as names
 use Rattle.kc_cli.specs.declared.account.Scope.{Scope}
-use Rattle.kc_cli.specs.Custody.{listed, trace_digest}
+use Rattle.kc_cli.specs.Custody.{trace_digest, chain_of}
 
 -- what the calls begin with, by its digest, if it has one
 abbrev pub start_by : Option (List ℕ) → Origin → StartDigest
@@ -24,4 +24,4 @@ digests_by named origin start trace = Some (record { trace = trace; start = star
 
 abbrev pub heading_by : Scope → Origin → Option (List ℕ) → List VolumeEntry → Heading
 heading_by scope origin start entries =
-    record { digests = digests_by scope.named origin start (trace_digest entries); is_unseen = scope.is_unseen; volumes = length (listed entries) }
+    record { digests = digests_by scope.named origin start (trace_digest entries); is_unseen = scope.is_unseen; chain = chain_of entries }

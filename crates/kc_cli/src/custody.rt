@@ -12,7 +12,7 @@ ghost use Rattle.kc_faults.specs.Origins.{BeginsIn};
 ghost use Rattle.kc_faults.specs.Outcomes.{TellsSources, TellsTexts, TellsSink};
 ghost use Rattle.kc_cli.specs.Engine.{IsReplayFault};
 ghost use Rattle.kc_cli.specs.Traced.{Traced, trace_named, digest_if};
-ghost use Rattle.kc_cli.specs.Custody.{IsCustodyText, TellsCustody, NamesStart, names_start, listed, trace_digest};
+ghost use Rattle.kc_cli.specs.Custody.{IsCustodyText, TellsCustody, NamesStart, names_start, listed, trace_digest, numbers_in};
 ghost use Rattle.kc_cli.specs.Answers.{AreAllAnswered};
 ghost use Rattle.kc_cli.specs.Headings.{start_by, digests_by, heading_by};
 ghost use Rattle.kc_cli.specs.Volumes.{known, HasTold, IsFull};
@@ -25,7 +25,9 @@ use kc_digests::Lanes;
 use kc_faults::{Origin, TextFault};
 use kc_remarks::Answered;
 use kc_texts::{Sink, Source};
-use kc_trace::{Digests, Expected, Heading, StartDigest, TraceFault, VolumeEntry};
+use kc_trace::{
+    Chain, Digests, Expected, Heading, StartDigest, TraceFault, VolumeEntry, VolumeNumbers,
+};
 use kc_types::Config;
 use std::alloc::Global;
 use std::thread::Threads;
@@ -93,6 +95,17 @@ fn trace_digest(entries: &[VolumeEntry]) -> Option<[u8; 32]>
     }
 }
 
+/// The numbers of the first and the last volume, if they have heads.
+fn numbers_in(entries: &[VolumeEntry]) -> Option<VolumeNumbers>
+    ensures { result ≡ numbers_in entries.now }
+{
+    let (first, last) = (entries.first()?, entries.last()?);
+    Some(VolumeNumbers {
+        first: first.number?,
+        last: last.number?,
+    })
+}
+
 /// The volumes that are named on lines of their own: none if there is only one.
 fn listed(alloc: Global, entries: Vec<VolumeEntry>) -> Vec<VolumeEntry>
     ensures { result.items ≡ listed entries.items }
@@ -122,11 +135,15 @@ fn told_of(
     ensures ledger { result.ledger ≡ kept.ledger }
 {
     let trace = trace_digest(entries.as_slice());
+    let numbers = numbers_in(entries.as_slice());
     let volumes = listed(alloc, entries);
     let heading = Heading {
         digests: digests_by(order.scope.named, order.origin, start, trace),
         is_unseen: order.scope.is_unseen,
-        volumes: volumes.len() as u32,
+        chain: Chain {
+            count: volumes.len() as u32,
+            numbers,
+        },
     };
     let answered = Answered {
         calls: (kept.line - FIRST_LINE) as usize,
@@ -260,6 +277,7 @@ impl CustodyAccount {
         let entry = VolumeEntry {
             line,
             calls: self.kept.line - line,
+            number: header.number(),
             digest: digest_named(digest, is_named),
         };
         match self.entries.push(entry) {

@@ -123,10 +123,17 @@ function listen() {
   window.onresize = draw;
 }
 
+// Which volumes the lines are of: how many, and their numbers in their heads, or that their order was not judged.
+function volumesRead() {
+  const count = volumes.length, what = count ? numbered(count, "volume", "volumes") : "the trace";
+  if (head.first === undefined) return head.order ? `${what}, order ${head.order}` : what;
+  return count ? `${what}, by their heads volumes ${head.first} to ${head.last}` : `${what}, by its head volume ${head.first}`;
+}
+
 function start() {
   read(byId("lines").textContent);
   const count = end.refused ?? refusals.length;
-  byId("about").textContent = `${numbered(head.frames, "frame", "frames")} and ${numbered(head.slots, "slot", "slots")}; ${numbered(end.calls, "call", "calls")}, on lines 2 to ${placed(lastLine)} of ${volumes.length ? numbered(volumes.length, "volume", "volumes") : "the trace"}; ${numbered(count, "call was", "calls were")} refused.`;
+  byId("about").textContent = `${numbered(head.frames, "frame", "frames")} and ${numbered(head.slots, "slot", "slots")}; ${numbered(end.calls, "call", "calls")}, on lines 2 to ${placed(lastLine)} of ${volumesRead()}; ${numbered(count, "call was", "calls were")} refused.`;
   byId("main").hidden = false;
   fillDigests();
   const numbers = offered();

@@ -5,7 +5,7 @@ pub const HEAD: &str = r##"<!doctype html>
 <html lang="en">
 <head>
 <meta charset="utf-8">
-<meta http-equiv="Content-Security-Policy" content="default-src 'none'; script-src 'sha256-b5y7ueIXvNX7QdvTp7Ugk3yXCl2U6xfxLRfleZO/PrE='; style-src 'sha256-XKVkzifYMbmyCly1sLUoHbHA4vv/JDbiF/BUDZqlRv4='; base-uri 'none'; form-action 'none'">
+<meta http-equiv="Content-Security-Policy" content="default-src 'none'; script-src 'sha256-CYaNYqTUnxpmJjTnZetu9GUtR8QXktzh08ElyrpVMyg='; style-src 'sha256-XKVkzifYMbmyCly1sLUoHbHA4vv/JDbiF/BUDZqlRv4='; base-uri 'none'; form-action 'none'">
 <meta name="viewport" content="width=device-width, initial-scale=1">
 <title>Custody of a trace</title>
 <style>

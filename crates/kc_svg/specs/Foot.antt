@@ -5,6 +5,8 @@ use Rattle.hex.specs.Hex.{encode_lower}
 use Rattle.kc_trace.specs.declared.custody_writer.StartDigest.{StartDigest}
 use Rattle.kc_trace.specs.declared.custody_writer.StartDigest.TheVariants as start
 use Rattle.kc_trace.specs.declared.custody_writer.Digests.{Digests}
+use Rattle.kc_trace.specs.declared.volume_writer.VolumeNumbers.{VolumeNumbers}
+use Rattle.kc_trace.specs.declared.volume_writer.Chain.{Chain}
 use Rattle.kc_trace.specs.declared.custody_writer.Heading.{Heading}
 use Rattle.kc_trace.specs.CustodyText.{version_text}
 
@@ -24,19 +26,33 @@ abbrev pub digests_words : Option Digests → List ℕ
 digests_words None = []
 digests_words (Some digests) = trace_words digests.trace ++ start_words digests.start
 
--- how many volumes were read, if there were several
-abbrev pub volumes_words : ℕ → List ℕ
-volumes_words count = if count == 0 then [] else (codes ", " ++ decimal count) ++ codes " volumes"
+-- the number of the one volume that was read, or of the first and the last of several, by their heads
+abbrev pub numbers_words : ℕ → VolumeNumbers → List ℕ
+numbers_words count numbers = if count == 0 then codes ", volume " ++ decimal numbers.first
+    else (codes ", volumes " ++ decimal numbers.first) ++ (codes " to " ++ decimal numbers.last)
+
+-- how many volumes without heads were read, if there were several
+abbrev pub count_words : ℕ → List ℕ
+count_words count = if count == 0 then [] else (codes ", " ++ decimal count) ++ codes " volumes, order not judged"
+
+-- the one or the other
+abbrev pub order_words : ℕ → Option VolumeNumbers → List ℕ
+order_words count None = count_words count
+order_words count (Some numbers) = numbers_words count numbers
+
+-- which volumes were read; nothing for one trace without a head
+abbrev pub chain_words : Chain → List ℕ
+chain_words chain = order_words chain.count chain.numbers
 
 -- that the machine's own accesses are not in the trace, if they are not
 abbrev pub unseen_words : Bool → List ℕ
 unseen_words false = []
 unseen_words true = codes ", accesses unseen"
 
--- as "kcore 2.0.0, trace SHA-256 .., default configuration" or "kcore 2.0.0, 3 volumes, default configuration": what
--- the first line of custody says, but the sizes of the core
+-- as "kcore 2.0.0, trace SHA-256 .., default configuration" or "kcore 2.0.0, volumes 3 to 7, default configuration":
+-- what the first line of custody says, but the sizes of the core, and how many volumes there are if they have numbers
 abbrev pub foot_words : Heading → List ℕ
-foot_words heading = (codes "kcore " ++ version_text) ++ (volumes_words heading.volumes ++ (digests_words heading.digests ++ unseen_words heading.is_unseen))
+foot_words heading = (codes "kcore " ++ version_text) ++ (chain_words heading.chain ++ (digests_words heading.digests ++ unseen_words heading.is_unseen))
 
 -- how a picture ends after the words of its foot
 abbrev pub closing : List ℕ

@@ -2,10 +2,10 @@
 ghost use Rattle.std.specs.Prelude.{◌≡◌, ◌++◌};
 ghost use Rattle.hex.specs.Hex.{encode_lower};
 ghost use Rattle.kc_svg.specs.Words.{Puts};
-ghost use Rattle.kc_svg.specs.Foot.{start_words, trace_words, digests_words, volumes_words, unseen_words, foot_words};
+ghost use Rattle.kc_svg.specs.Foot.{start_words, trace_words, digests_words, numbers_words, count_words, chain_words, unseen_words, foot_words};
 
 use crate::words::Text;
-use kc_trace::{Digests, Heading, StartDigest, VERSION};
+use kc_trace::{Chain, Digests, Heading, StartDigest, VERSION, VolumeNumbers};
 use std::alloc::Global;
 
 /// Puts some words and a digest, in 64 digits.
@@ -49,13 +49,35 @@ fn put_digests(text: &mut Text, alloc: Global, digests: &Option<Digests>)
     }
 }
 
-/// Puts how many volumes were read, if there were several.
-fn put_volumes(text: &mut Text, count: u32)
-    ensures { Puts text.old text.new (volumes_words count) }
+/// Puts the number of the one volume that was read, or of the first and the last of several, by their heads.
+fn put_numbers(text: &mut Text, count: u32, numbers: &VolumeNumbers)
+    ensures { Puts text.old text.new (numbers_words count numbers.now) }
+{
+    if count == 0 {
+        text.put_number(", volume ", numbers.first as u64);
+    } else {
+        text.put_number(", volumes ", numbers.first as u64);
+        text.put_number(" to ", numbers.last as u64);
+    }
+}
+
+/// Puts how many volumes without heads were read, if there were several.
+fn put_count(text: &mut Text, count: u32)
+    ensures { Puts text.old text.new (count_words count) }
 {
     if count != 0 {
         text.put_number(", ", count as u64);
-        text.put(" volumes");
+        text.put(" volumes, order not judged");
+    }
+}
+
+/// Puts which volumes were read.
+fn put_chain(text: &mut Text, chain: &Chain)
+    ensures { Puts text.old text.new (chain_words chain.now) }
+{
+    match &chain.numbers {
+        Some(numbers) => put_numbers(text, chain.count, numbers),
+        None => put_count(text, chain.count),
     }
 }
 
@@ -74,7 +96,7 @@ pub(crate) fn put_foot(text: &mut Text, alloc: Global, heading: &Heading)
 {
     text.put("kcore ");
     text.put(VERSION);
-    put_volumes(text, heading.volumes);
+    put_chain(text, &heading.chain);
     put_digests(text, alloc, &heading.digests);
     put_unseen(text, heading.is_unseen);
 }
