@@ -2,7 +2,7 @@
 each volume, then the lines of the whole trace, each with its volume."""
 import json
 
-from rules import placed, rows_of_volumes
+from rules import chain_said, placed, rows_of_volumes
 
 
 def line_of(record):
@@ -14,10 +14,11 @@ def volume_of(volumes, line):
     return ([it for it in volumes if it["line"] <= line] or volumes[:1])[-1]
 
 
-def chained(text, calls, digests=()):
-    """The report, of custody or a summary, on volumes with these numbers of calls, from that on the whole trace."""
+def chained(text, calls, digests=(), number=None):
+    """The report, of custody or a summary, on volumes with these numbers of calls, from that on the whole trace; they
+    have heads if the number of the first is given."""
     first, *rest, end = map(json.loads, text.splitlines())
-    volumes = rows_of_volumes(calls, digests)
-    head = {key: value for key, value in first.items() if key != "trace"} | {"volumes": len(calls)}
+    volumes = rows_of_volumes(calls, digests, number)
+    head = {key: value for key, value in first.items() if key != "trace"} | chain_said(volumes, number)
     reported = [placed(it, volumes) if "line" in it else it for it in rest]
     return "".join(map(line_of, [head, *volumes, *reported, end]))

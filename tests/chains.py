@@ -89,14 +89,18 @@ class Chain:
         config = {"config": hashlib.sha256(self.path.read_bytes()).hexdigest(), "state": None}
         return trace | (config if self.state is None else {"config": None, "state": digest(heads.placed(blanked(self.state), self.expected))})
 
+    def number(self):
+        """The number in the head of the first volume, or None."""
+        return self.traces[0].position and self.traces[0].position.number
+
     def report_differs(self, rng, vm):
         """What differs in one form of custody, or None."""
         form = rng.choice(FORMS)
         is_named, is_unseen, vm, options = self.some(rng, [vm], form)
-        said = {"is_unseen": is_unseen, "named": self.named() if is_named else None}
+        said = {"is_unseen": is_unseen, "named": self.named() if is_named else None, "first": self.number()}
         if len(self.volumes) > 1:
             digests = [trace.digest() for trace in self.traces] if is_named else None
-            said["volumes"] = rows_of_volumes(map(len, self.volumes), digests)
+            said["volumes"] = rows_of_volumes(map(len, self.volumes), digests, self.number())
         made = len(self.lines), denied_in(self.remarks)
         if form == ["--summary"]:
             text = self.core.summary_text(made, self.lives, vm, **said)
@@ -113,7 +117,8 @@ class Chain:
 
     def foot(self, is_named, is_unseen):
         """The foot of a picture of several volumes."""
-        foot = f"kcore {VERSION}, {len(self.volumes)} volumes"
+        count, first = len(self.volumes), self.number()
+        foot = f"kcore {VERSION}, " + (f"volumes {first} to {first + count - 1}" if first else f"{count} volumes, order not judged")
         if is_named:
             kind, text = ("configuration", self.path.read_text()) if self.state is None else ("state", heads.placed(blanked(self.state), self.expected))
             foot += f", {kind} SHA-256 {digest(text)}"

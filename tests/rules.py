@@ -69,15 +69,25 @@ def noted(told, remarks, options):
     return sorted(asked + told, key=lambda it: it[1]["line"])
 
 
-def rows_of_volumes(sizes, digests=None):
-    """The lines that name volumes, read one after another, with these numbers of calls, and perhaps with the digests of
-    their texts."""
+def rows_of_volumes(sizes, digests=None, first=None):
+    """The lines that name volumes, read one after another, with these numbers of calls, perhaps with the digests of
+    their texts, and with the numbers in their heads if they have heads, of which the first one has this number."""
     rows, line = [], 2
-    for number, size in enumerate(sizes, 1):
-        rows.append({"volume": number, "line": line, "calls": size})
-        rows[-1] |= {"trace": digests[number - 1]} if digests else {}
+    for place, size in enumerate(sizes):
+        rows.append({"volume": place + 1, "line": line, "calls": size})
+        rows[-1] |= {"number": first + place} if first else {}
+        rows[-1] |= {"trace": digests[place]} if digests else {}
         line += size
     return rows
+
+
+def chain_said(volumes, first=None):
+    """What a first line says of these volumes (none if there was one trace): how many there are, and the numbers in the
+    heads of the first and the last, or that nobody knows their order."""
+    if first:
+        last = {"first": first, "last": first + max(len(volumes), 1) - 1}
+        return ({"volumes": len(volumes)} if volumes else {}) | last
+    return {"volumes": len(volumes), "order": "not judged"} if volumes else {}
 
 
 def placed(reported, volumes):
@@ -511,15 +521,15 @@ class Core:
             lives.note(number, line, self.answer(line))
         return lives.told()
 
-    def text(self, kind, calls, counted, lines, named=None, is_unseen=False, volumes=()):
+    def text(self, kind, calls, counted, lines, named=None, is_unseen=False, volumes=(), first=None):
         """The text of a report with its first and its last line. `calls` says how many calls there were, and how many
         were denied. Perhaps the texts that were read are named, or the machine's accesses are not in the trace, or the
-        calls came in these volumes."""
+        calls came in these volumes. If there are heads, the first one has this number."""
         header = {kind: 2, "kcore": VERSION} | (named or {})
         header |= {"frames": len(self.frames), "core": self.config["core"], "host": self.config["host"]}
         header |= {"slots": len(self.slots)} | ({"refused": calls[1]} if kind == "summary" else {})
         header |= {"accesses": "unseen"} if is_unseen else {}
-        header |= {"volumes": len(volumes)} if volumes else {}
+        header |= chain_said(volumes, first)
         lines = [header, *volumes, *lines, {"calls": calls[0], counted: len(lines), "refused": calls[1]}]
         return "".join(json.dumps(line, separators=(",", ":")) + "\n" for line in lines)
 

@@ -116,9 +116,13 @@ class Parsed:
 
     def __init__(self, text):
         lines = Lines(text)
-        if not text.startswith("kcore-state 1\n"):
+        header = re.match("kcore-state [12]\n", text)
+        if not header:
             raise Faulty("no state header")
         lines.taken = 1
+        if header[0] == "kcore-state 2\n":
+            # (the texts that are damaged have header 1, so no damage gives a line of a volume)
+            lines.take("volume", lambda words: None)
         slots, frames, self.host, approved = lines.take("config", sizes_of)
         self.approved = [lines.take("approved", digest_of) for _ in range(approved)]
         self.rests = [lines.take("slot", slot_of) for _ in range(slots)]

@@ -16,6 +16,7 @@ use Rattle.kc_trace.specs.declared.custody_writer.StartDigest.TheVariants as sta
 use Rattle.kc_trace.specs.declared.custody_writer.Digests.{Digests}
 use Rattle.kc_trace.specs.declared.volume_writer.VolumeEntry.{VolumeEntry}
 use Rattle.kc_trace.specs.declared.expected.Expected.{Expected}
+use Rattle.kc_trace.specs.Expected.{head_number}
 use Rattle.kc_faults.specs.Origins.{position_at}
 use Rattle.kc_faults.specs.declared.origin.Origin.{Origin}
 use Rattle.kc_faults.specs.declared.origin.Origin.TheVariants as origins
@@ -24,7 +25,7 @@ use Rattle.kc_cli.specs.declared.account.Named.TheVariants as names
 use Rattle.kc_cli.specs.declared.account.Scope.{Scope}
 use Rattle.kc_redact.specs.Witness.{witness_header}
 use Rattle.kc_cli.specs.Traced.{Traced, redacted_trace, trace_named}
-use Rattle.kc_cli.specs.Custody.{entries_of, entries_in, names_trace, listed, trace_digest, digests_of, heading_of}
+use Rattle.kc_cli.specs.Custody.{entries_of, entries_in, names_trace, first_number, trace_digest, chain_of, digests_of, heading_of}
 
 -- redacting twice is redacting once
 bytes_twice : (bytes : List ℕ) → blanked (blanked bytes) ≡ blanked bytes
@@ -48,7 +49,7 @@ digest_same true volume = ap (λ (seen : List Call). Some (sha256 (text_of (witn
 entries_from : (named : Bool) (line : ℕ) (volumes : List Traced) → entries_of named line (map redacted_trace volumes) ≡ entries_of named line volumes
 entries_from named line [] = refl
 entries_from named line (volume ∷ volumes) =
-    let entry : ℕ → Option (List ℕ) → VolumeEntry = λ count digest. record { line = line; calls = count; digest = digest } in
+    let entry : ℕ → Option (List ℕ) → VolumeEntry = λ count digest. record { line = line; calls = count; number = head_number volume.header; digest = digest } in
     ap₂ (λ (count : ℕ) (digest : Option (List ℕ)). entry count digest ∷ entries_of named (line + count) (map redacted_trace volumes)) (length-map volume.calls redacted_call) (digest_same named volume)
     ∙ ap (λ (rest : List VolumeEntry). entry (length volume.calls) (trace_named named volume) ∷ rest) (entries_from named (line + length volume.calls) volumes)
 
@@ -59,18 +60,18 @@ entries_same scope volumes = entries_from (names_trace scope.named) first_line v
 state_twice : (m : State) → IsLawful m → blank_state (blank_state m) ≡ blank_state m
 state_twice m is = (audited_blank m [] is).plainly.left
 
-digests_same : (named : Named) (origin : Origin) (start other : List ℕ) (m : State) (expected : Expected) (trace : Option (List ℕ)) → IsLawful m → (origin ≡ origins.Boot → other ≡ start)
-    → digests_of named origin other (blank_state m) expected trace ≡ digests_of named origin start m expected trace
-digests_same names.Nothing origin start other m expected trace is same = refl
-digests_same names.Trace origin start other m expected trace is same = refl
-digests_same names.Both origins.Boot start other m expected trace is same =
+digests_same : (named : Named) (origin : Origin) (start other : List ℕ) (m : State) (expected : Expected) (first : Option ℕ) (trace : Option (List ℕ)) → IsLawful m → (origin ≡ origins.Boot → other ≡ start)
+    → digests_of named origin other (blank_state m) expected first trace ≡ digests_of named origin start m expected first trace
+digests_same names.Nothing origin start other m expected first trace is same = refl
+digests_same names.Trace origin start other m expected first trace is same = refl
+digests_same names.Both origins.Boot start other m expected first trace is same =
     ap (λ (text : List ℕ). Some (record { trace = trace; start = starts.Config (sha256 text) })) (same refl)
-digests_same names.Both origins.State start other m expected trace is same =
+digests_same names.Both origins.State start other m expected first trace is same =
     ap (λ (n : State). Some (record { trace = trace; start = starts.State (sha256 (placed_state_text (position_at expected) n)) })) (state_twice m is)
 
 pub heading_same : (scope : Scope) (origin : Origin) (start other : List ℕ) (m : State) (expected : Expected) (volumes : List Traced) → IsLawful m → (origin ≡ origins.Boot → other ≡ start)
     → heading_of scope origin other (blank_state m) expected (entries_in scope (map redacted_trace volumes)) ≡ heading_of scope origin start m expected (entries_in scope volumes)
 heading_same scope origin start other m expected volumes is same =
     ap (heading_of scope origin other (blank_state m) expected) (entries_same scope volumes)
-    ∙ ap (λ (digests : Option Digests). record { digests = digests; is_unseen = scope.is_unseen; volumes = length (listed (entries_in scope volumes)) })
-    (digests_same scope.named origin start other m expected (trace_digest (entries_in scope volumes)) is same)
+    ∙ ap (λ (digests : Option Digests). record { digests = digests; is_unseen = scope.is_unseen; chain = chain_of (entries_in scope volumes) })
+    (digests_same scope.named origin start other m expected (first_number (entries_in scope volumes)) (trace_digest (entries_in scope volumes)) is same)

@@ -5,6 +5,7 @@ mod Plain
 mod Reported
 mod Ledgers
 mod Headings
+mod Ends
 mod Digested
 mod Blind
 mod Marked

@@ -32,11 +32,14 @@ use Rattle.kc_state_text.specs.StateText.{placed_state_text}
 use Rattle.kc_custody.specs.Chosen.{chosen, NamesOnly}
 use Rattle.kc_trace.specs.declared.expected.Expected.{Expected}
 use Rattle.kc_trace.specs.Trace.{IsTraceUnder}
-use Rattle.kc_trace.specs.Expected.{MayHave}
+use Rattle.kc_trace.specs.Expected.{MayHave, head_number}
+use Rattle.kc_trace.specs.declared.custody_writer.StartDigest.{StartDigest}
 use Rattle.kc_trace.specs.declared.custody_writer.StartDigest.TheVariants as starts
 use Rattle.kc_trace.specs.declared.custody_writer.Digests.{Digests}
 use Rattle.kc_trace.specs.declared.custody_writer.Heading.{Heading}
 use Rattle.kc_trace.specs.declared.volume_writer.VolumeEntry.{VolumeEntry}
+use Rattle.kc_trace.specs.declared.volume_writer.VolumeNumbers.{VolumeNumbers}
+use Rattle.kc_trace.specs.declared.volume_writer.Chain.{Chain}
 use Rattle.kc_trace.specs.RemarkText.{notes_text_of}
 use Rattle.kc_trace.specs.SummaryText.{summary_text_of}
 use Rattle.kc_faults.specs.declared.fault.TextFault.{TextFault}
@@ -118,11 +121,11 @@ start_digest origins.State text m expected = sha256 (placed_state_text (position
 abbrev pub NamesStart : Bool → Origin → Option (List ℕ) → State → Expected → Option (List ℕ) → Type 0
 NamesStart asked origin source m expected digest = (is_some digest ≡ asked) × IfSome digest (λ d. IfSome source (λ text. d ≡ start_digest origin text m expected))
 
--- each volume by the line of its first call, of which the first volume's is this one, by the number of its calls, and by their digest, if that is asked for
+-- each volume by the line of its first call, of which the first volume's is this one, by the number of its calls, by its own number, if it has a head, and by its digest, if that is asked for
 abbrev pub entries_of : Bool → ℕ → List Traced → List VolumeEntry
 entries_of named line [] = []
 entries_of named line (volume ∷ volumes) =
-    record { line = line; calls = length volume.calls; digest = trace_named named volume } ∷ entries_of named (line + length volume.calls) volumes
+    record { line = line; calls = length volume.calls; number = head_number volume.header; digest = trace_named named volume } ∷ entries_of named (line + length volume.calls) volumes
 
 -- volumes are named on lines of their own if there are several
 abbrev pub listed : List VolumeEntry → List VolumeEntry
@@ -134,17 +137,46 @@ abbrev pub trace_digest : List VolumeEntry → Option (List ℕ)
 trace_digest (entry ∷ []) = entry.digest
 trace_digest _ = None
 
--- the digests of what is named: the calls begin with this text, in this state
-abbrev pub digests_of : Named → Origin → List ℕ → State → Expected → Option (List ℕ) → Option Digests
-digests_of names.Nothing origin start m expected trace = None
-digests_of names.Trace origin start m expected trace = Some (record { trace = trace; start = starts.Default })
-digests_of names.Both origins.Boot start m expected trace = Some (record { trace = trace; start = starts.Config (start_digest origins.Boot start m expected) })
-digests_of names.Both origins.State start m expected trace = Some (record { trace = trace; start = starts.State (start_digest origins.State start m expected) })
+-- the number of the first volume, if it has a head
+abbrev pub first_number : List VolumeEntry → Option ℕ
+first_number [] = None
+first_number (entry ∷ entries) = entry.number
+
+-- that of the last one
+abbrev pub last_number : List VolumeEntry → Option ℕ
+last_number [] = None
+last_number (entry ∷ []) = entry.number
+last_number (entry ∷ next ∷ entries) = last_number (next ∷ entries)
+
+-- these two numbers, if both are there
+abbrev pub numbers_between : Option ℕ → Option ℕ → Option VolumeNumbers
+numbers_between (Some first) (Some last) = Some (record { first = first; last = last })
+numbers_between first last = None
+
+-- the numbers of the first and the last volume, if they have heads, as all have or none
+abbrev pub numbers_in : List VolumeEntry → Option VolumeNumbers
+numbers_in entries = numbers_between (first_number entries) (last_number entries)
+
+-- which volumes these are: how many, if there are several, and their numbers
+abbrev pub chain_of : List VolumeEntry → Chain
+chain_of entries = record { count = length (listed entries); numbers = numbers_in entries }
+
+-- what the calls begin with if no file is named for it, by the number of the first volume: the machine in its head, or the default one
+abbrev pub unnamed_start : Option ℕ → StartDigest
+unnamed_start None = starts.Default
+unnamed_start (Some number) = starts.Head
+
+-- the digests of what is named: the calls begin with this text, in this state, and this is the number of the first volume, if it has a head
+abbrev pub digests_of : Named → Origin → List ℕ → State → Expected → Option ℕ → Option (List ℕ) → Option Digests
+digests_of names.Nothing origin start m expected first trace = None
+digests_of names.Trace origin start m expected first trace = Some (record { trace = trace; start = unnamed_start first })
+digests_of names.Both origins.Boot start m expected first trace = Some (record { trace = trace; start = starts.Config (start_digest origins.Boot start m expected) })
+digests_of names.Both origins.State start m expected first trace = Some (record { trace = trace; start = starts.State (start_digest origins.State start m expected) })
 
 -- what the first line says beside the sizes of the core
 abbrev pub heading_of : Scope → Origin → List ℕ → State → Expected → List VolumeEntry → Heading
 heading_of scope origin start m expected entries =
-    record { digests = digests_of scope.named origin start m expected (trace_digest entries); is_unseen = scope.is_unseen; volumes = length (listed entries) }
+    record { digests = digests_of scope.named origin start m expected (first_number entries) (trace_digest entries); is_unseen = scope.is_unseen; chain = chain_of entries }
 
 -- the volumes as they are named in what this is the scope of
 abbrev pub entries_in : Scope → List Traced → List VolumeEntry

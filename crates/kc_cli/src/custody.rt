@@ -12,7 +12,7 @@ ghost use Rattle.kc_faults.specs.Origins.{BeginsIn};
 ghost use Rattle.kc_faults.specs.Outcomes.{TellsSources, TellsTexts, TellsSink};
 ghost use Rattle.kc_cli.specs.Engine.{IsReplayFault};
 ghost use Rattle.kc_cli.specs.Traced.{Traced, trace_named, digest_if};
-ghost use Rattle.kc_cli.specs.Custody.{IsCustodyText, TellsCustody, NamesStart, names_start, listed, trace_digest};
+ghost use Rattle.kc_cli.specs.Custody.{IsCustodyText, TellsCustody, NamesStart, names_start, listed, trace_digest, first_number, numbers_in, unnamed_start};
 ghost use Rattle.kc_cli.specs.Answers.{AreAllAnswered};
 ghost use Rattle.kc_cli.specs.Headings.{start_by, digests_by, heading_by};
 ghost use Rattle.kc_cli.specs.Volumes.{known, HasTold, IsFull};
@@ -25,7 +25,9 @@ use kc_digests::Lanes;
 use kc_faults::{Origin, TextFault};
 use kc_remarks::Answered;
 use kc_texts::{Sink, Source};
-use kc_trace::{Digests, Expected, Heading, StartDigest, TraceFault, VolumeEntry};
+use kc_trace::{
+    Chain, Digests, Expected, Heading, StartDigest, TraceFault, VolumeEntry, VolumeNumbers,
+};
 use kc_types::Config;
 use std::alloc::Global;
 use std::thread::Threads;
@@ -47,12 +49,22 @@ pub struct CustodyOrder {
     pub scope: Scope,
 }
 
-/// What calls begin with, by its digest, if it has one.
-fn start_by(digest: Option<[u8; 32]>, origin: Origin) -> StartDigest
-    ensures { result ≡ start_by digest origin }
+/// What calls begin with if no file is named for it, by the number of the first volume, if it has a head.
+fn unnamed_start(first: Option<u32>) -> StartDigest
+    ensures { result ≡ unnamed_start first }
+{
+    match first {
+        None => StartDigest::Default,
+        Some(_) => StartDigest::Head,
+    }
+}
+
+/// What calls begin with, by its digest, if it has one, and otherwise by the number of the first volume.
+fn start_by(digest: Option<[u8; 32]>, origin: Origin, first: Option<u32>) -> StartDigest
+    ensures { result ≡ start_by digest origin first }
 {
     match (digest, origin) {
-        (None, _) => StartDigest::Default,
+        (None, _) => unnamed_start(first),
         (Some(digest), Origin::Boot) => StartDigest::Config(digest),
         (Some(digest), Origin::State) => StartDigest::State(digest),
     }
@@ -63,15 +75,16 @@ fn digests_by(
     named: Named,
     origin: Origin,
     start: Option<[u8; 32]>,
+    first: Option<u32>,
     trace: Option<[u8; 32]>,
 ) -> Option<Digests>
-    ensures { result ≡ digests_by named origin start trace }
+    ensures { result ≡ digests_by named origin start first trace }
 {
     match named {
         Named::Nothing => None,
         Named::Trace | Named::Both => Some(Digests {
             trace,
-            start: start_by(start, origin),
+            start: start_by(start, origin, first),
         }),
     }
 }
@@ -91,6 +104,27 @@ fn trace_digest(entries: &[VolumeEntry]) -> Option<[u8; 32]>
         [entry] => entry.digest,
         _ => None,
     }
+}
+
+/// The number of the first volume, if it has a head.
+fn first_number(entries: &[VolumeEntry]) -> Option<u32>
+    ensures { result ≡ first_number entries.now }
+{
+    match entries {
+        [] => None,
+        [entry, ..] => entry.number,
+    }
+}
+
+/// The numbers of the first and the last volume, if they have heads.
+fn numbers_in(entries: &[VolumeEntry]) -> Option<VolumeNumbers>
+    ensures { result ≡ numbers_in entries.now }
+{
+    let (first, last) = (entries.first()?, entries.last()?);
+    Some(VolumeNumbers {
+        first: first.number?,
+        last: last.number?,
+    })
 }
 
 /// The volumes that are named on lines of their own: none if there is only one.
@@ -122,11 +156,16 @@ fn told_of(
     ensures ledger { result.ledger ≡ kept.ledger }
 {
     let trace = trace_digest(entries.as_slice());
+    let first = first_number(entries.as_slice());
+    let numbers = numbers_in(entries.as_slice());
     let volumes = listed(alloc, entries);
     let heading = Heading {
-        digests: digests_by(order.scope.named, order.origin, start, trace),
+        digests: digests_by(order.scope.named, order.origin, start, first, trace),
         is_unseen: order.scope.is_unseen,
-        volumes: volumes.len() as u32,
+        chain: Chain {
+            count: volumes.len() as u32,
+            numbers,
+        },
     };
     let answered = Answered {
         calls: (kept.line - FIRST_LINE) as usize,
@@ -260,6 +299,7 @@ impl CustodyAccount {
         let entry = VolumeEntry {
             line,
             calls: self.kept.line - line,
+            number: header.number(),
             digest: digest_named(digest, is_named),
         };
         match self.entries.push(entry) {
