@@ -50,7 +50,7 @@ fn misplacing(fault: &HeaderFault) -> &'static str {
             "its head says after which volume it comes, and that is not the one before it"
         },
         HeaderFault::Missing => {
-            "it has header 1 or 2, which says neither its machine nor where it comes: a head is needed if what is before it has one, and for redact --host without --config and --from"
+            "it has no head, which would say its machine and where it comes: one is needed if what is before it has one, and for redact --host without --config and --from"
         },
         HeaderFault::Unexpected => {
             "it has header 3, which says where it comes, and what is before it does not say where it ends"

@@ -205,15 +205,8 @@ pub(crate) fn custody<F: Files, T: Headed, K: Sink, R: Threads + Wait + Sync>(
 {
     let Some(path) = start.path() else {
         let text = unnamed_text(system.alloc, input)?;
-        return custody_from(
-            system,
-            files,
-            &mut StartText::new(&text),
-            input,
-            after,
-            out,
-            order,
-        );
+        let mut start = StartText::new(&text);
+        return custody_from(system, files, &mut start, input, after, out, order);
     };
     let mut file = open(files, path)?;
     let ended = custody_from(system, files, &mut file, input, after, out, order);

@@ -143,15 +143,8 @@ pub(crate) fn replay<F: Files, T: Headed, K: Sink, R: Threads + Wait + Sync>(
 {
     let Some(path) = start.path() else {
         let text = unnamed_text(system.alloc, input)?;
-        return replay_to(
-            system,
-            files,
-            &mut StartText::new(&text),
-            input,
-            to,
-            out,
-            order,
-        );
+        let mut start = StartText::new(&text);
+        return replay_to(system, files, &mut start, input, to, out, order);
     };
     let mut file = open(files, path)?;
     let ended = replay_to(system, files, &mut file, input, to, out, order);
