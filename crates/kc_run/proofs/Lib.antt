@@ -1,5 +1,5 @@
 pub mod Carried
-pub mod Beginning
+pub mod Unseen
 pub mod Unread
 pub mod Reading
 pub mod Reports
