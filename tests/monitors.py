@@ -86,12 +86,14 @@ class Trial:
         return self.folder / name
 
     def words(self, said, config, *words, seconds=None):
-        """The command line of a run, whose files begin with trace."""
+        """The command line of a run, whose files begin with trace; that of its first volume is self.trace."""
         self.said, self.config, self.limit = said, config, seconds or self.seconds
-        self.trace, self.record = self.folder / "trace", self.folder / "record"
+        self.trace, self.list = self.folder / "trace.00001", self.folder / "trace.list"
+        self.record = self.folder / "record"
         for file in self.folder.glob("trace*"):
             file.unlink()
-        common = ["--config", config, "--trace", self.trace, "--record", self.record, "--seconds", self.limit]
+        named = self.trace.with_suffix("")
+        common = ["--config", config, "--trace", named, "--record", self.record, "--seconds", self.limit]
         return [self.folder / "monitor", *map(str, common), *(str(word).format(out=self.folder) for word in words)]
 
     def start(self, said, config, *words, seconds=None, **streams):
@@ -149,35 +151,35 @@ class Trial:
 
     def volumes(self):
         """The volumes, in the order of their names."""
-        return [self.trace, *sorted(self.folder.glob("trace.[0-9][0-9][0-9][0-9][0-9]"))]
+        return sorted(self.folder.glob("trace.[0-9][0-9][0-9][0-9][0-9]"))
 
     def state(self, number):
         """The text of the state in which a volume begins."""
         return self.folder / f"trace.{number:05}.state"
 
-    def kcore(self, *words, stdin):
-        with open(stdin, "rb") as given:
-            return subprocess.run([PROGRAM, *words], stdin=given, capture_output=True, text=True)
+    def kcore(self, *words):
+        return subprocess.run([PROGRAM, *words], stdin=subprocess.DEVNULL, capture_output=True, text=True)
 
     def replayed(self):
-        """Replays each volume from the state that the last one left. Returns the dump at the end, and all changes."""
-        began, changes, said = ("--config", self.config), [], ""
+        """Replays each volume from the state that the last one left. Returns the dump at the end, and what custody
+        reports of all volumes, which have to be a chain."""
+        began, left, said = ("--config", self.config), "", ""
+        custody = self.kcore("custody", *began, *self.volumes())
         for volume in self.volumes():
-            custody = self.kcore("custody", *began, stdin=volume)
-            dump = self.kcore("replay", *began, "--dump", stdin=volume)
-            state = self.kcore("replay", *began, "--state", stdin=volume)
+            dump = self.kcore("replay", *began, "--dump", volume)
+            state = self.kcore("replay", *began, "--state", volume)
             (self.folder / "state").write_text(state.stdout)
-            began = "--from", self.folder / "state"
-            changes += map(json.loads, custody.stdout.splitlines())
-            said += custody.stderr + dump.stderr + state.stderr
+            began, left = ("--from", self.folder / "state"), dump.stdout
+            said += dump.stderr + state.stderr
         self.count(not unwarned(said), "its trace is replayed", said[:200])
-        return dump.stdout, changes
+        self.count(not unwarned(custody.stderr), "its volumes are a chain", custody.stderr[:200])
+        return left, [json.loads(line) for line in custody.stdout.splitlines()]
 
     def audited(self, has_record=True):
         """The replayed trace: its dump has no findings, and dump and custody have the monitor's records."""
         dump, changes = self.replayed()
         (self.folder / "dump").write_text(dump)
-        audit = self.kcore("audit", stdin=self.folder / "dump")
+        audit = self.kcore("audit", self.folder / "dump")
         self.count(audit.stdout.startswith('{"findings":0'), "its audit finds nothing", audit.stdout + audit.stderr)
         if not changes:
             return
@@ -188,7 +190,7 @@ class Trial:
             wrong = [frame for frame, pair in enumerate(zip(reported, kept)) if pair[0] != pair[1]]
             is_same = len(reported) == len(kept) and not wrong
             self.count(is_same, "custody leaves the monitor's records", f"frames {wrong[:5]}")
-        picture = self.kcore("custody", "--config", self.config, "--svg", stdin=self.trace)
+        picture = self.kcore("custody", "--config", self.config, "--svg", *self.volumes())
         self.count(not picture.returncode and picture.stdout.startswith("<svg"), "it has a picture", picture.stderr)
 
 
@@ -288,8 +290,8 @@ MISTAKES = [
             "guest->is_as_named && number < guest->boot->vcpus; number++)\n",
             "guest->is_as_named && number < VCPUS; number++)\n"),
     Mistake("names of volumes do not sort", "core.c",
-            '".%05u"',
-            '".%u"'),
+            '"%s.%05u%s"',
+            '"%s.%u%s"'),
     Mistake("a volume is listed when it begins", "core.c",
             "    list_volume(core);\n",
             "    core->volume++, list_volume(core), core->volume--;\n"),

@@ -40,7 +40,7 @@ int main(void) {
     size_t used;
     room = (kcore_longest_reply() > kcore_longest_line() ? kcore_longest_reply() : kcore_longest_line()) + 1;
     text = malloc(room);
-    if (!text || kcore_boot(&core, (const uint8_t *)config, strlen(config)) != KCORE_DONE) return 1;
+    if (!text || kcore_boot_history(&core, (const uint8_t *)config, strlen(config)) != KCORE_DONE) return 1;
     for (size_t at = 0; at < sizeof boot / sizeof *boot; at++) ask(boot[at]);
     guest_reads(1, 2);
     guest_reads(2, 3);

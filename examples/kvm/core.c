@@ -23,12 +23,9 @@ static void expect(uint32_t status, const char *what) {
     end_with("%s: status %u", what, (unsigned)status);
 }
 
-/* A file of a volume: TRACE for the first trace, and with a number of five digits for all others, so that their names
- * sort in their order. */
+/* A file of a volume. Its number has five digits, so that names sort in their order. */
 static void volume_path(const struct core *core, unsigned volume, const char *end, char path[PATH_MAX]) {
-    char number[16] = "";
-    if (volume > 1 || *end) snprintf(number, sizeof number, ".%05u", volume);
-    if (snprintf(path, PATH_MAX, "%s%s%s", core->path, number, end) < PATH_MAX) return;
+    if (snprintf(path, PATH_MAX, "%s.%05u%s", core->path, volume, end) < PATH_MAX) return;
     errno = ENAMETOOLONG;
     fail("the trace");
 }
@@ -62,7 +59,7 @@ static void write_trace(struct core *core) {
         core->redacted ? kcore_redacted_line : kcore_line;
     size_t used;
     uint32_t status;
-    while ((status = line_of(&core->session, core->written, core->line, core->line_room, &used)) == KCORE_DONE) {
+    while ((status = line_of(&core->session, core->written, core->line, core->line_room - 1, &used)) == KCORE_DONE) {
         if (write(core->trace, core->line, used) != (ssize_t)used) fail("the trace");
         core->written++;
     }
@@ -72,10 +69,6 @@ static void write_trace(struct core *core) {
 /* Adds a line to a file. */
 static void add(int file, const char *what, const char *line, int length) {
     if (length < 0 || write(file, line, length) != length) fail(what);
-}
-
-static void digits_of(const uint8_t *digest, char digits[65]) {
-    for (int byte = 0; byte < 32; byte++) sprintf(digits + 2 * byte, "%02x", digest[byte]);
 }
 
 static const char *name_of(const char *path) {
@@ -100,9 +93,9 @@ static int published_line(struct core *core, char line[200]) {
     char digits[65];
     uint8_t digest[32];
     size_t used;
-    unsigned calls = core->written - 1; /* the header is a line too */
+    unsigned calls = core->written - 1; /* the header, with its head, is a line too */
     expect(kcore_digest(&core->session, digest, sizeof digest, &used), "kcore_digest");
-    digits_of(digest, digits);
+    for (size_t byte = 0; byte < used; byte++) sprintf(digits + 2 * byte, "%02x", digest[byte]);
     return snprintf(line, 200, "{\"volume\":%u,\"calls\":%u,\"trace_sha256\":\"%s\"}\n", core->volume, calls, digits);
 }
 
@@ -158,19 +151,10 @@ static void resume(struct core *core, const char *path) {
     close(file);
 }
 
-/* Adds the digest of the configuration to what is published. */
-static void publish_configuration(struct core *core, const char *text, size_t length) {
-    char line[200], digits[65];
-    sha256(text, length, digits);
-    add(core->published, "what is published", line,
-        snprintf(line, sizeof line, "{\"config_sha256\":\"%s\"}\n", digits));
-}
-
 static void boot(struct core *core, const char *path) {
     size_t length;
     char *text = read_whole(path, &length);
-    expect(kcore_boot(&core->session, (const uint8_t *)text, length), path);
-    if (core->published >= 0) publish_configuration(core, text, length);
+    expect(kcore_boot_history(&core->session, (const uint8_t *)text, length), path);
     free(text);
 }
 
@@ -186,17 +170,27 @@ void core_open(struct core *core, const char *path, bool is_state) {
     else boot(core, path);
     expect(kcore_sizes(&core->session, &core->size), "kcore_sizes");
     core->reply_room = kcore_longest_reply() + 1;
-    core->line_room = kcore_longest_line();
+    core->line_room = kcore_longest_line() + 1;
     core->reply = malloc(core->reply_room);
     core->line = malloc(core->line_room);
     core->changes = calloc(core->size.frames, sizeof *core->changes);
     if (!core->reply || !core->line || !core->changes) fail("memory");
 }
 
+/* The number of the volume that is filled, as the head of its trace says it; 1 if it has none. */
+static unsigned volume_of(struct core *core) {
+    size_t used;
+    expect(kcore_line(&core->session, 0, core->line, core->line_room - 1, &used), "kcore_line");
+    core->line[used] = 0;
+    const char *said = strstr((const char *)core->line, "\nvolume ");
+    return said ? strtoul(strchr(said, ' '), NULL, 10) : 1;
+}
+
 void core_trace(struct core *core, const char *trace, bool redacted) {
     char path[PATH_MAX];
     core->path = trace;
     core->redacted = redacted;
+    core->volume = volume_of(core) - 1;
     if (snprintf(path, sizeof path, "%s.list", trace) >= (int)sizeof path) errno = ENAMETOOLONG, fail("the list");
     core->list = open(path, O_WRONLY | O_CREAT | O_TRUNC | O_APPEND | O_CLOEXEC, 0600);
     if (core->list < 0) fail(path);
@@ -241,7 +235,7 @@ kcore_answer core_do(struct core *core, uint32_t vm, uint32_t vcpu, kcore_reques
     uint32_t status;
     if (is_full(core)) next_volume(core);
     while ((status = kcore_do_by(&core->session, vm, vcpu, &request, bytes, page ? PAGE : 0, core->line,
-                                 core->line_room, &used, &answer)) == KCORE_HISTORY_FULL)
+                                 core->line_room - 1, &used, &answer)) == KCORE_HISTORY_FULL)
         next_volume(core);
     expect(status, "kcore_do_by");
     answered(core, begun);

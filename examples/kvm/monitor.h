@@ -49,9 +49,6 @@ void host_start(struct host_process *host, const struct plan *plan, int memory);
 /* Ends the host and all that it started. */
 void host_end(struct host_process *host);
 
-/* Gives the SHA-256 digest of a text in digits (digest.c). */
-void sha256(const char *text, size_t length, char digits[65]);
-
 /* The core (core.c): its session, and the trace that is written of it. */
 
 struct core {
@@ -61,9 +58,9 @@ struct core {
     size_t count;
     uint8_t *reply, *line; /* with room for the longest of each, and a NUL */
     size_t reply_room, line_room;
-    const char *path; /* of the trace; that of volume N > 1 ends with .N, of five digits */
+    const char *path; /* of the traces; each ends with its volume's number, .00001 and so on */
     int trace, list, published;
-    unsigned volume;
+    unsigned volume; /* its number in the history */
     size_t written; /* lines of the volume that are in its file */
     size_t most;    /* calls of a volume; 0 for as many as it holds */
     bool redacted, keeps_states;
@@ -71,10 +68,10 @@ struct core {
     double asking; /* microseconds in the core, and in writing the trace */
 };
 
-/* Opens the file to which the digest of each volume is added at its end, and that of the configuration before. It has
- * to be new, unless it is no ordinary file. */
+/* Opens the file to which the digest of each volume is added at its end. It has to be new, unless it is no ordinary
+ * file. */
 void core_publish(struct core *core, const char *path);
-/* Opens a core in the boot state of a configuration, or in the state of a text. */
+/* Opens a core in the boot state of a configuration, where its history begins, or in the state of a text. */
 void core_open(struct core *core, const char *path, bool is_state);
 /* Begins the trace, to which each call is written, with the list of its volumes, and keeps the states in which these
  * begin, if asked for. */

@@ -118,13 +118,19 @@ class Session:
         self.ask("turn")
 
 
+def calls_of(trace):
+    """The calls of a trace: its lines after the header or, if it has one, after the head."""
+    lines = trace.split(b"\n")[1:-1]
+    ends = [at for at, line in enumerate(lines) if line.startswith(b"volume ")]
+    return lines[ends[0] + 1 :] if ends else lines
+
+
 def main(words):
     shows = words[:1] == ["--changes"]
     if len(words) != 1 + shows:
         sys.exit(__doc__.rpartition("\n\n")[2].strip())
     with Session(pathlib.Path(words[-1]).read_bytes()) as session:
-        # (after the header)
-        for line in sys.stdin.buffer.read().split(b"\n")[1:-1]:
+        for line in calls_of(sys.stdin.buffer.read()):
             reply = session.call(line)
             for it in session.changes() if shows else []:
                 print(f"frame {it.frame}: {owner_of(it.before)} -> {owner_of(it.after)}")
