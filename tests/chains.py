@@ -10,7 +10,7 @@ import re
 import calls
 import heads
 from common import run
-from rules import REMARKS, VERSION, Core, Lives, denied_in, noted, rows_of_volumes, warning_of
+from rules import DEFAULT, REMARKS, VERSION, Core, Lives, denied_in, noted, rows_of_volumes, warning_of
 from states import blanked, state_text
 
 # The most volumes that a trace is cut into.
@@ -60,6 +60,10 @@ class Chain:
             self.traces = [heads.Headed(config, None, it, rng.choice([None, True])) for it in self.volumes]
         if self.state is not None:
             self.start = ["--from", program.file("from", heads.placed(self.state, self.expected))]
+        # (a trace with a head needs no configuration)
+        self.is_unnamed = self.state is None and self.traces[0].position is not None and rng.random() < 0.5
+        if self.is_unnamed:
+            self.start = []
         self.paths = self.files_of(self.traces)
 
     def file(self, name, text):
@@ -86,7 +90,7 @@ class Chain:
     def named(self):
         """What the first line says of what was read; of several volumes, their own lines say it."""
         trace = {"trace": self.traces[0].digest()} if len(self.traces) == 1 else {}
-        config = {"config": hashlib.sha256(self.path.read_bytes()).hexdigest(), "state": None}
+        config = {"config": "head" if self.is_unnamed else digest(self.path.read_text()), "state": None}
         return trace | (config if self.state is None else {"config": None, "state": digest(heads.placed(blanked(self.state), self.expected))})
 
     def number(self):
@@ -119,7 +123,9 @@ class Chain:
         """The foot of a picture of several volumes."""
         count, first = len(self.volumes), self.number()
         foot = f"kcore {VERSION}, " + (f"volumes {first} to {first + count - 1}" if first else f"{count} volumes, order not judged")
-        if is_named:
+        if is_named and self.is_unnamed:
+            foot += ", machine in the head of the trace"
+        elif is_named:
             kind, text = ("configuration", self.path.read_text()) if self.state is None else ("state", heads.placed(blanked(self.state), self.expected))
             foot += f", {kind} SHA-256 {digest(text)}"
         return foot + ", accesses unseen" * is_unseen
@@ -131,8 +137,8 @@ class Chain:
             return None
         is_named, is_unseen, _, options = self.some(rng, [vm % len(self.core.slots)])
         whole = self.file("whole", calls.trace_of(self.lines, self.is_of_ranges))
-        # (the whole trace has no head, so the state that it goes on from has no position)
-        start = self.start if self.state is None else ["--from", self.file("bare", self.state)]
+        # (the whole trace has no head, so it needs a configuration, or a state without a position)
+        start = ["--config", self.path] if self.state is None else ["--from", self.file("bare", self.state)]
         one = run(["custody", *start, "--svg", *options, whole], "")
         other = self.ran(rng, "--svg", *options)
         feet = [FOOT.search(out) for _, out, _ in (one, other)]
@@ -170,7 +176,10 @@ class Chain:
             return None
         traces = heads.disordered(rng, self.traces)
         self.paths = self.files_of(traces)
-        wrong = heads.first_misplaced(self.core.config, self.expected, traces)
+        machine = self.core.config
+        if self.is_unnamed:
+            machine = DEFAULT if traces[0].position is None else traces[0].config
+        wrong = heads.first_misplaced(machine, self.expected, traces)
         form = rng.choice([*FORMS, ["--svg"]])
         status, out, err = self.ran(rng, *form)
         if wrong is None:
