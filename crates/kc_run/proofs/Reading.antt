@@ -1,6 +1,6 @@
 -- How reading goes on over one volume after another.
-use Rattle.std.proofs.Common.{ℕ, suc, get_or, drop, take, ap₂, ◌≡◌, ◌≢◌, ◌<◌, ◌⊎◌, ◌+◌, ◌++◌, ◌∷◌, List, [], length, length-append, map, Bool, Option, Some, None, Result, Ok, Err, true, false, inl, inr, refl, ap, sym, ◌∙◌, subst, arith, append_assoc}
-use Rattle.std.specs.Prelude.{is_some, IfErr, IfSome}
+use Rattle.std.proofs.Common.{ℕ, suc, get_or, drop, take, ap₂, ◌≡◌, ◌≢◌, ◌<◌, ◌⊎◌, ◌+◌, ◌++◌, ◌∷◌, List, [], length, length-append, Bool, Option, Some, None, Result, Ok, Err, true, inl, inr, refl, ap, sym, ◌∙◌, subst, arith, append_assoc}
+use Rattle.std.specs.Prelude.{is_some, IfSome}
 use Rattle.std.proofs.Math.Seq.{take-suc}
 use Rattle.std.proofs.lemmas.List.{map-append, append-nil, drop_more}
 use Rattle.std.specs.List.{AllByRecursion}
@@ -25,7 +25,7 @@ use Rattle.kc_run.specs.declared.ending.Ending.{Ending}
 use Rattle.kc_run.specs.declared.ending.Ending.TheVariants as endings
 use Rattle.kc_args.specs.Jobs.{Path}
 use Rattle.kc_run.specs.Opening.{Held, IsOfFile, IsOpenFault}
-use Rattle.kc_run.specs.Custody.{had_by, held_by, AreAtEnd, IsVolumeRefused, ReadsOn, AreOpened}
+use Rattle.kc_run.specs.Custody.{had_by, held_by, IsVolumeRefused, ReadsOn, AreOpened}
 
 -- of two lists of sources
 failed_read_after : (xs ys : List Seen) → HasFailedRead ys → HasFailedRead (xs ++ ys)

@@ -1,7 +1,6 @@
 -- What is said of an ending if less is known of an input that was not read.
-use Rattle.std.proofs.Common.{◌≡◌, ◌⊎◌, ◌∷◌, Bool, ℕ, List, [], Option, None, Some, Result, Ok, Err, inl, inr}
+use Rattle.std.proofs.Common.{◌∷◌, Bool, ℕ, List, [], Option, None, Some, Result, Ok, Err, inl, inr}
 use Rattle.std.specs.Prelude.{IfOk}
-use Rattle.kc_types.specs.Configuration.{Configuration}
 use Rattle.kc_faults.specs.declared.origin.Origin.{Origin}
 use Rattle.kc_faults.specs.declared.fault.TextFault.{TextFault}
 use Rattle.kc_texts.specs.Ends.{Seen}
@@ -15,7 +14,7 @@ use Rattle.kc_run.specs.declared.ending.Ending.TheVariants as endings
 use Rattle.kc_run.specs.Endings.{Ended}
 use Rattle.kc_run.specs.Ends.{Ends}
 use Rattle.kc_run.specs.Custody.{IsVolumesEnding, ReportsTrace, ReportsVolumes, ReportsCustody}
-use Rattle.kc_run.specs.Run.{IsUnopened, OverFile, Replays, ReplaysTo}
+use Rattle.kc_run.specs.Run.{IsUnopened, Replays, ReplaysTo}
 
 -- the ends, of which less is known if nothing was read
 abbrev pub with_unread : Ends → Type 0 → Ends

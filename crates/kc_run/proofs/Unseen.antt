@@ -1,5 +1,5 @@
 -- What calls begin with if no file is named for it.
-use Rattle.std.proofs.Common.{◌≡◌, Bool, true, false, List, ℕ, Option, Some, None, refl}
+use Rattle.std.proofs.Common.{◌≡◌, Bool, true, false, refl}
 use Rattle.kc_texts.specs.declared.whole.ReadFault.{ReadFault}
 use Rattle.kc_texts.specs.declared.whole.ReadFault.TheVariants as reads
 use Rattle.kc_faults.specs.Faults.{read_fault}

@@ -1,5 +1,5 @@
 -- What a run of the program leaves of its files, of standard input and of its sinks, and its exit status.
-use Rattle.std.specs.Prelude.{◌≡◌, ◌≢◌, ◌⊎◌, ◌<◌, ◌↔◌, ℕ, Bool, true, false, List, [], ◌∷◌, Option, Some, None, Result, Ok, Err, IfOk, IfErr, IfSome, OnOk, IsErrOf}
+use Rattle.std.specs.Prelude.{◌≡◌, ◌≢◌, ◌⊎◌, ◌<◌, ◌↔◌, ℕ, Bool, true, false, List, [], ◌∷◌, Option, Some, None, Err, IfOk, IfErr, IfSome, OnOk, IsErrOf}
 use Rattle.std.specs.Io.KnownBytes.{Keeps, IsAtEnd}
 use Rattle.kc_types.specs.Limits.{worker_limit}
 use Rattle.kc_args.specs.declared.job.Job.{Job}

@@ -1,4 +1,4 @@
-use Rattle.std.proofs.Common.{inl, inr, refl, ap, Some}
+use Rattle.std.proofs.Common.{inl, inr, refl, ap, ◌∙◌, Some}
 use Rattle.std.proofs.lemmas.Result.{err_from_is_err_and}
 use Rattle.kc_run.proofs.Unread.{reports_less}
 use Rattle.kc_run.proofs.custody.custody.Goals as goal
@@ -13,7 +13,7 @@ returns-in_default g c = rw (← c.path.ensures, c.in_default.is) (inr record {
   had = _;
   same = c.in_ok-text.ensures.same;
   source = _;
-  start = record { text = c.in_ok-text.text.items; had_is = ap Some c.new-start.ensures; ready = refl; spells = c.in_ok-text.ensures.text };
+  start = record { text = c.in_ok-text.text.items; had_is = ap Some (c.new-start.ensures ∙ c.deref.ensures.value); ready = refl; spells = c.in_ok-text.ensures.text };
   runs = reports_less _ _ _ _ _ _ _ _ _ _ (ap g.T.Source.left) c.custody_from.ensures;
 })
 

@@ -1,6 +1,6 @@
-use Rattle.std.proofs.Common.{◌∷◌, [], None, Some, Ok, Err, refl}
+use Rattle.std.proofs.Common.{◌∷◌, [], refl}
 use Rattle.std.proofs.lemmas.Result.{err_from_is_err_and}
-use Rattle.kc_texts.specs.Ends.{Seen, seen}
+use Rattle.kc_texts.specs.Ends.{seen}
 use Rattle.kc_run.proofs.Reading.{reads_then}
 use Rattle.kc_run.proofs.custody.read_all.Goals as goal
 

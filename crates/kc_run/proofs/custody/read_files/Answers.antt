@@ -1,6 +1,6 @@
-use Rattle.std.proofs.Common.{◌+◌, ◌++◌, ◌∷◌, [], List, length, length-append, None, Some, Ok, Err, refl, ◌∙◌, arith}
+use Rattle.std.proofs.Common.{◌++◌, ◌∷◌, [], length-append, None, Some, Ok, Err, refl, ◌∙◌, arith}
 use Rattle.std.proofs.lemmas.Result.{err_from_is_err_and}
-use Rattle.kc_texts.specs.Ends.{Seen, seen}
+use Rattle.kc_texts.specs.Ends.{seen}
 use Rattle.kc_run.specs.Opening.{IsOfFile}
 use Rattle.kc_run.proofs.Reading.{reads_then, unopened, open_failed, none_read, opened_more, opened_up_to}
 use Rattle.kc_run.proofs.custody.read_files.Goals as goal

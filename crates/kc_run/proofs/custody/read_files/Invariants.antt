@@ -1,4 +1,4 @@
-use Rattle.std.proofs.Common.{◌≡◌, ◌+◌, ℕ, List, length, Option, None, Ok}
+use Rattle.std.proofs.Common.{◌≡◌, ◌+◌, List, length, None, Ok}
 use Rattle.kc_texts.specs.Ends.{Seen}
 use Rattle.kc_run.specs.Custody.{ReadsOn, AreOpened}
 use Rattle.kc_run.proofs.custody.read_files.Given as goal

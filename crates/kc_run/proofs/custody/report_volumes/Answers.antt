@@ -1,4 +1,4 @@
-use Rattle.std.proofs.Common.{rules, [], refl}
+use Rattle.std.proofs.Common.{rules, refl}
 use Rattle.kc_run.proofs.Reading.{all_told}
 use Rattle.kc_run.proofs.Reports.{volumes_given, volumes_refused, volumes_failed}
 use Rattle.kc_run.proofs.custody.report_volumes.Goals as goal

@@ -1,4 +1,4 @@
-use Rattle.std.proofs.Common.{inl, inr, refl, ap, Some}
+use Rattle.std.proofs.Common.{inl, inr, refl, ap, ◌∙◌, Some}
 use Rattle.std.proofs.lemmas.Result.{err_from_is_err_and}
 use Rattle.kc_faults.proofs.Told.{texts_unread}
 use Rattle.kc_run.proofs.Carried.{runs_live}
@@ -16,7 +16,7 @@ returns-in_default g c =
       had = _;
       same = c.in_ok-text.ensures.same;
       source = _;
-      start = record { text = c.in_ok-text.text.items; had_is = ap Some c.new-start.ensures; ready = refl; spells = c.in_ok-text.ensures.text };
+      start = record { text = c.in_ok-text.text.items; had_is = ap Some (c.new-start.ensures ∙ c.deref.ensures.value); ready = refl; spells = c.in_ok-text.ensures.text };
       runs = runs_live _ _ _ c.live_text.result c.requires.files done.ok done.sources (texts_unread _ _ _ _ _ _ (ap g.T.Source.left) done.texts) done.sink done.workers done.actor done.slot done.started done.unsettled;
     })
 
