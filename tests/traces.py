@@ -1,8 +1,10 @@
 """Random traces that make sense: each call is chosen by the state that those before it leave."""
 import hashlib
+import json
 
 import calls
-from rules import FRAMES, GUEST_FRAMES, IMAGE_BYTES, PAGE, RANGE, SHARES, SLOTS, Core, pages_of
+from common import TOP
+from rules import DEFAULT, FRAMES, GUEST_FRAMES, IMAGE_BYTES, PAGE, RANGE, SHARES, SLOTS, Core, pages_of
 
 LENGTHS = [1, 3, 4095, 4096, 4097, 8192]
 APPROVED = [b"abc"] + [bytes(length) for length in LENGTHS if length != 4095]
@@ -201,3 +203,16 @@ def has_actors(config, lines):
     """Whether a live run may have these calls: the actor of each exists."""
     actors = filter(None, map(calls.actor_of, lines))
     return all(int(v) < SLOTS[config["version"]] and int(c) < 8 for v, c in actors)
+
+
+def of_examples():
+    """The traces in examples/, without heads: a name, the configuration and the lines of the calls of each."""
+    folder = TOP / "examples"
+    for path in sorted(folder.iterdir()):
+        text = path.read_text() if path.is_file() and "." not in path.name else ""
+        if text.startswith("kcore-trace"):
+            words = path.with_suffix(".args")
+            named = [it for it in words.read_text().split() if it.endswith(".json")] if words.exists() else []
+            config = json.loads((folder / "configurations" / named[0]).read_text()) if named else DEFAULT
+            lines = [line for line in text.splitlines()[1:] if line.split()[0] in calls.WORDS]
+            yield f"example {path.name}", {"version": 1, **config}, lines
