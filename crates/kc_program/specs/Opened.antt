@@ -5,5 +5,5 @@ use Rattle.kc_program.specs.declared.folder.Opened.TheVariants as opened
 
 -- whether a read of it failed
 abbrev pub has_failed : Opened → Bool
-has_failed (opened.Standard input) = input.failed
+has_failed (opened.Standard input is_ended) = input.failed
 has_failed (opened.File file) = file.failed

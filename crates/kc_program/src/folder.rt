@@ -15,8 +15,8 @@ use std::io::{ErrorKind, IsTerminal, Stdin};
 /// What was opened to be read.
 #[derive(Drop)]
 pub enum Opened {
-    /// Standard input.
-    Standard(Std<Stdin>),
+    /// Standard input, and whether it is at its end: a terminal that is read once more asks for more.
+    Standard { input: Std<Stdin>, is_ended: bool },
     /// A file of the system.
     File(Std<File>),
 }
@@ -29,14 +29,21 @@ impl Source for Opened {
 
     fn read(&mut self, buffer: &mut [u8]) -> Result<usize, Failed> {
         match self {
-            Opened::Standard(input) => input.read(buffer),
+            Opened::Standard { input, is_ended } => {
+                if *is_ended {
+                    return Ok(0);
+                }
+                let count = input.read(buffer)?;
+                *is_ended = count == 0 && !buffer.is_empty();
+                Ok(count)
+            },
             Opened::File(file) => file.read(buffer),
         }
     }
 
     fn size_hint(&self) -> usize {
         match self {
-            Opened::Standard(input) => input.size_hint(),
+            Opened::Standard { input, .. } => input.size_hint(),
             Opened::File(file) => file.size_hint(),
         }
     }
@@ -138,7 +145,10 @@ impl<'a> Folder<'a> {
         } else {
             None
         };
-        let opened = Opened::Standard(Std::new(self.rt.stdin()));
+        let opened = Opened::Standard {
+            input: Std::new(self.rt.stdin()),
+            is_ended: false,
+        };
         self.named(None, self.asked.kind, false, opened, awaited)
     }
 
