@@ -16,6 +16,7 @@ use Rattle.kc_trace.specs.declared.custody_writer.StartDigest.TheVariants as sta
 use Rattle.kc_trace.specs.declared.custody_writer.Digests.{Digests}
 use Rattle.kc_trace.specs.declared.volume_writer.VolumeEntry.{VolumeEntry}
 use Rattle.kc_trace.specs.declared.expected.Expected.{Expected}
+use Rattle.kc_trace.specs.Header.{is_host_redacted}
 use Rattle.kc_trace.specs.Expected.{head_number}
 use Rattle.kc_faults.specs.Origins.{position_at}
 use Rattle.kc_faults.specs.declared.origin.Origin.{Origin}
@@ -49,7 +50,7 @@ digest_same true volume = ap (λ (seen : List Call). Some (sha256 (text_of (witn
 entries_from : (named : Bool) (line : ℕ) (volumes : List Traced) → entries_of named line (map redacted_trace volumes) ≡ entries_of named line volumes
 entries_from named line [] = refl
 entries_from named line (volume ∷ volumes) =
-    let entry : ℕ → Option (List ℕ) → VolumeEntry = λ count digest. record { line = line; calls = count; number = head_number volume.header; digest = digest } in
+    let entry : ℕ → Option (List ℕ) → VolumeEntry = λ count digest. record { line = line; calls = count; number = head_number volume.header; is_host_redacted = is_host_redacted volume.header; digest = digest } in
     ap₂ (λ (count : ℕ) (digest : Option (List ℕ)). entry count digest ∷ entries_of named (line + count) (map redacted_trace volumes)) (length-map volume.calls redacted_call) (digest_same named volume)
     ∙ ap (λ (rest : List VolumeEntry). entry (length volume.calls) (trace_named named volume) ∷ rest) (entries_from named (line + length volume.calls) volumes)
 

@@ -14,4 +14,5 @@ mod Witnessed
 pub mod Sources
 pub mod Counted
 mod Placed
+mod Numbered
 mod Volumes

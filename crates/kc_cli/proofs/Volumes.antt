@@ -16,9 +16,10 @@ use Rattle.kc_trace.specs.CustodyText.{AreInLine}
 use Rattle.kc_types.specs.Configuration.{Configuration}
 use Rattle.kc_trace.specs.declared.expected.Expected.{Expected}
 use Rattle.kc_trace.specs.Trace.{IsTraceUnder}
+use Rattle.kc_trace.specs.Header.{is_host_redacted}
 use Rattle.kc_trace.specs.Expected.{MayHave, head_number}
 use Rattle.kc_trace.specs.declared.volume_writer.VolumeEntry.{VolumeEntry}
-use Rattle.kc_trace.specs.declared.volume_writer.VolumeNumbers.{VolumeNumbers}
+use Rattle.kc_trace.specs.declared.volume_writer.Order.{Order}
 use Rattle.kc_trace.specs.declared.custody_writer.Heading.{Heading}
 use Rattle.kc_faults.specs.declared.origin.Origin.{Origin}
 use Rattle.kc_faults.specs.Origins.{BeginsIn}
@@ -28,7 +29,7 @@ use Rattle.kc_cli.specs.declared.custody.CustodyOrder.{CustodyOrder}
 use Rattle.kc_cli.specs.declared.custody.CustodyAccount.{CustodyAccount}
 use Rattle.kc_cli.specs.Answers.{AreAllAnswered}
 use Rattle.kc_cli.specs.Traced.{Traced, expected_next, expected_last, trace_named}
-use Rattle.kc_cli.specs.Custody.{joined, AreVolumes, IsMadeOf, IsCustodyText, NamesStart, entries_of, entries_in, names_trace, names_start, heading_of, listed, first_number, trace_digest, numbers_in}
+use Rattle.kc_cli.specs.Custody.{joined, AreVolumes, IsMadeOf, IsCustodyText, NamesStart, entry_of, entries_of, entries_in, names_trace, names_start, heading_of, listed, first_number, trace_digest, numbers_in, lacks_digest, order_by}
 use Rattle.kc_trace.specs.declared.custody_writer.Digests.{Digests}
 use Rattle.kc_cli.specs.declared.account.Scope.{Scope}
 use Rattle.kc_cli.specs.Headings.{digests_by, heading_by}
@@ -45,6 +46,7 @@ use Rattle.kc_cli.proofs.Headings.{headed}
 use Rattle.kc_cli.proofs.Blind.{made_blind}
 use Rattle.kc_cli.proofs.Ledgers.{account_given, kept_within}
 use Rattle.kc_cli.proofs.Told.{is_told}
+use Rattle.kc_cli.proofs.Numbered.{numbered}
 
 -- one volume more
 pub joined_last : (volumes : List Traced) (volume : Traced) → joined (volumes ++ volume ∷ []) ≡ joined volumes ++ volume.calls
@@ -63,23 +65,23 @@ volumes_last config expected [] (one ∷ volumes) source volume are may traced f
 volumes_last config expected (one ∷ sources) [] source volume are may traced few = absurd are
 volumes_last config expected (one ∷ sources) (some ∷ volumes) source volume are may traced few = (are.0, are.1, are.2, volumes_last config (expected_next some) sources volumes source volume are.3 may traced few)
 
-pub entries_last : (named : Bool) (line : ℕ) (volumes : List Traced) (volume : Traced) (entry : VolumeEntry) → entry.line ≡ line + length (joined volumes) → entry.calls ≡ length volume.calls → entry.number ≡ head_number volume.header → entry.digest ≡ trace_named named volume
+pub entries_last : (named : Bool) (line : ℕ) (volumes : List Traced) (volume : Traced) (entry : VolumeEntry) → entry.line ≡ line + length (joined volumes) → entry.calls ≡ length volume.calls → entry.number ≡ head_number volume.header → entry.is_host_redacted ≡ is_host_redacted volume.header → entry.digest ≡ trace_named named volume
     → entries_of named line volumes ++ entry ∷ [] ≡ entries_of named line (volumes ++ volume ∷ [])
-entries_last named line [] volume entry at long number digest =
+entries_last named line [] volume entry at long number hidden digest =
     let here : entry.line ≡ line = omega (arith, at) in
-    rw (← here, ← long, ← number, ← digest) refl
-entries_last named line (v ∷ volumes) volume entry at long number digest =
+    rw (← here, ← long, ← number, ← hidden, ← digest) refl
+entries_last named line (v ∷ volumes) volume entry at long number hidden digest =
     let both = length-append v.calls (joined volumes) in
     let after : entry.line ≡ (line + length v.calls) + length (joined volumes) = omega (arith, at, both) in
-    ap (λ (rest : List VolumeEntry). record { line = line; calls = length v.calls; number = head_number v.header; digest = trace_named named v } ∷ rest) (entries_last named (line + length v.calls) volumes volume entry after long number digest)
+    ap (λ (rest : List VolumeEntry). entry_of named line v ∷ rest) (entries_last named (line + length v.calls) volumes volume entry after long number hidden digest)
 
 -- one trace more was read
 pub read_more : (order : CustodyOrder) (old new : CustodyAccount) (m : State) (sources : List (Option (List ℕ))) (source : Option (List ℕ)) (volume : Traced) (entry : VolumeEntry) → HasTold order old m sources → new.order ≡ old.order → new.first ≡ old.first → new.expected ≡ expected_next volume
     → MayHave m.config old.expected volume.header → IfSome source (λ text. IsTraceUnder volume.header text volume.calls) → length volume.calls ≤ call_limit → new.kept.line ≡ old.kept.line + length volume.calls
     → ((before : List Call) → HasKept order.form m before old.core old.kept → HasKept order.form m (before ++ volume.calls) new.core new.kept)
-    → new.entries.items ≡ old.entries.items ++ entry ∷ [] → entry.line ≡ old.kept.line → entry.line + entry.calls ≡ new.kept.line → entry.number ≡ head_number volume.header → entry.digest ≡ trace_named (names_trace order.scope.named) volume
+    → new.entries.items ≡ old.entries.items ++ entry ∷ [] → entry.line ≡ old.kept.line → entry.line + entry.calls ≡ new.kept.line → entry.number ≡ head_number volume.header → entry.is_host_redacted ≡ is_host_redacted volume.header → entry.digest ≡ trace_named (names_trace order.scope.named) volume
     → length old.entries.items + 1 < 2 ^ 32 → HasTold order new m (sources ++ source ∷ [])
-read_more order old new m sources source volume entry h same first next may traced few at more pushed begins ends number digest room = record {
+read_more order old new m sources source volume entry h same first next may traced few at more pushed begins ends number hidden digest room = record {
   ordered = same ∙ h.ordered;
   lawful = h.lawful;
   volumes = h.volumes ++ volume ∷ [];
@@ -88,7 +90,7 @@ read_more order old new m sources source volume entry h same first next may trac
       (volumes_last m.config old.first sources h.volumes source volume h.traced (subst (λ (e : Expected). MayHave m.config e volume.header) h.next may) traced few);
   next = next ∙ sym (next_last new.first h.volumes volume);
   entries = pushed ∙ ap (λ (entries : List VolumeEntry). entries ++ entry ∷ []) h.entries
-      ∙ entries_last (names_trace order.scope.named) first_line h.volumes volume entry (begins ∙ h.kept.line) (let long : entry.calls ≡ length volume.calls = omega (arith, begins, ends, at) in long) number digest;
+      ∙ entries_last (names_trace order.scope.named) first_line h.volumes volume entry (begins ∙ h.kept.line) (let long : entry.calls ≡ length volume.calls = omega (arith, begins, ends, at) in long) number hidden digest;
   counted = (let long = ap length pushed ∙ length-append old.entries.items (entry ∷ []) in omega (arith, long, room));
   kept = subst (λ (all : List Call). HasKept order.form m all new.core new.kept) (sym (joined_last h.volumes volume)) (more (joined h.volumes) h.kept);
 }
@@ -161,9 +163,9 @@ listed_short (e ∷ []) = omega arith
 listed_short (e ∷ f ∷ entries) = omega arith
 
 -- the heading is made of its parts
-pub heading_so : (scope : Scope) (origin : Origin) (start : Option (List ℕ)) (entries : List VolumeEntry) (digests : Option Digests) (count : ℕ) (numbers : Option VolumeNumbers) → digests ≡ digests_by scope.named origin start (first_number entries) (trace_digest entries) → count ≡ length (listed entries) → numbers ≡ numbers_in entries
-    → (◌≡◌ {A = Heading} (record { digests = digests; is_unseen = scope.is_unseen; chain = record { count = count; numbers = numbers } }) (heading_by scope origin start entries))
-heading_so scope origin start entries digests count numbers same long between = rw (same, long, between) refl
+pub heading_so : (scope : Scope) (origin : Origin) (start : Option (List ℕ)) (entries : List VolumeEntry) (digests : Option Digests) (count : ℕ) (judged : Order) → digests ≡ digests_by scope.named origin start (first_number entries) (trace_digest entries) → count ≡ length (listed entries) → judged ≡ order_by (lacks_digest entries) (numbers_in entries)
+    → (◌≡◌ {A = Heading} (record { digests = digests; is_unseen = scope.is_unseen; chain = record { count = count; order = judged } }) (heading_by scope origin start entries))
+heading_so scope origin start entries digests count judged same long by = rw (same, long, by) refl
 
 -- what was kept of the sources, as it is given
 pub record IsToldOf (account : CustodyAccount) (m : State) (calls : List Call) (told : Told) : Type 0 where
@@ -194,6 +196,7 @@ text_of order account m start sources texts told text h is all begins digest giv
       begins = begins;
       volumes = h.volumes;
       traced = rw same at h.traced;
+      numbered = numbered m.config account.first sources h.volumes (names_trace order.scope.named) first_line h.traced;
       count = told.subject.answered.calls;
       refused = told.subject.answered.denials.total;
       told = notes m calls;

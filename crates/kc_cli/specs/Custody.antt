@@ -1,5 +1,5 @@
 -- What the engine of custody writes of what its sources held.
-use Rattle.std.specs.Prelude.{◌≡◌, ◌≢◌, ◌<◌, ◌≤◌, ◌+◌, ◌++◌, ℕ, Bool, not, true, false, List, [], ◌∷◌, length, map, filter, All, Option, Some, None, is_some, Result, Err, IfSome, OnOk}
+use Rattle.std.specs.Prelude.{◌≡◌, ◌≢◌, ◌<◌, ◌≤◌, ◌+◌, ◌++◌, ◌||◌, ℕ, Bool, not, true, false, List, [], ◌∷◌, length, map, filter, All, Option, Some, None, is_some, Result, Err, IfSome, OnOk}
 use Rattle.std.specs.List.{range_with_len}
 use Rattle.sha2.specs.Sha256.{sha256}
 use Rattle.kc_types.specs.Limits.{call_limit}
@@ -32,6 +32,7 @@ use Rattle.kc_state_text.specs.StateText.{placed_state_text}
 use Rattle.kc_custody.specs.Chosen.{chosen, NamesOnly}
 use Rattle.kc_trace.specs.declared.expected.Expected.{Expected}
 use Rattle.kc_trace.specs.Trace.{IsTraceUnder}
+use Rattle.kc_trace.specs.Header.{is_host_redacted}
 use Rattle.kc_trace.specs.Expected.{MayHave, head_number}
 use Rattle.kc_trace.specs.declared.custody_writer.StartDigest.{StartDigest}
 use Rattle.kc_trace.specs.declared.custody_writer.StartDigest.TheVariants as starts
@@ -39,6 +40,8 @@ use Rattle.kc_trace.specs.declared.custody_writer.Digests.{Digests}
 use Rattle.kc_trace.specs.declared.custody_writer.Heading.{Heading}
 use Rattle.kc_trace.specs.declared.volume_writer.VolumeEntry.{VolumeEntry}
 use Rattle.kc_trace.specs.declared.volume_writer.VolumeNumbers.{VolumeNumbers}
+use Rattle.kc_trace.specs.declared.volume_writer.Order.{Order}
+use Rattle.kc_trace.specs.declared.volume_writer.Order.TheVariants as order
 use Rattle.kc_trace.specs.declared.volume_writer.Chain.{Chain}
 use Rattle.kc_trace.specs.RemarkText.{notes_text_of}
 use Rattle.kc_trace.specs.SummaryText.{summary_text_of}
@@ -121,11 +124,15 @@ start_digest origins.State text m expected = sha256 (placed_state_text (position
 abbrev pub NamesStart : Bool → Origin → Option (List ℕ) → State → Expected → Option (List ℕ) → Type 0
 NamesStart asked origin source m expected digest = (is_some digest ≡ asked) × IfSome digest (λ d. IfSome source (λ text. d ≡ start_digest origin text m expected))
 
--- each volume by the line of its first call, of which the first volume's is this one, by the number of its calls, by its own number, if it has a head, and by its digest, if that is asked for
+-- a volume by the line of its first call, by the number of its calls, by its own number, and whether it lacks bytes that the host wrote, if it has a head, and by its digest, if that is asked for
+abbrev pub entry_of : Bool → ℕ → Traced → VolumeEntry
+entry_of named line volume =
+    record { line = line; calls = length volume.calls; number = head_number volume.header; is_host_redacted = is_host_redacted volume.header; digest = trace_named named volume }
+
+-- each volume, of which the first one's first call has this line
 abbrev pub entries_of : Bool → ℕ → List Traced → List VolumeEntry
 entries_of named line [] = []
-entries_of named line (volume ∷ volumes) =
-    record { line = line; calls = length volume.calls; number = head_number volume.header; digest = trace_named named volume } ∷ entries_of named (line + length volume.calls) volumes
+entries_of named line (volume ∷ volumes) = entry_of named line volume ∷ entries_of named (line + length volume.calls) volumes
 
 -- volumes are named on lines of their own if there are several
 abbrev pub listed : List VolumeEntry → List VolumeEntry
@@ -157,9 +164,25 @@ numbers_between first last = None
 abbrev pub numbers_in : List VolumeEntry → Option VolumeNumbers
 numbers_in entries = numbers_between (first_number entries) (last_number entries)
 
--- which volumes these are: how many, if there are several, and their numbers
+-- the number of the last volume is that of the first, and one more for each volume after it, if they have heads
+abbrev pub AreNumbered : List VolumeEntry → Type 0
+AreNumbered entries = IfSome (numbers_in entries) (λ numbers. numbers.last + 1 ≡ numbers.first + length entries)
+
+-- whether a volume that another one follows lacks bytes that the host wrote
+abbrev pub lacks_digest : List VolumeEntry → Bool
+lacks_digest [] = false
+lacks_digest (entry ∷ []) = false
+lacks_digest (entry ∷ next ∷ entries) = entry.is_host_redacted || lacks_digest (next ∷ entries)
+
+-- by what it was judged that each volume follows the one before it: these are their numbers, if they have heads
+abbrev pub order_by : Bool → Option VolumeNumbers → Order
+order_by lacks None = order.NotJudged
+order_by true (Some numbers) = order.Numbers numbers
+order_by false (Some numbers) = order.Digests numbers
+
+-- which volumes these are: how many, if there are several, and by what their order was judged
 abbrev pub chain_of : List VolumeEntry → Chain
-chain_of entries = record { count = length (listed entries); numbers = numbers_in entries }
+chain_of entries = record { count = length (listed entries); order = order_by (lacks_digest entries) (numbers_in entries) }
 
 -- what the calls begin with if no file is named for it, by the number of the first volume: the machine in its head, or the default one
 abbrev pub unnamed_start : Option ℕ → StartDigest
@@ -199,6 +222,7 @@ pub record IsCustodyText (origin : Origin) (form : CustodyForm) (scope : Scope) 
   pub begins : BeginsIn origin start first expected
   pub volumes : List Traced
   pub traced : AreVolumes first.config expected (map Some traces) volumes
+  pub numbered : AreNumbered (entries_in scope volumes)
   pub count : ℕ
   pub refused : ℕ
   pub told : List Note

@@ -12,7 +12,7 @@ ghost use Rattle.kc_faults.specs.Origins.{BeginsIn};
 ghost use Rattle.kc_faults.specs.Outcomes.{TellsSources, TellsTexts, TellsSink};
 ghost use Rattle.kc_cli.specs.Engine.{IsReplayFault};
 ghost use Rattle.kc_cli.specs.Traced.{Traced, trace_named, digest_if};
-ghost use Rattle.kc_cli.specs.Custody.{IsCustodyText, TellsCustody, NamesStart, names_start, listed, trace_digest, first_number, numbers_in, unnamed_start};
+ghost use Rattle.kc_cli.specs.Custody.{IsCustodyText, TellsCustody, NamesStart, names_start, listed, trace_digest, first_number, numbers_in, lacks_digest, order_by, unnamed_start};
 ghost use Rattle.kc_cli.specs.Answers.{AreAllAnswered};
 ghost use Rattle.kc_cli.specs.Headings.{start_by, digests_by, heading_by};
 ghost use Rattle.kc_cli.specs.Volumes.{known, HasTold, IsFull};
@@ -26,7 +26,7 @@ use kc_faults::{Origin, TextFault};
 use kc_remarks::Answered;
 use kc_texts::{Sink, Source};
 use kc_trace::{
-    Chain, Digests, Expected, Heading, StartDigest, TraceFault, VolumeEntry, VolumeNumbers,
+    Chain, Digests, Expected, Heading, Order, StartDigest, TraceFault, VolumeEntry, VolumeNumbers,
 };
 use kc_types::Config;
 use std::alloc::Global;
@@ -127,6 +127,36 @@ fn numbers_in(entries: &[VolumeEntry]) -> Option<VolumeNumbers>
     })
 }
 
+/// Whether a volume that another one follows lacks bytes that the host wrote.
+fn lacks_digest(entries: &[VolumeEntry]) -> bool
+    ensures { result ≡ lacks_digest entries.now }
+{
+    let mut rest = entries;
+    while let [entry, after @ ..] = rest {
+        if entry.is_host_redacted && !after.is_empty() {
+            return true;
+        }
+        rest = after;
+    }
+    false
+}
+
+/// By what it was judged that each volume follows the one before it.
+fn order_of(entries: &[VolumeEntry]) -> Order
+    ensures { result ≡ order_by (lacks_digest entries.now) (numbers_in entries.now) }
+{
+    match numbers_in(entries) {
+        None => Order::NotJudged,
+        Some(numbers) => {
+            if lacks_digest(entries) {
+                Order::Numbers(numbers)
+            } else {
+                Order::Digests(numbers)
+            }
+        },
+    }
+}
+
 /// The volumes that are named on lines of their own: none if there is only one.
 fn listed(alloc: Global, entries: Vec<VolumeEntry>) -> Vec<VolumeEntry>
     ensures { result.items ≡ listed entries.items }
@@ -157,14 +187,14 @@ fn told_of(
 {
     let trace = trace_digest(entries.as_slice());
     let first = first_number(entries.as_slice());
-    let numbers = numbers_in(entries.as_slice());
+    let judged = order_of(entries.as_slice());
     let volumes = listed(alloc, entries);
     let heading = Heading {
         digests: digests_by(order.scope.named, order.origin, start, first, trace),
         is_unseen: order.scope.is_unseen,
         chain: Chain {
             count: volumes.len() as u32,
-            numbers,
+            order: judged,
         },
     };
     let answered = Answered {
@@ -300,6 +330,7 @@ impl CustodyAccount {
             line,
             calls: self.kept.line - line,
             number: header.number(),
+            is_host_redacted: header.is_host_redacted(),
             digest: digest_named(digest, is_named),
         };
         match self.entries.push(entry) {

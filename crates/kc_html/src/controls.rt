@@ -124,11 +124,12 @@ function listen() {
   window.onresize = draw;
 }
 
-// Which volumes the lines are of: how many, and their numbers in their heads, or that their order was not judged.
+// Which volumes the lines are of: how many, and their numbers in their heads, and whether their order was judged.
 function volumesRead() {
   const count = volumes.length, what = count ? numbered(count, "volume", "volumes") : "the trace";
   if (head.first === undefined) return head.order ? `${what}, order ${head.order}` : what;
-  return count ? `${what}, by their heads volumes ${head.first} to ${head.last}` : `${what}, by its head volume ${head.first}`;
+  const order = head.order ? `, order by ${head.order} alone` : "";
+  return count ? `${what}, by their heads volumes ${head.first} to ${head.last}${order}` : `${what}, by its head volume ${head.first}`;
 }
 
 function start() {

@@ -120,7 +120,7 @@ pub record Recording : Type 0 where
 -- the header of the volume that goes on from a state of this machine: with a position a head, without one none
 abbrev pub header_at : Configuration → Option Position → Header
 header_at config None = Two
-header_at config (Some position) = Three (record { config = config; position = position })
+header_at config (Some position) = Three (record { config = config; position = position; is_host_redacted = false })
 
 -- every call may come in a trace with this header
 abbrev pub MayRecord : Header → Type 0

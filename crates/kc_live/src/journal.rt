@@ -50,6 +50,7 @@ fn header_at(config: &Config, position: Option<Position>) -> Result<Header, Memo
         Some(position) => Ok(Header::Three(Head {
             config: config.copy()?,
             position,
+            is_host_redacted: false,
         })),
     }
 }
@@ -63,8 +64,13 @@ fn moved(header: Header, position: Option<Position>) -> Header
             let Head {
                 config,
                 position: _,
+                is_host_redacted: _,
             } = head;
-            Header::Three(Head { config, position })
+            Header::Three(Head {
+                config,
+                position,
+                is_host_redacted: false,
+            })
         },
         (Header::Three(_), None) => Header::Two,
         (header, _) => header,

@@ -17,6 +17,7 @@ use Rattle.kc_model.proofs.States.ZeroPage.{zeros-are_bytes}
 use Rattle.kc_model.proofs.Redaction.Traces.{bytes_decide_nothing}
 use Rattle.kc_model.proofs.Redaction.Blank.{told_alike, keeps-all, wholly-differ}
 use Rattle.kc_remarks.proofs.Unread.{unread, notes_redacted}
+use Rattle.kc_trace.specs.Header.{IsHeader, host_redacted}
 use Rattle.kc_trace.specs.Spelling.{lines_of, text_of, is_allowed_in}
 use Rattle.kc_trace.specs.Trace.{IsCallOf, AreCalls, IsTrace}
 use Rattle.kc_redact.specs.Redacted.{blanked, redacted_call, redacted_line, redacted, redacted_in, redacted_from, all_frames, DifferInBytes, IsRedaction, IsHostRedaction}
@@ -113,18 +114,30 @@ host-number m (call ∷ calls) = ap suc (host-number (next m call).1 calls)
 told-from : (m n : State) (calls : List Call) → IsLawful m → IsLawful n → DifferInBytes all_frames m n → TellTheSame all_frames m n calls (redacted_from m calls)
 told-from m n calls is other differ = bytes_decide_nothing m calls is all_frames n (redacted_from m calls) other differ (wholly-differ m calls) (keeps-all calls)
 
-pub is_host_redaction : (m : State) (text other : List ℕ) (calls : List Call) → IsLawful m → (read : IsTrace text calls) → other ≡ text_of read.0 (redacted_from m calls) → IsHostRedaction m text other calls
+-- a header that says that the host's bytes are redacted is one, and allows the same calls
+still-header : (header : Header) → IsHeader header → IsHeader (host_redacted header)
+still-header One is = is
+still-header Two is = is
+still-header (Three head) is = record { config = is.config; digests = is.digests; position = is.position }
+
+still-calls : (header : Header) (calls : List Call) → AreCalls header calls → AreCalls (host_redacted header) calls
+still-calls One calls each = each
+still-calls Two calls each = each
+still-calls (Three head) [] each = tt
+still-calls (Three head) (call ∷ calls) each = (each.0, still-calls (Three head) calls each.1)
+
+pub is_host_redaction : (m : State) (text other : List ℕ) (calls : List Call) → IsLawful m → (read : IsTrace text calls) → other ≡ text_of (host_redacted read.0) (redacted_from m calls) → IsHostRedaction m text other calls
 is_host_redaction m text other calls is read written = record {
   header = read.0;
   read = read;
   whole = read.1.whole;
   written = written;
   trace = (
-    read.0,
+    host_redacted read.0,
     record {
-      valid = read.1.valid;
+      valid = still-header read.0 read.1.valid;
       whole = written;
-      each = host-are m read.0 calls read.1.each;
+      each = still-calls read.0 (redacted_from m calls) (host-are m read.0 calls read.1.each);
       few = let few = read.1.few in omega (arith, few, host-number m calls);
     },
   );

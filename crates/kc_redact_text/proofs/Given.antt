@@ -8,6 +8,7 @@ use Rattle.kc_model.specs.Lawful.{IsLawful}
 use Rattle.kc_trace.specs.declared.header.Header.{Header}
 use Rattle.kc_trace.specs.declared.expected.Expected.{Expected}
 use Rattle.kc_trace.specs.Expected.{MayHave}
+use Rattle.kc_trace.specs.Header.{host_redacted}
 use Rattle.kc_trace.specs.Spelling.{text_of}
 use Rattle.kc_faults.specs.declared.origin.Origin.{Origin}
 use Rattle.kc_faults.specs.Origins.{BeginsIn}
@@ -43,20 +44,23 @@ WasMade origin start trace header kept denials =
     (m : State) × (expected : Expected) × IsLawful m × IfSome start (λ text. BeginsIn origin text m expected) × MayHave m.config expected header × IfSome trace (λ text. IsHeaderAndCalls (Some m) text header kept denials)
 
 -- the text that is written of these
-is_host_redacted : (origin : Origin) (start text : List ℕ) (header : Header) (kept : List Call) (denials : Denials) → WasMade origin (Some start) (Some text) header kept denials → IsHostRedacted origin start text (text_of header kept)
+abbrev pub host_text : Header → List Call → List ℕ
+host_text header kept = text_of (host_redacted header) kept
+
+is_host_redacted : (origin : Origin) (start text : List ℕ) (header : Header) (kept : List Call) (denials : Denials) → WasMade origin (Some start) (Some text) header kept denials → IsHostRedacted origin start text (host_text header kept)
 is_host_redacted origin start text header kept denials made =
     let read = made.5 in
-    (made.0, made.1, read.calls, made.3, (header, made.4, read.read), is_host_redaction made.0 text (text_of header kept) read.calls made.2 (header, read.read) (text_is (Some made.0) text header kept denials read))
+    (made.0, made.1, read.calls, made.3, (header, made.4, read.read), is_host_redaction made.0 text (host_text header kept) read.calls made.2 (header, read.read) (ap (λ calls. host_text header calls) read.redacted))
 
-pub writes_host : (origin : Origin) (start trace old new : Option (List ℕ)) (header : Header) (kept : List Call) (denials : Denials) → WasMade origin start trace header kept denials → Appends old new (text_of header kept) → Writes (IsHostRedacted origin) start trace old new
+pub writes_host : (origin : Origin) (start trace old new : Option (List ℕ)) (header : Header) (kept : List Call) (denials : Denials) → WasMade origin start trace header kept denials → Appends old new (host_text header kept) → Writes (IsHostRedacted origin) start trace old new
 writes_host origin None trace old new header kept denials made given = tt
 writes_host origin (Some start) None old new header kept denials made given = tt
-writes_host origin (Some start) (Some text) old new header kept denials made given = (text_of header kept, is_host_redacted origin start text header kept denials made, given)
+writes_host origin (Some start) (Some text) old new header kept denials made given = (host_text header kept, is_host_redacted origin start text header kept denials made, given)
 
-pub begins_host : (origin : Origin) (start trace old new : Option (List ℕ)) (header : Header) (kept : List Call) (denials : Denials) → WasMade origin start trace header kept denials → ((n : ℕ) × Appends old new (take n (text_of header kept))) → Begins (IsHostRedacted origin) start trace old new
+pub begins_host : (origin : Origin) (start trace old new : Option (List ℕ)) (header : Header) (kept : List Call) (denials : Denials) → WasMade origin start trace header kept denials → ((n : ℕ) × Appends old new (take n (host_text header kept))) → Begins (IsHostRedacted origin) start trace old new
 begins_host origin None trace old new header kept denials made cut = tt
 begins_host origin (Some start) None old new header kept denials made cut = tt
-begins_host origin (Some start) (Some text) old new header kept denials made cut = (text_of header kept, cut.0, is_host_redacted origin start text header kept denials made, cut.1)
+begins_host origin (Some start) (Some text) old new header kept denials made cut = (host_text header kept, cut.0, is_host_redacted origin start text header kept denials made, cut.1)
 
 -- the counts are those of the trace's calls
 pub answers_host : (origin : Origin) (start trace : Option (List ℕ)) (header : Header) (kept : List Call) (denials : Denials) (answered : Answered) → WasMade origin start trace header kept denials → answered.calls ≡ length kept → answered.denials ≡ denials

@@ -118,8 +118,8 @@ fn read_both<C: Source, T: Source>(
 
 /// Reads the text of the start and a trace, each to its end; makes the trace's calls on one thread as they are read;
 /// and writes the trace with zeros in place of the bytes that virtual processors write, and that the host writes to a
-/// frame of a VM that is active at that point: the same header and the same lines, each as long as it was. The result
-/// counts the calls, and those that were refused or rejected.
+/// frame of a VM that is active at that point: the same lines, each as long as it was, and the same header, but a head
+/// says that these bytes are redacted. The result counts the calls, and those that were refused or rejected.
 ///
 /// Nothing is written before the whole trace has been read and answered. A source that fails, or that has more than
 /// 1,073,741,824 bytes, is `Read`, even if its bytes so far are refused already. Running out of memory is reported
@@ -158,6 +158,6 @@ pub fn redact_host_text<C: Source, T: Source, K: Sink>(
         calls: calls.len(),
         denials,
     };
-    give_redacted(alloc, &header, calls, out)?;
+    give_redacted(alloc, &header.host_redacted(), calls, out)?;
     Ok(answered)
 }

@@ -6,6 +6,8 @@ use Rattle.kc_trace.specs.declared.custody_writer.StartDigest.{StartDigest}
 use Rattle.kc_trace.specs.declared.custody_writer.StartDigest.TheVariants as start
 use Rattle.kc_trace.specs.declared.custody_writer.Digests.{Digests}
 use Rattle.kc_trace.specs.declared.volume_writer.VolumeNumbers.{VolumeNumbers}
+use Rattle.kc_trace.specs.declared.volume_writer.Order.{Order}
+use Rattle.kc_trace.specs.declared.volume_writer.Order.TheVariants as order
 use Rattle.kc_trace.specs.declared.volume_writer.Chain.{Chain}
 use Rattle.kc_trace.specs.declared.custody_writer.Heading.{Heading}
 use Rattle.kc_trace.specs.CustodyText.{version_text}
@@ -36,14 +38,15 @@ numbers_words count numbers = if count == 0 then codes ", volume " ++ decimal nu
 abbrev pub count_words : ℕ → List ℕ
 count_words count = if count == 0 then [] else (codes ", " ++ decimal count) ++ codes " volumes, order not judged"
 
--- the one or the other
-abbrev pub order_words : ℕ → Option VolumeNumbers → List ℕ
-order_words count None = count_words count
-order_words count (Some numbers) = numbers_words count numbers
+-- the one or the other, and that the order was judged by the numbers alone, if it was
+abbrev pub order_words : ℕ → Order → List ℕ
+order_words count order.NotJudged = count_words count
+order_words count (order.Numbers numbers) = numbers_words count numbers ++ codes ", order by numbers alone"
+order_words count (order.Digests numbers) = numbers_words count numbers
 
 -- which volumes were read; nothing for one trace without a head
 abbrev pub chain_words : Chain → List ℕ
-chain_words chain = order_words chain.count chain.numbers
+chain_words chain = order_words chain.count chain.order
 
 -- that the machine's own accesses are not in the trace, if they are not
 abbrev pub unseen_words : Bool → List ℕ

@@ -5,7 +5,7 @@ ghost use Rattle.kc_svg.specs.Words.{Puts};
 ghost use Rattle.kc_svg.specs.Foot.{start_words, trace_words, digests_words, numbers_words, count_words, chain_words, unseen_words, foot_words};
 
 use crate::words::Text;
-use kc_trace::{Chain, Digests, Heading, StartDigest, VERSION, VolumeNumbers};
+use kc_trace::{Chain, Digests, Heading, Order, StartDigest, VERSION, VolumeNumbers};
 use std::alloc::Global;
 
 /// Puts some words and a digest, in 64 digits.
@@ -76,9 +76,13 @@ fn put_count(text: &mut Text, count: u32)
 fn put_chain(text: &mut Text, chain: &Chain)
     ensures { Puts text.old text.new (chain_words chain.now) }
 {
-    match &chain.numbers {
-        Some(numbers) => put_numbers(text, chain.count, numbers),
-        None => put_count(text, chain.count),
+    match &chain.order {
+        Order::NotJudged => put_count(text, chain.count),
+        Order::Numbers(numbers) => {
+            put_numbers(text, chain.count, numbers);
+            text.put(", order by numbers alone");
+        },
+        Order::Digests(numbers) => put_numbers(text, chain.count, numbers),
     }
 }
 

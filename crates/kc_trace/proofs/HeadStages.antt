@@ -20,9 +20,9 @@ use Rattle.kc_trace.specs.declared.head_reader.HeadSoFar.{HeadSoFar}
 use Rattle.kc_trace.specs.declared.head_reader.HeadSoFar.TheVariants.{Nothing, FirstLine, Machine}
 use Rattle.kc_trace.specs.declared.head_reader.NextLine.{NextLine}
 use Rattle.kc_trace.specs.declared.head_reader.NextLine.TheVariants.{More, Whole}
-use Rattle.kc_trace.specs.Header.{Begun, IsPosition, IsHead, IsHeader, machine_line, approved_line, position_line, head_lines, header_lines}
-use Rattle.kc_trace.specs.HeadReading.{words_in, machine_in, approved_in, position_in, approving, first_line_read, machine_line_read, next_line, next_number}
-use Rattle.kc_trace.proofs.HeadWords.{IsBegun, emptied, machine_spelled, approved_spelled, position_spelled, machine_again, approved_again, position_again}
+use Rattle.kc_trace.specs.Header.{Begun, IsPosition, IsHead, IsHeader, machine_line, approved_line, last_line, position_line, head_lines, header_lines}
+use Rattle.kc_trace.specs.HeadReading.{words_in, machine_in, approved_in, last_in, approving, head_of, first_line_read, machine_line_read, next_line, next_number}
+use Rattle.kc_trace.proofs.HeadWords.{IsBegun, emptied, machine_spelled, approved_spelled, last_spelled, machine_again, approved_again, last_again}
 
 -- ---- the lines that were read
 
@@ -120,17 +120,17 @@ approved_next begun line next is lt e =
       is = approving_is begun digest is lt spelled.1;
     })
 
-position_next : (begun : Begun) (line : List ℕ) (next : NextLine) → IsBegun begun → begun.awaited ≤ length begun.config.approved
-    → option_map (λ position. Whole (Three (record { config = begun.config; position = position }))) (position_in (words_in line)) ≡ Some next → IsNext (Machine begun) line next
-position_next begun line next is le e =
-    let found = map_some (λ position. Whole (Three (record { config = begun.config; position = position }))) (position_in (words_in line)) next e in
-    let position = found.0 in
-    let spelled = position_spelled line position found.1 in
+last_next : (begun : Begun) (line : List ℕ) (next : NextLine) → IsBegun begun → begun.awaited ≤ length begun.config.approved
+    → option_map (λ last. Whole (Three (head_of begun last))) (last_in (words_in line)) ≡ Some next → IsNext (Machine begun) line next
+last_next begun line next is le e =
+    let found = map_some (λ last. Whole (Three (head_of begun last))) (last_in (words_in line)) next e in
+    let last = found.0 in
+    let spelled = last_spelled line last found.1 in
     let within = is.within in
     let all : length begun.config.approved ≡ begun.awaited = omega (arith, le, within) in
     subst (IsNext (Machine begun) line) found.2 (record {
       lines =
-          ap (λ n. codes "kcore-trace 3" ∷ machine_line begun.config n ∷ (map approved_line begun.config.approved ++ position_line position ∷ [])) all
+          ap (λ n. codes "kcore-trace 3" ∷ machine_line begun.config n ∷ (map approved_line begun.config.approved ++ last_line last.0 last.1 ∷ [])) all
           ∙ ap (λ l. (codes "kcore-trace 3" ∷ machine_line begun.config begun.awaited ∷ map approved_line begun.config.approved) ++ l ∷ []) (sym spelled.0);
       is = record { config = is.config; digests = is.digests; position = spelled.1 };
     })
@@ -139,7 +139,7 @@ pub line_next : (head : HeadSoFar) (line : List ℕ) (next : NextLine) → IsSoF
 line_next Nothing line next is e = first_next line next e
 line_next FirstLine line next is e = machine_next line next e
 line_next (Machine begun) line next is e = elim (chosen (nat_le begun.awaited (length begun.config.approved)) _ _ (Some next) e) [
-  | inl h ↦ position_next begun line next is (leb-true _ _ h.0) h.1
+  | inl h ↦ last_next begun line next is (leb-true _ _ h.0) h.1
   | inr h ↦ approved_next begun line next is (leb-false _ _ h.0) h.1
 ]
 
@@ -179,7 +179,7 @@ goes_on_from begun is =
     let within = is.within in
     let few = is.few in
     let many : length all ≡ begun.awaited = omega (arith, length-append config.approved rest, length-replicate (begun.awaited - length config.approved) zeros, within) in
-    let head : Head = record { config = record config { approved = all }; position = First } in
+    let head : Head = record { config = record config { approved = all }; position = First; is_host_redacted = false } in
     let after = some_first (map approved_line rest) (position_line First) in (
       Three head,
       after.0,
@@ -193,7 +193,7 @@ goes_on_from begun is =
 
 pub goes_on : (head : HeadSoFar) → IsSoFar head → GoesOn (lines_so_far head)
 goes_on Nothing is = (One, codes "kcore-trace 1", [], tt, refl)
-goes_on FirstLine is = (Three (record { config = smallest; position = First }), machine_line smallest 0, position_line First ∷ [], record { config = smallest_is; digests = tt; position = tt }, refl)
+goes_on FirstLine is = (Three (record { config = smallest; position = First; is_host_redacted = false }), machine_line smallest 0, position_line First ∷ [], record { config = smallest_is; digests = tt; position = tt }, refl)
 goes_on (Machine begun) is = goes_on_from begun is
 
 -- ---- a line that a header has there is read
@@ -250,13 +250,13 @@ many_lines begun header rest is header_is e =
     let first : machine_line head.config (length head.config.approved) ≡ machine_line begun.config begun.awaited = cc in
     let many : length head.config.approved ≡ begun.awaited = same_awaited head.config begun.config (length head.config.approved) begun.awaited second.1.config is.config second.1.config.few_digests is.few first in
     let size : length (header_lines header) ≡ suc (length (head_lines head)) = ap length (e ∙ ap (λ ls. codes "kcore-trace 3" ∷ ls) (sym lines)) in
-    omega (arith, size, many, length-append (map approved_line head.config.approved) (position_line head.position ∷ []), length-map head.config.approved approved_line)
+    omega (arith, size, many, length-append (map approved_line head.config.approved) (last_line head.position head.is_host_redacted ∷ []), length-map head.config.approved approved_line)
 
 read_digest_line : (line digest : List ℕ) → IsDigest digest → approved_line digest ≡ line → approved_in (words_in line) ≡ Some digest
 read_digest_line line digest is same = ap (λ l. approved_in (words_in l)) (sym same) ∙ approved_again digest is
 
-read_position_line : (line : List ℕ) (position : Position) → IsPosition position → position_line position ≡ line → position_in (words_in line) ≡ Some position
-read_position_line line position is same = ap (λ l. position_in (words_in l)) (sym same) ∙ position_again position is
+read_last_line : (line : List ℕ) (position : Position) (flag : Bool) → IsPosition position → last_line position flag ≡ line → last_in (words_in line) ≡ Some (position, flag)
+read_last_line line position flag is same = ap (λ l. last_in (words_in l)) (sym same) ∙ last_again position flag is
 
 accepts_more : (begun : Begun) (line : List ℕ) (header : Header) (more : List (List ℕ)) → IsBegun begun → IsHeader header → header_lines header ≡ lines_so_far (Machine begun) ++ line ∷ more → (next : NextLine) × (machine_line_read begun line ≡ Some next)
 accepts_more begun line header more is header_is e =
@@ -265,18 +265,18 @@ accepts_more begun line header more is header_is e =
     let head = second.0 in
     let lines = second.2 in
     let first : machine_line head.config (length head.config.approved) ≡ machine_line begun.config begun.awaited = cc in
-    let rest : map approved_line head.config.approved ++ position_line head.position ∷ [] ≡ map approved_line approved ++ line ∷ more = cc in
+    let rest : map approved_line head.config.approved ++ last_line head.position head.is_host_redacted ∷ [] ≡ map approved_line approved ++ line ∷ more = cc in
     let many : length head.config.approved ≡ begun.awaited = same_awaited head.config begun.config (length head.config.approved) begun.awaited second.1.config is.config second.1.config.few_digests is.few first in
     let within = is.within in
     elim (cases_lt (length approved) begun.awaited) [
       | inl lt ↦
-          let digest = next_digest head.config.approved approved line (position_line head.position) more second.1.digests (omega (arith, lt, many)) rest in
+          let digest = next_digest head.config.approved approved line (last_line head.position head.is_host_redacted) more second.1.digests (omega (arith, lt, many)) rest in
           let read = read_digest_line line digest.0 digest.1 digest.2 in
           (More (Machine (approving begun digest.0)), rw (lt-leb begun.awaited (length approved) lt, read) refl)
       | inr le ↦
-          let last = next_last head.config.approved approved line (position_line head.position) more (omega (arith, le, many, within)) rest in
-          let read = read_position_line line head.position second.1.position last in
-          (Whole (Three (record { config = begun.config; position = head.position })), rw (le-leb begun.awaited (length approved) le, read) refl)
+          let last = next_last head.config.approved approved line (last_line head.position head.is_host_redacted) more (omega (arith, le, many, within)) rest in
+          let read = read_last_line line head.position head.is_host_redacted second.1.position last in
+          (Whole (Three (head_of begun (head.position, head.is_host_redacted))), rw (le-leb begun.awaited (length approved) le, read) refl)
     ]
 
 pub accepts : (head : HeadSoFar) (line : List ℕ) (header : Header) (more : List (List ℕ)) → IsSoFar head → IsHeader header → header_lines header ≡ lines_so_far head ++ line ∷ more → (next : NextLine) × (next_line head line ≡ Some next)

@@ -1,5 +1,5 @@
 -- Words and lines of a head have one spelling.
-use Rattle.std.proofs.Common.{ℕ, ◌≡◌, ◌≢◌, ◌<◌, ◌≤◌, ◌^◌, Bool, true, false, cond, List, [], ◌∷◌, ◌++◌, length, map, All, Option, Some, None, refl, sym, ap, subst, ◌∙◌, arith, inl, inr, append-nil, length-append}
+use Rattle.std.proofs.Common.{ℕ, ◌≡◌, ◌≢◌, ◌<◌, ◌≤◌, ◌^◌, Bool, true, false, cond, List, [], ◌∷◌, ◌++◌, length, map, All, Option, Some, None, refl, sym, ap, subst, ◌∙◌, arith, inl, inr, append_assoc, append-nil, length-append}
 use Rattle.std.specs.Prelude.{◌==◌, ◌*◌, ◌+◌, ◌||◌, ◌&&◌, nat_le, nat_lt, is_none, option_map, codes, option_and_then}
 use Rattle.std.specs.Str.{bytes_eq}
 use Rattle.std.specs.List.{AllByRecursion, flat_map, join_with_byte, list_all}
@@ -11,7 +11,7 @@ use Rattle.kc_trace.specs.declared.header.Head.{Head}
 use Rattle.kc_trace.specs.declared.header.Position.{Position}
 use Rattle.kc_trace.specs.declared.header.Position.TheVariants.{First, Later}
 use Rattle.kc_trace.specs.declared.header.Header.TheVariants.{Three}
-use Rattle.kc_trace.specs.Header.{Begun, IsHead, IsPosition, version_number, machine_numbers, machine_line, approved_line, position_words, position_line, head_lines, ended_lines, trace_header}
+use Rattle.kc_trace.specs.Header.{Begun, IsHead, IsPosition, version_number, machine_numbers, machine_line, approved_line, position_words, redaction_words, last_line, position_line, head_lines, ended_lines, trace_header}
 use Rattle.hex.specs.Hex.{encode_lower, lower_digits}
 use Rattle.hex.proofs.HexLemmas.{length-encode_with}
 use Rattle.kc_model.specs.Volumes.{IsDigest}
@@ -30,7 +30,7 @@ use Rattle.kc_lines.proofs.Numbers.{number_of-decimal, number_is_decimal}
 use Rattle.std.proofs.lemmas.Fmt.{decimal_digit, length-decimal-le}
 use Rattle.kc_lines.proofs.Digests.{digest_again, digest_is}
 use Rattle.kc_lines.proofs.Words.{is_word, chosen, map_some, then_some, name_is, width, split_join, join_is_one_line, length-join, decimal_is_word, encoded_is_word}
-use Rattle.kc_trace.specs.HeadReading.{◌>>=◌, take_name, take_word, take_number, take_pair, take_digest, words_in, first_of, later_of, position_of, position_in, approved_in, version_numbered, begun_if, machine_of, machine_by, machine_in}
+use Rattle.kc_trace.specs.HeadReading.{◌>>=◌, take_name, take_word, take_number, take_pair, take_digest, words_in, first_of, later_of, position_of, redaction_in, last_in, position_in, alone, approved_in, version_numbered, begun_if, machine_of, machine_by, machine_in}
 
 -- ---- a name and numbers
 
@@ -49,12 +49,12 @@ approved_ended [] = refl
 approved_ended (digest ∷ digests) = ap (λ rest. (approved_line digest ++ 10 ∷ []) ++ rest) (approved_ended digests)
 
 -- the lines of a head, as they are written
-pub head_ended : (head : Head) → ended_lines (head_lines head) ≡ (machine_line head.config (length head.config.approved) ++ 10 ∷ []) ++ (flat_map (λ digest. approved_line digest ++ 10 ∷ []) head.config.approved ++ (position_line head.position ++ 10 ∷ []))
+pub head_ended : (head : Head) → ended_lines (head_lines head) ≡ (machine_line head.config (length head.config.approved) ++ 10 ∷ []) ++ (flat_map (λ digest. approved_line digest ++ 10 ∷ []) head.config.approved ++ (last_line head.position head.is_host_redacted ++ 10 ∷ []))
 head_ended head =
     ap (λ rest. (machine_line head.config (length head.config.approved) ++ 10 ∷ []) ++ rest)
-    (lines_append (map approved_line head.config.approved) (position_line head.position ∷ [])
-    ∙ ap (λ rest. rest ++ ended_lines (position_line head.position ∷ [])) (approved_ended head.config.approved)
-    ∙ ap (λ rest. flat_map (λ digest. approved_line digest ++ 10 ∷ []) head.config.approved ++ rest) (append-nil (position_line head.position ++ 10 ∷ [])))
+    (lines_append (map approved_line head.config.approved) (last_line head.position head.is_host_redacted ∷ [])
+    ∙ ap (λ rest. rest ++ ended_lines (last_line head.position head.is_host_redacted ∷ [])) (approved_ended head.config.approved)
+    ∙ ap (λ rest. flat_map (λ digest. approved_line digest ++ 10 ∷ []) head.config.approved ++ rest) (append-nil (last_line head.position head.is_host_redacted ++ 10 ∷ [])))
 
 -- ---- digests
 
@@ -130,23 +130,38 @@ position_is number word position fits e = elim (chosen (bytes_eq word (codes "-"
       (ap (λ w. decimal number ∷ w ∷ []) spelled.0 ∙ ap position_words (sym later.1), subst IsPosition (sym later.1) (later.0, fits, spelled.1))
 ]
 
-pub position_spelled : (line : List ℕ) (position : Position) → position_in (words_in line) ≡ Some position → (line ≡ position_line position) × IsPosition position
-unfolding position_in position_line
-position_spelled line position e =
-    let name = then_some _ (take_name (codes "volume") (words_in line)) position e in
-    let number = then_some _ (take_number name.0) position name.2 in
-    let word = then_some _ (take_word number.0.1) position number.2 in
-    let end = then_some _ (at_end word.0.1) position word.2 in
-    let first = number_taken name.0 number.0 number.1 in
-    let is = position_is number.0.0 word.0.0 position first.1 end.2 in
-    let words : words_in line ≡ codes "volume" ∷ decimal number.0.0 ∷ word.0.0 ∷ [] =
-    name_taken (codes "volume") (words_in line) name.0 name.1
-    ∙ ap (λ ws. codes "volume" ∷ ws) (first.0 ∙ ap (λ ws. decimal number.0.0 ∷ ws) (word_taken number.0.1 word.0 word.1 ∙ ap (λ ws. word.0.0 ∷ ws) (none_left word.0.1 end.0 end.1))) in
-    (line_is line (codes "volume" ∷ position_words position) (words ∙ ap (λ ws. codes "volume" ∷ ws) is.0), is.1)
+redaction_taken : (words : List (List ℕ)) (flag : Bool) → redaction_in words ≡ Some flag → words ≡ redaction_words flag
+redaction_taken [] flag e = let same : false ≡ flag = cc in ap redaction_words same
+redaction_taken (word ∷ words) flag e = elim (chosen (bytes_eq word (codes "host-redacted")) (option_map (λ end. true) (at_end words)) None (Some flag) e) [
+  | inl h ↦
+      let end = map_some (λ end. true) (at_end words) flag h.1 in
+      ap (λ w. w ∷ words) (name_is word (codes "host-redacted") h.0) ∙ ap (λ ws. codes "host-redacted" ∷ ws) (none_left words end.0 end.1) ∙ ap redaction_words end.2
+  | inr h ↦ absurd cc
+]
 
-position_words_are : (position : Position) → IsPosition position → list_all is_word (codes "volume" ∷ position_words position) ≡ true
-position_words_are First is = refl
-position_words_are (Later number after) is = rw (decimal_is_word number is.1, encoded_is_word after (digest_is_data after is.2)) refl
+pub last_spelled : (line : List ℕ) (last : Position × Bool) → last_in (words_in line) ≡ Some last → (line ≡ last_line last.0 last.1) × IsPosition last.0
+unfolding last_in last_line
+last_spelled line last e =
+    let name = then_some _ (take_name (codes "volume") (words_in line)) last e in
+    let number = then_some _ (take_number name.0) last name.2 in
+    let word = then_some _ (take_word number.0.1) last number.2 in
+    let flag = then_some _ (redaction_in word.0.1) last word.2 in
+    let position = map_some (λ position. (position, flag.0)) (position_of number.0.0 word.0.0) last flag.2 in
+    let first = number_taken name.0 number.0 number.1 in
+    let is = position_is number.0.0 word.0.0 position.0 first.1 position.1 in
+    let words : words_in line ≡ codes "volume" ∷ (position_words position.0 ++ redaction_words flag.0) =
+    name_taken (codes "volume") (words_in line) name.0 name.1
+    ∙ ap (λ ws. codes "volume" ∷ ws) (first.0
+    ∙ ap (λ ws. decimal number.0.0 ∷ ws) (word_taken number.0.1 word.0 word.1 ∙ ap (λ ws. word.0.0 ∷ ws) (redaction_taken word.0.1 flag.0 flag.1))
+    ∙ ap (λ ws. ws ++ redaction_words flag.0) is.0) in
+    subst (λ (l : Position × Bool). (line ≡ last_line l.0 l.1) × IsPosition l.0) position.2
+    (line_is line (codes "volume" ∷ (position_words position.0 ++ redaction_words flag.0)) words, is.1)
+
+last_words_are : (position : Position) (flag : Bool) → IsPosition position → list_all is_word (codes "volume" ∷ (position_words position ++ redaction_words flag)) ≡ true
+last_words_are First false is = refl
+last_words_are First true is = refl
+last_words_are (Later number after) false is = rw (decimal_is_word number is.1, encoded_is_word after (digest_is_data after is.2)) refl
+last_words_are (Later number after) true is = rw (decimal_is_word number is.1, encoded_is_word after (digest_is_data after is.2)) refl
 
 -- digits are not a dash
 no_dash : (digest : List ℕ) → IsDigest digest → bytes_eq (encode_lower digest) (codes "-") ≡ false
@@ -155,14 +170,43 @@ no_dash digest is = false_from_ne_true (bytes_eq (encode_lower digest) (codes "-
     let long = is.long in
     absurd (omega (arith, ap length same, length-encode_with lower_digits digest, long)))
 
-position_words_again : (position : Position) → IsPosition position → (take_number (position_words position) >>= λ number. take_word number.1 >>= λ word. at_end word.1 >>= λ end. position_of number.0 word.0) ≡ Some position
-position_words_again First is = let one : number_in (codes "1") ≡ Some 1 = ap number_in (sym (decimal_digit 1 (omega arith))) ∙ number_of-decimal 1 (omega arith) in rw one refl
-position_words_again (Later number after) is = rw (number_of-decimal number is.1, no_dash after is.2, digest_again after is.2.long is.2.each, le-leb 2 number is.0) refl
+redaction_again : (flag : Bool) → redaction_in (redaction_words flag) ≡ Some flag
+redaction_again false = refl
+redaction_again true = refl
+
+last_words_again : (position : Position) (flag : Bool) → IsPosition position → last_in (codes "volume" ∷ (position_words position ++ redaction_words flag)) ≡ Some (position, flag)
+unfolding last_in
+last_words_again First flag is = let one : number_in (codes "1") ≡ Some 1 = ap number_in (sym (decimal_digit 1 (omega arith))) ∙ number_of-decimal 1 (omega arith) in rw (one, redaction_again flag) refl
+last_words_again (Later number after) flag is = rw (number_of-decimal number is.1, redaction_again flag, no_dash after is.2, digest_again after is.2.long is.2.each, le-leb 2 number is.0) refl
+
+pub last_again : (position : Position) (flag : Bool) → IsPosition position → last_in (words_in (last_line position flag)) ≡ Some (position, flag)
+unfolding last_line
+last_again position flag is =
+    ap last_in (split_join (codes "volume") (position_words position ++ redaction_words flag) (last_words_are position flag is)) ∙ last_words_again position flag is
+
+pub position_spelled : (line : List ℕ) (position : Position) → position_in (words_in line) ≡ Some position → (line ≡ position_line position) × IsPosition position
+position_spelled line position e =
+    let found = then_some alone (last_in (words_in line)) position e in
+    by_flag found.0 found.1 found.2
+  where
+    by_flag : (last : Position × Bool) → last_in (words_in line) ≡ Some last → alone last ≡ Some position → (line ≡ position_line position) × IsPosition position
+    by_flag (p, false) read is = let same : p ≡ position = cc in let spelled = last_spelled line (p, false) read in rw same at spelled
+    by_flag (p, true) read is = absurd cc
 
 pub position_again : (position : Position) → IsPosition position → position_in (words_in (position_line position)) ≡ Some position
-unfolding position_in position_line
-position_again position is =
-    ap position_in (split_join (codes "volume") (position_words position) (position_words_are position is)) ∙ position_words_again position is
+position_again position is = ap (λ found. found >>= alone) (last_again position false is)
+
+-- ---- a last line as it is written
+
+pub position_joined : (position : Position) → position_line position ≡ join_with_byte 32 (codes "volume" ∷ position_words position)
+unfolding last_line
+position_joined position = ap (λ words. join_with_byte 32 (codes "volume" ∷ words)) (append-nil (position_words position))
+
+pub last_joined : (position : Position) (flag : Bool) → last_line position flag ≡ join_with_byte 32 (codes "volume" ∷ position_words position) ++ flat_map (λ word. 32 ∷ word) (redaction_words flag)
+unfolding last_line
+last_joined position false = position_joined position ∙ sym (append-nil (join_with_byte 32 (codes "volume" ∷ position_words position)))
+last_joined First true = refl
+last_joined (Later number after) true = ap (λ rest. codes "volume" ++ 32 ∷ rest) (sym (append_assoc (decimal number) (32 ∷ encode_lower after) (codes " host-redacted")))
 
 -- ---- the line of an approved digest
 
@@ -418,10 +462,20 @@ position_width (Later number after) is =
     let fits = is.1 in
     omega (arith, length-decimal-le 10 number (omega arith) (omega arith) (omega (arith, fits)), length-encode_with lower_digits after, long)
 
+last_width : (position : Position) (flag : Bool) → IsPosition position → width (position_words position ++ redaction_words flag) ≤ 94
+last_width First false is = omega arith
+last_width First true is = omega arith
+last_width (Later number after) false is = let narrow = position_width (Later number after) is in omega (arith, narrow)
+last_width (Later number after) true is = let narrow = position_width (Later number after) is in omega (arith, narrow)
+
+pub last_fits : (position : Position) (flag : Bool) → IsPosition position → Fits (last_line position flag)
+unfolding last_line
+last_fits position flag is =
+    let words : List (List ℕ) = position_words position ++ redaction_words flag in
+    (join_is_one_line (codes "volume") words (last_words_are position flag is), omega (arith, length-join (codes "volume") words, last_width position flag is))
+
 pub position_fits : (position : Position) → IsPosition position → Fits (position_line position)
-unfolding position_line
-position_fits position is =
-    (join_is_one_line (codes "volume") (position_words position) (position_words_are position is), omega (arith, length-join (codes "volume") (position_words position), position_width position is))
+position_fits position is = last_fits position false is
 
 -- ---- how long a head is
 
@@ -435,9 +489,9 @@ approved_width digest is =
     let long = is.long in
     omega (arith, length-join (codes "approved") (encode_lower digest ∷ []), length-encode_with lower_digits digest, long)
 
-position_line_width : (position : Position) → IsPosition position → length (position_line position) ≤ 86
-unfolding position_line
-position_line_width position is = omega (arith, length-join (codes "volume") (position_words position), position_width position is)
+last_line_width : (position : Position) (flag : Bool) → IsPosition position → length (last_line position flag) ≤ 100
+unfolding last_line
+last_line_width position flag is = omega (arith, length-join (codes "volume") (position_words position ++ redaction_words flag), last_width position flag is)
 
 digests_width : (digests : List (List ℕ)) → AllByRecursion IsDigest digests → length (flat_map (λ digest. approved_line digest ++ 10 ∷ []) digests) ≡ 74 * length digests
 digests_width [] each = refl
@@ -450,17 +504,17 @@ head_width head is =
     let few = is.config.few_digests in
     let machine : List ℕ = machine_line config (length config.approved) ++ 10 ∷ [] in
     let digests : List ℕ = flat_map (λ digest. approved_line digest ++ 10 ∷ []) config.approved in
-    let position : List ℕ = position_line head.position ++ 10 ∷ [] in
+    let last : List ℕ = last_line head.position head.is_host_redacted ++ 10 ∷ [] in
     omega (
       arith,
       few,
       length-append (codes "kcore-trace 3" ++ 10 ∷ []) (ended_lines (head_lines head)),
       ap length (head_ended head),
-      length-append machine (digests ++ position),
-      length-append digests position,
+      length-append machine (digests ++ last),
+      length-append digests last,
       length-append (machine_line config (length config.approved)) (10 ∷ []),
-      length-append (position_line head.position) (10 ∷ []),
+      length-append (last_line head.position head.is_host_redacted) (10 ∷ []),
       machine_width config (length config.approved) is.config few,
       digests_width config.approved is.digests,
-      position_line_width head.position is.position,
+      last_line_width head.position head.is_host_redacted is.position,
     )

@@ -20,12 +20,12 @@ use Rattle.kc_trace.specs.declared.head_reader.HeadSoFar.{HeadSoFar}
 use Rattle.kc_trace.specs.declared.head_reader.HeadSoFar.TheVariants.{Nothing, FirstLine, Machine}
 use Rattle.kc_trace.specs.declared.head_reader.NextLine.{NextLine}
 use Rattle.kc_trace.specs.declared.head_reader.NextLine.TheVariants.{More, Whole}
-use Rattle.kc_trace.specs.Header.{Begun, IsHead, IsHeader, machine_line, approved_line, position_line, header_lines, ended_lines, trace_header}
-use Rattle.kc_trace.specs.HeadReading.{words_in, machine_in, approved_in, position_in, approving, next_line}
+use Rattle.kc_trace.specs.Header.{Begun, IsHead, IsHeader, machine_line, approved_line, last_line, header_lines, ended_lines, trace_header}
+use Rattle.kc_trace.specs.HeadReading.{words_in, machine_in, approved_in, last_in, approving, next_line}
 use Rattle.kc_trace.specs.Machine.{◌>>=◌, Progress, start, kept, longer, next_of_line, may_begin, head_fault, after_header, feed, ended}
 use Rattle.kc_trace.specs.Trace.{GoesOnWith, StopsInHeader}
 use Rattle.kc_trace.proofs.Runs.{and_then_feed, front_nothing, feed_nothing, feed_begun, feed_ended}
-use Rattle.kc_trace.proofs.HeadWords.{IsBegun, Fits, emptied, machine_spelled, approved_spelled, position_spelled, machine_again, approved_again, position_again, machine_fits, approved_fits, position_fits}
+use Rattle.kc_trace.proofs.HeadWords.{IsBegun, Fits, emptied, machine_spelled, approved_spelled, last_spelled, machine_again, approved_again, last_again, machine_fits, approved_fits, last_fits}
 use Rattle.kc_trace.proofs.HeadStages.{lines_so_far, IsSoFar, IsMore, IsWhole, IsNext, GoesOn, line_next, goes_on, accepts, numbered_next, approving_is, many_lines}
 use Rattle.kc_trace.proofs.Outcomes.{at_line, outcome, finished, outcome-stuck, one_line_pushed}
 
@@ -82,9 +82,9 @@ read_fits FirstLine line next e =
     subst Fits (sym is.0) (machine_fits found.0.config found.0.awaited is.2.config is.2.few)
 read_fits (Machine begun) line next e = elim (chosen (nat_le begun.awaited (length begun.config.approved)) _ _ (Some next) e) [
   | inl h ↦
-      let found = map_some _ (position_in (words_in line)) next h.1 in
-      let is = position_spelled line found.0 found.1 in
-      subst Fits (sym is.0) (position_fits found.0 is.1)
+      let found = map_some _ (last_in (words_in line)) next h.1 in
+      let is = last_spelled line found.0 found.1 in
+      subst Fits (sym is.0) (last_fits found.0.0 found.0.1 is.1)
   | inr h ↦
       let found = map_some _ (approved_in (words_in line)) next h.1 in
       let is = approved_spelled line found.0 found.1 in
@@ -215,22 +215,23 @@ through_head head rest is =
     let few = is.config.few_digests in
     let begun : Begun = record { config = emptied config; awaited = awaited } in
     let machine = machine_fits config awaited is.config few in
-    let last = position_fits head.position is.position in
-    let after : List ℕ = ended_lines (position_line head.position ∷ []) ++ rest in
+    let line : List ℕ = last_line head.position head.is_host_redacted in
+    let last = last_fits head.position head.is_host_redacted is.position in
+    let after : List ℕ = ended_lines (line ∷ []) ++ rest in
     let read_machine : next_line FirstLine (machine_line config awaited) ≡ Some (More (Machine begun)) = ap (λ found. option_map (λ begun. More (Machine begun)) found) (machine_again config awaited is.config few) in
     let begun_is = (machine_spelled (machine_line config awaited) begun (machine_again config awaited is.config few)).2 in
-    let read_last : next_line (Machine (with_digests begun config.approved)) (position_line head.position) ≡ Some (Whole (Three head)) =
-    rw (le-leb awaited (length config.approved) (omega arith), position_again head.position is.position) refl in
-    ap (feed start) (line_first (codes "kcore-trace 3") (machine_line config awaited ∷ (map approved_line config.approved ++ position_line head.position ∷ [])) rest)
+    let read_last : next_line (Machine (with_digests begun config.approved)) line ≡ Some (Whole (Three head)) =
+    rw (le-leb awaited (length config.approved) (omega arith), last_again head.position head.is_host_redacted is.position) refl in
+    ap (feed start) (line_first (codes "kcore-trace 3") (machine_line config awaited ∷ (map approved_line config.approved ++ line ∷ [])) rest)
     ∙ step_more Nothing FirstLine (codes "kcore-trace 3") _ refl refl
-    ∙ ap (feed (at_head FirstLine)) (line_first (machine_line config awaited) (map approved_line config.approved ++ position_line head.position ∷ []) rest)
+    ∙ ap (feed (at_head FirstLine)) (line_first (machine_line config awaited) (map approved_line config.approved ++ line ∷ []) rest)
     ∙ step_more FirstLine (Machine begun) (machine_line config awaited) _ machine.0 (kept_fits FirstLine (machine_line config awaited) machine ∙ read_machine)
     ∙ ap (feed (at_head (Machine begun)))
-    (ap (λ ls. ls ++ rest) (flat_map-append (λ (line : List ℕ). line ++ 10 ∷ []) (map approved_line config.approved) (position_line head.position ∷ []))
-    ∙ append_assoc (ended_lines (map approved_line config.approved)) (ended_lines (position_line head.position ∷ [])) rest)
+    (ap (λ ls. ls ++ rest) (flat_map-append (λ (line : List ℕ). line ++ 10 ∷ []) (map approved_line config.approved) (line ∷ []))
+    ∙ append_assoc (ended_lines (map approved_line config.approved)) (ended_lines (line ∷ [])) rest)
     ∙ through_digests config.approved begun after begun_is is.digests (omega arith)
-    ∙ ap (feed (at_head (Machine (with_digests begun config.approved)))) (line_first (position_line head.position) [] rest)
-    ∙ step_whole (Machine (with_digests begun config.approved)) (Three head) (position_line head.position) rest last.0 (kept_fits (Machine (with_digests begun config.approved)) (position_line head.position) last ∙ read_last)
+    ∙ ap (feed (at_head (Machine (with_digests begun config.approved)))) (line_first line [] rest)
+    ∙ step_whole (Machine (with_digests begun config.approved)) (Three head) line rest last.0 (kept_fits (Machine (with_digests begun config.approved)) line last ∙ read_last)
 
 -- what follows a header is read as its calls
 pub past_header : (header : Header) (text rest : List ℕ) → IsHeader header → text ≡ trace_header header ++ rest → feed start text ≡ feed (at_line header 0) rest

@@ -21,6 +21,8 @@ use Rattle.kc_trace.specs.declared.custody_writer.StartDigest.{StartDigest}
 use Rattle.kc_trace.specs.declared.custody_writer.StartDigest.TheVariants as start
 use Rattle.kc_trace.specs.declared.custody_writer.Digests.{Digests}
 use Rattle.kc_trace.specs.declared.volume_writer.VolumeNumbers.{VolumeNumbers}
+use Rattle.kc_trace.specs.declared.volume_writer.Order.{Order}
+use Rattle.kc_trace.specs.declared.volume_writer.Order.TheVariants as order
 use Rattle.kc_trace.specs.declared.volume_writer.Chain.{Chain}
 use Rattle.kc_trace.specs.declared.custody_writer.Heading.{Heading}
 use Rattle.kc_trace.specs.declared.volume_writer.VolumeEntry.{VolumeEntry}
@@ -147,16 +149,20 @@ volume_count_text count = if count == 0 then [] else member (codes ",\"volumes\"
 abbrev pub numbers_text : VolumeNumbers → List ℕ
 numbers_text numbers = member (codes ",\"first\":") numbers.first ++ member (codes ",\"last\":") numbers.last
 
--- these numbers; or, if there are several volumes and their heads do not say in which order they come, that this is not
--- judged
-abbrev pub order_text : ℕ → Option VolumeNumbers → List ℕ
-order_text count None = if count == 0 then [] else codes ",\"order\":\"not judged\""
-order_text count (Some numbers) = numbers_text numbers
+-- by what their order was judged, in these words
+abbrev pub order_text : List ℕ → List ℕ
+order_text words = codes ",\"order\":\"" ++ (words ++ codes "\"")
 
--- which volumes were read, and whether it was judged that each follows the one before it; nothing for one trace without
--- a head
+-- the numbers of the first and the last volume, and by what it was judged that each follows the one before it: if there
+-- are several and they have no heads, by nothing; if that is not said, by their numbers and the digests in their heads
+abbrev pub judged_text : ℕ → Order → List ℕ
+judged_text count order.NotJudged = if count == 0 then [] else order_text (codes "not judged")
+judged_text count (order.Numbers numbers) = numbers_text numbers ++ order_text (codes "numbers")
+judged_text count (order.Digests numbers) = numbers_text numbers
+
+-- which volumes were read; nothing for one trace without a head
 abbrev pub chain_text : Chain → List ℕ
-chain_text chain = volume_count_text chain.count ++ order_text chain.count chain.numbers
+chain_text chain = volume_count_text chain.count ++ judged_text chain.count chain.order
 
 -- the version of the text and of kcore
 abbrev pub versions_text : List ℕ
@@ -241,7 +247,7 @@ longest_digests = 190
 
 -- for that of which volumes were read
 abbrev pub longest_chain : ℕ
-longest_chain = 88
+longest_chain = 106
 
 -- and for that of a volume's place with what comes before it, and of a volume's line
 abbrev pub longest_place : ℕ

@@ -107,14 +107,27 @@ later_of number after = if nat_le 2 number then Some (Later number after) else N
 abbrev pub position_of : ℕ → List ℕ → Option Position
 position_of number word = if bytes_eq word (codes "-") then first_of number else option_and_then (later_of number) (digest_in word)
 
--- the words of a position's line
-unfoldable pub position_in : List (List ℕ) → Option Position
-position_in words = do
+-- the words after a position: none, or the one that says that the bytes that the host wrote are redacted, too
+abbrev pub redaction_in : List (List ℕ) → Option Bool
+redaction_in [] = Some false
+redaction_in (word ∷ words) = if bytes_eq word (codes "host-redacted") then option_map (λ end. true) (at_end words) else None
+
+-- the words of the last line of a head: the position, and whether these bytes are redacted
+unfoldable pub last_in : List (List ℕ) → Option (Position × Bool)
+last_in words = do
   rest ← take_name (codes "volume") words
   number ← take_number rest
   word ← take_word number.1
-  end ← at_end word.1
-  position_of number.0 word.0
+  is_host_redacted ← redaction_in word.1
+  option_map (λ position. (position, is_host_redacted)) (position_of number.0 word.0)
+
+-- a position alone
+abbrev pub alone : Position × Bool → Option Position
+alone last = if last.1 then None else Some last.0
+
+-- the words of a position's line
+abbrev pub position_in : List (List ℕ) → Option Position
+position_in words = last_in words >>= alone
 
 -- ---- lines in order
 
@@ -130,11 +143,15 @@ first_line_read line =
 abbrev pub approving : Begun → List ℕ → Begun
 approving begun digest = record begun { config = record begun.config { approved = begun.config.approved ++ digest ∷ [] } }
 
+-- the head of this machine with this last line
+abbrev pub head_of : Begun → Position × Bool → Head
+head_of begun last = record { config = begun.config; position = last.0; is_host_redacted = last.1 }
+
 -- the line after the machine's, or after that of an approved digest
 abbrev pub machine_line_read : Begun → List ℕ → Option NextLine
 machine_line_read begun line =
     if nat_le begun.awaited (length begun.config.approved)
-    then option_map (λ position. Whole (Three (record { config = begun.config; position = position }))) (position_in (words_in line))
+    then option_map (λ last. Whole (Three (head_of begun last))) (last_in (words_in line))
     else option_map (λ digest. More (Machine (approving begun digest))) (approved_in (words_in line))
 
 -- what the next line makes of a head, if it may come there

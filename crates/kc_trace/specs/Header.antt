@@ -37,13 +37,23 @@ abbrev pub position_words : Position → List (List ℕ)
 position_words First = codes "1" ∷ codes "-" ∷ []
 position_words (Later number after) = decimal number ∷ encode_lower after ∷ []
 
-unfoldable pub position_line : Position → List ℕ
-position_line position = join_with_byte 32 (codes "volume" ∷ position_words position)
+-- the word after them if the bytes that the host wrote to pages of active VMs are redacted, too
+abbrev pub redaction_words : Bool → List (List ℕ)
+redaction_words false = []
+redaction_words true = codes "host-redacted" ∷ []
 
--- the lines of a head: that of the machine, one for each approved digest, and that of the position
+-- the last line of a head: that of the position, and whether these bytes are redacted
+unfoldable pub last_line : Position → Bool → List ℕ
+last_line position is_host_redacted = join_with_byte 32 (codes "volume" ∷ (position_words position ++ redaction_words is_host_redacted))
+
+-- the line of a position alone
+abbrev pub position_line : Position → List ℕ
+position_line position = last_line position false
+
+-- the lines of a head: that of the machine, one for each approved digest, and the last
 abbrev pub head_lines : Head → List (List ℕ)
 head_lines head =
-    machine_line head.config (length head.config.approved) ∷ (map approved_line head.config.approved ++ position_line head.position ∷ [])
+    machine_line head.config (length head.config.approved) ∷ (map approved_line head.config.approved ++ last_line head.position head.is_host_redacted ∷ [])
 
 -- the first line of a trace with this header
 abbrev pub header_line : Header → List ℕ
@@ -61,6 +71,16 @@ lines_after_first (Three head) = head_lines head
 abbrev pub has_head : Header → Bool
 has_head (Three head) = true
 has_head header = false
+
+-- whether it has a head that says that the trace lacks bytes that the host wrote
+abbrev pub is_host_redacted : Header → Bool
+is_host_redacted (Three head) = head.is_host_redacted
+is_host_redacted header = false
+
+-- the header of the same trace without the bytes that the host wrote to pages of active VMs: a head says that
+abbrev pub host_redacted : Header → Header
+host_redacted (Three head) = Three (record head { is_host_redacted = true })
+host_redacted header = header
 
 -- all lines of a header
 abbrev pub header_lines : Header → List (List ℕ)

@@ -1,5 +1,5 @@
 //! Which header the trace has to have that goes on from a state, and what is wrong with another one.
-ghost use Rattle.std.specs.Prelude.{◌≡◌, ◌≤◌, ◌+◌, ◌^◌, length, MatchOption};
+ghost use Rattle.std.specs.Prelude.{◌≡◌, ◌≢◌, ◌≤◌, ◌+◌, ◌^◌, length, MatchOption};
 ghost use Rattle.kc_trace.specs.Faults.{header_fault_words};
 ghost use Rattle.std.specs.Bool.{Decides};
 ghost use Rattle.kc_trace.specs.declared.header.Position.TheVariants as position;
@@ -19,6 +19,8 @@ pub enum Expected {
     At(Position),
     /// A head of the volume after the one of this number, whose redacted text has this SHA-256 digest.
     After { number: u32, digest: [u8; 32] },
+    /// A head of the volume after the one of this number, whose digest is not known.
+    AfterNumber(u32),
 }
 
 /// The first part in which the machine that a head names differs.
@@ -112,15 +114,20 @@ impl Position {
     }
 
     /// Where the next volume comes, by the header of this one and the SHA-256 digest of its redacted text, if it has a
-    /// head; `None` if it has no head, or has the last number, 4,294,967,295.
+    /// head; `None` if it has no head, or the last number, 4,294,967,295, or lacks bytes that the host wrote.
     pub fn after(header: &Header, digest: Option<[u8; 32]>) -> Option<Position>
         ensures { result ≡ position_after header.now digest }
     {
         match (header, digest) {
-            (Header::Three(head), Some(digest)) => Some(Position::Later {
-                number: head.position.number().checked_add(1)?,
-                after: digest,
-            }),
+            (Header::Three(head), Some(digest)) => {
+                if head.is_host_redacted {
+                    return None;
+                }
+                Some(Position::Later {
+                    number: head.position.number().checked_add(1)?,
+                    after: digest,
+                })
+            },
             _ => None,
         }
     }
@@ -139,13 +146,25 @@ fn position_fault(expected: Position, position: Position) -> Option<HeaderFault>
     }
 }
 
+/// What is wrong with a position that is to be of the volume after the one of this number.
+fn number_fault(number: u32, place: Position) -> Option<HeaderFault>
+    ensures { MatchOption result (number_of place ≡ number + 1)
+        (λ fault. (fault ≡ HeaderFault.Number) × (number_of place ≢ number + 1)) }
+{
+    if place.number() as u64 == number as u64 + 1 {
+        None
+    } else {
+        Some(HeaderFault::Number)
+    }
+}
+
 /// What is wrong with a position that is to be the one after a volume of this number and digest.
 fn follower_fault(number: u32, digest: [u8; 32], place: Position) -> Option<HeaderFault>
     ensures { MatchOption result (place ≡ position.Later (number + 1) digest)
         (λ fault. IsPositionFault (position.Later (number + 1) digest) place fault) }
 {
-    if place.number() as u64 != number as u64 + 1 {
-        return Some(HeaderFault::Number);
+    if let Some(fault) = number_fault(number, place) {
+        return Some(fault);
     }
     match place {
         Position::Later { after, .. } if after == digest => None,
@@ -160,9 +179,13 @@ impl Expected {
         ensures { result ≡ expected_after header.now digest }
     {
         match (header, digest) {
-            (Header::Three(head), Some(digest)) => Expected::After {
-                number: head.position.number(),
-                digest,
+            (Header::Three(head), Some(digest)) => {
+                let number = head.position.number();
+                if head.is_host_redacted {
+                    Expected::AfterNumber(number)
+                } else {
+                    Expected::After { number, digest }
+                }
             },
             _ => Expected::Bare,
         }
@@ -176,7 +199,9 @@ impl Expected {
             Header::Three(head) => head,
             _ => {
                 return match self {
-                    Expected::At(_) | Expected::After { .. } => Some(HeaderFault::Missing),
+                    Expected::At(_) | Expected::After { .. } | Expected::AfterNumber(_) => {
+                        Some(HeaderFault::Missing)
+                    },
                     _ => None,
                 };
             },
@@ -190,6 +215,7 @@ impl Expected {
         match self {
             Expected::At(position) => position_fault(position, head.position),
             Expected::After { number, digest } => follower_fault(number, digest, head.position),
+            Expected::AfterNumber(number) => number_fault(number, head.position),
             _ => match head.position {
                 Position::First => None,
                 Position::Later { .. } => Some(HeaderFault::NotFirst),

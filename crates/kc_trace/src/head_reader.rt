@@ -2,7 +2,7 @@
 ghost use Rattle.std.specs.Prelude.{◌≡◌, ◌≢◌, ◌++◌, ℕ, List, IfOk, IfSome, MatchOption, None, Some, Ok};
 ghost use Rattle.kc_trace.specs.Header.{IsHeader, trace_header};
 ghost use Rattle.kc_trace.specs.declared.header.Header.{Header};
-ghost use Rattle.kc_trace.specs.HeadReading.{take_name, take_word, take_number, take_pair, take_digest, words_in, version_numbered, machine_in, approved_in, position_of, position_in, first_line_read, machine_line_read, next_line, next_number, is_nothing};
+ghost use Rattle.kc_trace.specs.HeadReading.{take_name, take_word, take_number, take_pair, take_digest, words_in, version_numbered, machine_in, approved_in, position_of, redaction_in, last_in, position_in, first_line_read, machine_line_read, next_line, next_number, is_nothing};
 
 use crate::header::{Head, Header, Position};
 use kc_lines::{LineWords, read_digest, read_number, split_line};
@@ -144,17 +144,46 @@ fn position_of(number: u32, word: &[u8]) -> Option<Position>
     }
 }
 
-/// Reads the line of a position, without its newline; `None` if it is not such a line.
-#[tactic(auto, unfolding(crate::specs::HeadReading::position_in))]
-pub fn read_position(line: &[u8]) -> Option<Position>
-    ensures { result ≡ position_in (words_in line.now) }
+/// Reads the words after a position, which say whether the bytes that the host wrote are redacted, too.
+fn read_redaction(words: LineWords<'_>) -> Option<bool>
+    ensures { result ≡ redaction_in words.entry }
+{
+    let mut words = words;
+    let Some(word) = words.next() else {
+        return Some(false);
+    };
+    if word == b"host-redacted".as_slice() {
+        words.end()?;
+        Some(true)
+    } else {
+        None
+    }
+}
+
+/// Reads the last line of a head.
+#[tactic(auto, unfolding(crate::specs::HeadReading::last_in))]
+fn read_last(line: &[u8]) -> Option<(Position, bool)>
+    ensures { result ≡ last_in (words_in line.now) }
 {
     let mut words = LineWords::new(line);
     take_name(&mut words, b"volume")?;
     let number = take_number(&mut words)?;
     let word = words.next()?;
-    words.end()?;
-    position_of(number, word)
+    let is_host_redacted = read_redaction(words)?;
+    let position = position_of(number, word)?;
+    Some((position, is_host_redacted))
+}
+
+/// Reads the line of a position, without its newline; `None` if it is not such a line.
+pub fn read_position(line: &[u8]) -> Option<Position>
+    ensures { result ≡ position_in (words_in line.now) }
+{
+    let (position, is_host_redacted) = read_last(line)?;
+    if is_host_redacted {
+        None
+    } else {
+        Some(position)
+    }
 }
 
 /// Reads the first line of a header.
@@ -204,13 +233,17 @@ impl Begun {
         ensures { IfOk result (λ next. next ≡ machine_line_read self line.now) }
     {
         if self.approved.len() >= self.awaited as usize {
-            let Some(position) = read_position(line) else {
+            let Some((position, is_host_redacted)) = read_last(line) else {
                 return Ok(None);
             };
             let Some(config) = self.into_config() else {
                 return Ok(None);
             };
-            return Ok(Some(NextLine::Whole(Header::Three(Head { config, position }))));
+            return Ok(Some(NextLine::Whole(Header::Three(Head {
+                config,
+                position,
+                is_host_redacted,
+            }))));
         }
         let Some(digest) = read_approved(line) else {
             return Ok(None);

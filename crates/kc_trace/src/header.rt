@@ -1,7 +1,7 @@
 //! The headers of traces, and what one of header 3 says: which machine its calls are made on, and where in a history
 //! they come.
 ghost use Rattle.std.specs.Prelude.{◌≡◌, ◌≤◌, IfOk};
-ghost use Rattle.kc_trace.specs.Header.{has_head, first_call_line};
+ghost use Rattle.kc_trace.specs.Header.{has_head, is_host_redacted, host_redacted, first_call_line};
 ghost use Rattle.kc_trace.specs.Expected.{head_number};
 
 use kc_types::{Config, Memory};
@@ -23,6 +23,9 @@ pub struct Head {
     /// The machine that the calls are made on.
     pub config: Config,
     pub position: Position,
+    /// Whether the trace lacks the bytes that the host wrote to pages of active VMs. Its digest is then not the one that
+    /// the head of the next volume has, which is that of the redacted trace with these bytes.
+    pub is_host_redacted: bool,
 }
 
 impl Head {
@@ -34,6 +37,7 @@ impl Head {
         Ok(Head {
             config: self.config.copy()?,
             position: self.position,
+            is_host_redacted: self.is_host_redacted,
         })
     }
 }
@@ -67,6 +71,37 @@ impl Header {
         ensures { result ≡ has_head self.now }
     {
         matches!(self, Header::Three(_))
+    }
+
+    /// Whether it has a head that says that the trace lacks bytes that the host wrote.
+    pub fn is_host_redacted(&self) -> bool
+        ensures { result ≡ is_host_redacted self.now }
+    {
+        match self {
+            Header::Three(head) => head.is_host_redacted,
+            _ => false,
+        }
+    }
+
+    /// The header of the same trace without the bytes that the host wrote to pages of active VMs: a head says that.
+    pub fn host_redacted(self) -> Header
+        ensures { result ≡ host_redacted self }
+    {
+        match self {
+            Header::Three(head) => {
+                let Head {
+                    config,
+                    position,
+                    is_host_redacted: _,
+                } = head;
+                Header::Three(Head {
+                    config,
+                    position,
+                    is_host_redacted: true,
+                })
+            },
+            header => header,
+        }
     }
 
     /// The number of the volume, counted from 1, if it has a head.

@@ -1,9 +1,9 @@
 //! Headers as text.
-ghost use Rattle.std.specs.Prelude.{◌≡◌, ◌≤◌, ◌+◌, ◌*◌, ◌++◌, ◌∷◌, [], length, vec_len, vec_capacity};
+ghost use Rattle.std.specs.Prelude.{◌≡◌, ◌≤◌, ◌+◌, ◌*◌, ◌++◌, ◌∷◌, [], codes, length, vec_len, vec_capacity};
 ghost use Rattle.std.specs.Fmt.{decimal};
-ghost use Rattle.std.specs.List.{flat_map};
+ghost use Rattle.std.specs.List.{flat_map, join_with_byte};
 ghost use Rattle.kc_trace.specs.Spelling.{longest_call};
-ghost use Rattle.kc_trace.specs.Header.{version_number, machine_numbers, machine_line, approved_line, position_line, head_lines, ended_lines, trace_header};
+ghost use Rattle.kc_trace.specs.Header.{version_number, machine_numbers, position_words, redaction_words, machine_line, approved_line, last_line, position_line, head_lines, ended_lines, trace_header};
 
 use crate::header::{Head, Header, Position};
 use kc_lines::{push_bytes, push_digits, push_number};
@@ -83,36 +83,71 @@ fn push_all_approved(text: &mut Vec<u8>, digests: &[[u8; 32]])
     }
 }
 
+/// Appends the name and the words of a position.
+fn push_words(text: &mut Vec<u8>, position: Position)
+    requires { vec_len text.old + 82 ≤ vec_capacity text.old }
+    ensures items { text.new.items ≡ text.old.items ++ join_with_byte 32 (codes "volume" ∷ position_words position) }
+    ensures len { vec_len text.new ≤ vec_len text.old + 82 }
+    ensures capacity { vec_capacity text.old ≤ vec_capacity text.new }
+{
+    match position {
+        Position::First => push_bytes(text, b"volume 1 -"),
+        Position::Later { number, after } => {
+            push_bytes(text, b"volume");
+            push_number(text, number);
+            push_bytes(text, b" ");
+            push_digits(text, after.as_slice());
+        },
+    }
+}
+
+/// Appends the word that may come after them, if the bytes that the host wrote are redacted.
+fn push_redaction(text: &mut Vec<u8>, is_host_redacted: bool)
+    requires { vec_len text.old + 14 ≤ vec_capacity text.old }
+    ensures items { text.new.items ≡ text.old.items ++ flat_map (λ word. 32 ∷ word) (redaction_words is_host_redacted) }
+    ensures len { vec_len text.new ≤ vec_len text.old + 14 }
+    ensures capacity { vec_capacity text.old ≤ vec_capacity text.new }
+{
+    if is_host_redacted {
+        push_bytes(text, b" host-redacted");
+    }
+}
+
+/// Appends the last line of a head and its newline.
+#[tactic(auto, using(crate::proofs::HeadWords::last_joined))]
+fn push_last(text: &mut Vec<u8>, position: Position, is_host_redacted: bool)
+    requires { vec_len text.old + 97 ≤ vec_capacity text.old }
+    ensures items { text.new.items ≡ text.old.items ++ (last_line position is_host_redacted ++ 10 ∷ []) }
+    ensures len { vec_len text.new ≤ vec_len text.old + 97 }
+    ensures capacity { vec_capacity text.old ≤ vec_capacity text.new }
+{
+    push_words(text, position);
+    push_redaction(text, is_host_redacted);
+    push_bytes(text, b"\n");
+}
+
 /// Appends the line of a position and its newline, at most 83 bytes, for which there is room: memory does not grow.
-#[tactic(auto, unfolding(crate::specs::Header::position_line))]
+#[tactic(auto, using(crate::proofs::HeadWords::position_joined))]
 pub fn push_position(text: &mut Vec<u8>, position: Position)
     requires { vec_len text.old + 83 ≤ vec_capacity text.old }
     ensures items { text.new.items ≡ text.old.items ++ (position_line position ++ 10 ∷ []) }
     ensures len { vec_len text.new ≤ vec_len text.old + 83 }
     ensures capacity { vec_capacity text.old ≤ vec_capacity text.new }
 {
-    match position {
-        Position::First => push_bytes(text, b"volume 1 -\n"),
-        Position::Later { number, after } => {
-            push_bytes(text, b"volume");
-            push_number(text, number);
-            push_bytes(text, b" ");
-            push_digits(text, after.as_slice());
-            push_bytes(text, b"\n");
-        },
-    }
+    push_words(text, position);
+    push_bytes(text, b"\n");
 }
 
 /// Appends the lines of a head, each with its newline.
 fn push_head(text: &mut Vec<u8>, head: &Head)
-    requires { vec_len text.old + 4903 ≤ vec_capacity text.old }
+    requires { vec_len text.old + 4917 ≤ vec_capacity text.old }
     ensures items { text.new.items ≡ text.old.items ++ ended_lines (head_lines head.now) }
     ensures capacity { vec_capacity text.old ≤ vec_capacity text.new }
 {
     let config = &head.config;
     push_machine(text, config);
     push_all_approved(text, config.approved());
-    push_position(text, head.position);
+    push_last(text, head.position, head.is_host_redacted);
 }
 
 /// Appends the lines of a header, each with its newline, for which there is room: memory does not grow. They are no

@@ -43,6 +43,6 @@ pub use remark_writer::{call_name, push_access, push_denied};
 pub use reply_writer::{LONGEST_REPLY, push_reply, write_replies};
 pub use summary_writer::summary_text;
 pub use volume_writer::{
-    Chain, LONGEST_PLACE, VolumeEntry, VolumeNumbers, push_place, push_volumes, volume_of,
+    Chain, LONGEST_PLACE, Order, VolumeEntry, VolumeNumbers, push_place, push_volumes, volume_of,
 };
 pub use writer::{LONGEST_CALL, header_of, push_call, write_trace};

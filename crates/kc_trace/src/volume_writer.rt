@@ -1,7 +1,7 @@
 //! The volumes that were read in one run: which ones they are, a line for each (JSON Lines, RFC 8259), and which one a
 //! line is in.
-ghost use Rattle.std.specs.Prelude.{◌≡◌, ◌≤◌, ◌+◌, ◌++◌, codes, vec_len, vec_capacity, OnOk};
-ghost use Rattle.kc_trace.specs.CustodyText.{AreInLine, volume_of, member, head_number_text, numbers_text, chain_text, volume_line, volumes_text, longest_chain, longest_place, longest_volume};
+ghost use Rattle.std.specs.Prelude.{◌≡◌, ◌≤◌, ◌+◌, ◌++◌, codes, length, vec_len, vec_capacity, OnOk};
+ghost use Rattle.kc_trace.specs.CustodyText.{AreInLine, volume_of, member, head_number_text, numbers_text, order_text, chain_text, volume_line, volumes_text, longest_chain, longest_place, longest_volume};
 
 use crate::custody_writer::{push_member, push_trace};
 use kc_lines::push_bytes;
@@ -22,6 +22,8 @@ pub struct VolumeEntry {
     pub calls: u32,
     /// Its number in its history, counted from 1, if it has a head, which says it.
     pub number: Option<u32>,
+    /// Whether it lacks bytes that the host wrote, as its head says.
+    pub is_host_redacted: bool,
     /// The SHA-256 digest (FIPS 180-4) of its text, if texts are named.
     pub digest: Option<[u8; 32]>,
 }
@@ -33,14 +35,23 @@ pub struct VolumeNumbers {
     pub last: u32,
 }
 
-/// Which volumes a report is of, and whether it was judged that each follows the one before it.
+/// By what it was judged that each volume follows the one before it.
+#[derive(Clone, Copy, Debug, PartialEq, Eq)]
+pub enum Order {
+    /// By nothing: they have no heads.
+    NotJudged,
+    /// By their numbers, and not everywhere by the digest in the next head, since one lacks bytes that the host wrote.
+    Numbers(VolumeNumbers),
+    /// By their numbers and the digests in their heads.
+    Digests(VolumeNumbers),
+}
+
+/// Which volumes a report is of, and by what their order was judged.
 #[derive(Clone, Copy, Debug, PartialEq, Eq)]
 pub struct Chain {
     /// How many volumes were read, if there were several; otherwise 0.
     pub count: u32,
-    /// The numbers of the first and the last, if all have heads, by which each follows the one before it; `None` if
-    /// they have none: then their order is not judged.
-    pub numbers: Option<VolumeNumbers>,
+    pub order: Order,
 }
 
 /// The place of the volume that a line is in: 1 for the first that was read, and 0 for a line before all volumes.
@@ -99,7 +110,19 @@ fn push_numbers(text: &mut Vec<u8>, numbers: &VolumeNumbers)
     push_member(text, b",\"last\":", numbers.last as usize);
 }
 
-/// Appends which volumes were read, and that their order was not judged, if it was not.
+/// Appends by what their order was judged, if it is not by numbers and digests.
+fn push_order(text: &mut Vec<u8>, order: &[u8])
+    requires { vec_len text.old + (length order.now + 11) ≤ vec_capacity text.old }
+    ensures items { text.new.items ≡ text.old.items ++ order_text order.now }
+    ensures len { vec_len text.new ≤ vec_len text.old + (length order.now + 11) }
+    ensures capacity { vec_capacity text.old ≤ vec_capacity text.new }
+{
+    push_bytes(text, b",\"order\":\"");
+    push_bytes(text, order);
+    push_bytes(text, b"\"");
+}
+
+/// Appends which volumes were read, and by what their order was judged, if it is not by numbers and digests.
 pub(crate) fn push_chain(text: &mut Vec<u8>, chain: &Chain)
     requires { vec_len text.old + longest_chain ≤ vec_capacity text.old }
     ensures items { text.new.items ≡ text.old.items ++ chain_text chain.now }
@@ -109,13 +132,17 @@ pub(crate) fn push_chain(text: &mut Vec<u8>, chain: &Chain)
     if chain.count != 0 {
         push_member(text, b",\"volumes\":", chain.count as usize);
     }
-    match &chain.numbers {
-        Some(numbers) => push_numbers(text, numbers),
-        None => {
+    match &chain.order {
+        Order::NotJudged => {
             if chain.count != 0 {
-                push_bytes(text, b",\"order\":\"not judged\"");
+                push_order(text, b"not judged");
             }
         },
+        Order::Numbers(numbers) => {
+            push_numbers(text, numbers);
+            push_order(text, b"numbers");
+        },
+        Order::Digests(numbers) => push_numbers(text, numbers),
     }
 }
 

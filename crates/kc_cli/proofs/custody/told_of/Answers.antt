@@ -13,4 +13,4 @@ pub returns-clause-heading : goal.returns-clause-heading
 returns-clause-heading c =
     heading_so c.args.order.scope c.args.order.origin c.args.start c.args.entries.items _ _ _ (rw (c.trace_digest-trace.ensures, c.as_slice.ensures.value, c.first_number-first.ensures, c.as_slice-2.ensures.value) at c.digests_by.ensures)
     (c.len.ensures ∙ c.listed-volumes.result.ok.0 ∙ ap length c.listed-volumes.ensures)
-    (rw c.as_slice-3.ensures.value at c.numbers_in-numbers.ensures)
+    (rw c.as_slice-3.ensures.value at c.order_of-judged.ensures)

@@ -19,7 +19,7 @@ pub returns-clause-answered : goal.returns-clause-answered
 returns-clause-answered g c = answers_host _ _ _ c.in_ok-header.header c.in_ok-header.calls.items c.in_ok-header.denials _ c.in_ok-header.ensures.ok (c.len.ensures ∙ c.in_ok-header.calls.ok.0) refl
 
 pub returns-clause-ok : goal.returns-clause-ok
-returns-clause-ok g c = writes_host _ _ _ _ _ c.in_ok-header.header c.in_ok-header.calls.items _ c.in_ok-header.ensures.ok c.in_ok-give_redacted.ensures.ok
+returns-clause-ok g c = writes_host _ _ _ _ _ c.in_ok-header.header c.in_ok-header.calls.items _ c.in_ok-header.ensures.ok (rw c.host_redacted.ensures at c.in_ok-give_redacted.ensures.ok)
 
 pub returns-in_err-give_redacted-clause-sink : goal.returns-in_err-give_redacted-clause-sink
 returns-in_err-give_redacted-clause-sink g c =

@@ -23,7 +23,7 @@ returns-in-Ok-clause-ok g c = λ order m sources h.
     let config = ap (λ (n : State). n.config) h.kept.left ∙ config-after m (joined h.volumes) in
     let may = subst (λ (x : Configuration). MayHave x c.args.self.now.expected volume.header) (c.in_ok-header.ensures.config ∙ config) (rw c.config.ensures.value at c.in_default.ensures) in
     read_more order c.args.self.now _ m sources (g.T.Source.left c.args.trace.now) volume _ h refl refl (c.after-self.ensures ∙ ap (expected_after volume.header) told.4 ∙ next_is _ volume) may told.1 told.2 told.3 (λ before kept. told.5 order.form m before h.lawful kept)
-    c.in-Ok.ensures.items refl (omega (arith, at)) c.number.ensures (rw (c.names_trace-is_named.ensures, h.ordered) at (c.digest_named.ensures volume told.4)) (omega arith)
+    c.in-Ok.ensures.items refl (omega (arith, at)) c.number.ensures c.is_host_redacted.ensures (rw (c.names_trace-is_named.ensures, h.ordered) at (c.digest_named.ensures volume told.4)) (omega arith)
 
 pub returns-in_err-header-clause-trace : goal.returns-in_err-header-clause-trace
 returns-in_err-header-clause-trace g c = λ fault e.
