@@ -97,11 +97,16 @@ class Chain:
         """The number in the head of the first volume, or None."""
         return self.traces[0].position and self.traces[0].position.number
 
+    def is_by_numbers(self):
+        """Whether a volume that another one follows lacks bytes that the host wrote."""
+        return any(trace.is_host_redacted for trace in self.traces[:-1])
+
     def report_differs(self, rng, vm):
         """What differs in one form of custody, or None."""
         form = rng.choice(FORMS)
         is_named, is_unseen, vm, options = self.some(rng, [vm], form)
         said = {"is_unseen": is_unseen, "named": self.named() if is_named else None, "first": self.number()}
+        said["is_by_numbers"] = self.is_by_numbers()
         if len(self.volumes) > 1:
             digests = [trace.digest() for trace in self.traces] if is_named else None
             said["volumes"] = rows_of_volumes(map(len, self.volumes), digests, self.number())
@@ -123,6 +128,7 @@ class Chain:
         """The foot of a picture of several volumes."""
         count, first = len(self.volumes), self.number()
         foot = f"kcore {VERSION}, " + (f"volumes {first} to {first + count - 1}" if first else f"{count} volumes, order not judged")
+        foot += ", order by numbers alone" * self.is_by_numbers()
         if is_named and self.is_unnamed:
             foot += ", machine in the head of the trace"
         elif is_named:
@@ -154,7 +160,7 @@ class Chain:
         if way == "line":
             place = rng.randrange(len(lines) + 1)
             made = [*lines[:place], rng.choice(WRONG), *lines[place:]]
-            text = heads.Headed(trace.config, trace.position, made, True).text()
+            text = heads.Headed(trace.config, trace.position, made, True, trace.is_host_redacted).text()
             fault = f"bad trace line {place + first}"
         elif way == "end" and lines:
             text, fault = text[:-1], "last trace line has no newline"

@@ -11,6 +11,10 @@ BARE, FIRST = "bare", "first"
 PARTS = "version", "frames", "core", "host", "leaves", "approved"
 
 
+# The digest of a volume whose text lacks bytes that the host wrote: of the next one only the number is judged.
+UNKNOWN = "unknown"
+
+
 class Position:
     """Which volume of a history a trace is: its number, and the digest of the one before it, None for the first."""
 
@@ -22,17 +26,20 @@ class Position:
 
 
 class Headed:
-    """A trace of some calls with a head, or without one if it has no position."""
+    """A trace of some calls with a head, or without one if it has no position. The head says whether the trace lacks
+    bytes that the host wrote."""
 
-    def __init__(self, config, position, lines, has_ranges=None):
+    def __init__(self, config, position, lines, has_ranges=None, is_host_redacted=False):
         self.config, self.position, self.lines = config, position, lines
         self.bare = calls.trace_of(lines, has_ranges)
+        self.is_host_redacted = is_host_redacted
 
     def head(self):
         sizes = self.config["version"], SLOTS[self.config["version"]], *(self.config[part] for part in PARTS[1:5])
         approved = self.config["approved"]
         words = " ".join(map(str, [*sizes, len(approved)]))
-        return ["kcore-trace 3", f"config {words}", *(f"approved {one}" for one in approved), self.position.line()]
+        last = self.position.line() + (" host-redacted" if self.is_host_redacted else "")
+        return ["kcore-trace 3", f"config {words}", *(f"approved {one}" for one in approved), last]
 
     def text(self):
         return self.bare if self.position is None else "".join(f"{line}\n" for line in [*self.head(), *self.lines])
@@ -50,7 +57,9 @@ class Headed:
 
     def next(self):
         """The position of the volume after it, or BARE if that is not known."""
-        return BARE if self.position is None else Position(self.position.number + 1, self.digest())
+        if self.position is None:
+            return BARE
+        return Position(self.position.number + 1, UNKNOWN if self.is_host_redacted else self.digest())
 
     def misplaced(self, config, expected):
         """What is said of it where the trace of this machine is to be this one, or None if it may come there."""
@@ -63,9 +72,10 @@ class Headed:
                 return f"machine of the trace differs: {part}"
         if expected == FIRST:
             return None if self.position.number == 1 else "trace is not the first volume"
-        for part in "number", "after":
-            if getattr(self.position, part) != getattr(expected, part):
-                return f"volume of the trace differs: {'number' if part == 'number' else 'digest'}"
+        if self.position.number != expected.number:
+            return "volume of the trace differs: number"
+        if expected.after not in (UNKNOWN, self.position.after):
+            return "volume of the trace differs: digest"
         return None
 
 
@@ -81,11 +91,14 @@ def some_position(rng):
 
 
 def chain_of(rng, config, position, pieces):
-    """Traces of these calls, each with the head that comes after the one before it."""
-    made = []
+    """Traces of these calls, each with the head that comes after the one before it. Of one random chain in three, some
+    lack bytes that the host wrote."""
+    made, lacking = [], rng.choice([0, 0, 0.5]) if rng else 0
     for lines in pieces:
-        made.append(Headed(config, position, lines))
+        made.append(Headed(config, position, lines, None, bool(lacking) and rng.random() < lacking))
         position = made[-1].next()
+        if position.after == UNKNOWN:
+            position = Position(position.number, digits(rng))
     return made
 
 
@@ -131,13 +144,13 @@ def disordered(rng, traces):
         to = rng.randrange(len(traces))
         traces[at], traces[to] = traces[to], one
     elif way == "machine":
-        traces[at] = Headed(other_machine(rng, one.config), one.position, one.lines)
+        traces[at] = Headed(other_machine(rng, one.config), one.position, one.lines, None, one.is_host_redacted)
     elif way == "number" or (way in ("digest", "raw") and one.position.number == 1):
         number = max(1, one.position.number + rng.choice([-1, 1]))
-        traces[at] = Headed(one.config, Position(number, None if number == 1 else one.position.after or digits(rng)), one.lines)
+        traces[at] = Headed(one.config, Position(number, None if number == 1 else one.position.after or digits(rng)), one.lines, None, one.is_host_redacted)
     elif way in ("digest", "raw"):
         before = traces[at - 1].text().encode() if way == "raw" and at else rng.randbytes(8)
-        traces[at] = Headed(one.config, Position(one.position.number, hashlib.sha256(before).hexdigest()), one.lines)
+        traces[at] = Headed(one.config, Position(one.position.number, hashlib.sha256(before).hexdigest()), one.lines, None, one.is_host_redacted)
     else:
         traces[at] = Headed(one.config, None, one.lines)
     return traces
@@ -146,4 +159,5 @@ def disordered(rng, traces):
 def placed(text, position):
     """The text of a state from which the volume at this position goes on."""
     first, rest = text.split("\n", 1)
-    return text if position in (None, BARE) else f"kcore-state 2\n{position.line()}\n{rest}"
+    is_known = position not in (None, BARE) and position.after != UNKNOWN
+    return f"kcore-state 2\n{position.line()}\n{rest}" if is_known else text

@@ -81,11 +81,11 @@ def rows_of_volumes(sizes, digests=None, first=None):
     return rows
 
 
-def chain_said(volumes, first=None):
+def chain_said(volumes, first=None, is_by_numbers=False):
     """What a first line says of these volumes (none if there was one trace): how many there are, and the numbers in the
-    heads of the first and the last, or that nobody knows their order."""
+    heads of the first and the last, and whether their order was judged by these alone; or that nobody knows it."""
     if first:
-        last = {"first": first, "last": first + max(len(volumes), 1) - 1}
+        last = {"first": first, "last": first + max(len(volumes), 1) - 1} | ({"order": "numbers"} if is_by_numbers else {})
         return ({"volumes": len(volumes)} if volumes else {}) | last
     return {"volumes": len(volumes), "order": "not judged"} if volumes else {}
 
@@ -521,15 +521,16 @@ class Core:
             lives.note(number, line, self.answer(line))
         return lives.told()
 
-    def text(self, kind, calls, counted, lines, named=None, is_unseen=False, volumes=(), first=None):
+    def text(self, kind, calls, counted, lines, named=None, is_unseen=False, volumes=(), first=None, is_by_numbers=False):
         """The text of a report with its first and its last line. `calls` says how many calls there were, and how many
         were denied. Perhaps the texts that were read are named, or the machine's accesses are not in the trace, or the
-        calls came in these volumes. If there are heads, the first one has this number."""
+        calls came in these volumes. If there are heads, the first one has this number, and their order may have been judged
+        by numbers alone."""
         header = {kind: 2, "kcore": VERSION} | (named or {})
         header |= {"frames": len(self.frames), "core": self.config["core"], "host": self.config["host"]}
         header |= {"slots": len(self.slots)} | ({"refused": calls[1]} if kind == "summary" else {})
         header |= {"accesses": "unseen"} if is_unseen else {}
-        header |= chain_said(volumes, first)
+        header |= chain_said(volumes, first, is_by_numbers)
         lines = [header, *volumes, *lines, {"calls": calls[0], counted: len(lines), "refused": calls[1]}]
         return "".join(json.dumps(line, separators=(",", ":")) + "\n" for line in lines)
 

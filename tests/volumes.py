@@ -176,8 +176,11 @@ def headed_differs(rng, program, volume):
     """What differs in a volume with a head that is replayed by itself, or None: it goes on from a state that says its
     position, to one that says the next."""
     position = heads.some_position(rng)
-    trace = heads.Headed(program.config, position, volume.lines)
+    trace = heads.Headed(program.config, position, volume.lines, None, rng.random() < 0.3)
     start = ["--from", program.file("from", heads.placed(volume.before, position))]
+    hidden = heads.Headed(program.config, position, volume.hidden, None, True)
+    if run(["redact", "--host", *start], trace.text()) != (0, hidden.text(), volume.warning):
+        return "redacted with --host, under a head"
     after = heads.placed(volume.after, trace.next())
     words = ["replay", *start, "--to", program.file("to", after), "--workers", str(rng.choice(WORKERS))]
     form, wanted = rng.choice([([], volume.replies), (["--state"], after)])

@@ -194,7 +194,7 @@ head_number_text (Some number) = member (codes ",\"number\":") number
 
 -- the line of a volume by its place among those that were read: the line of its first call, how many calls it has, its
 -- number if it has a head, and its digest, if texts are named
-abbrev pub volume_line : ℕ → VolumeEntry → List ℕ
+unfoldable pub volume_line : ℕ → VolumeEntry → List ℕ
 volume_line place volume = member (codes "{\"volume\":") place ++ (member (codes ",\"line\":") volume.line ++ (member (codes ",\"calls\":") volume.calls
     ++ (head_number_text volume.number ++ (trace_text volume.digest ++ (codes "}" ++ 10 ∷ [])))))
 

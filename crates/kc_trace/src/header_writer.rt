@@ -114,7 +114,6 @@ fn push_redaction(text: &mut Vec<u8>, is_host_redacted: bool)
 }
 
 /// Appends the last line of a head and its newline.
-#[tactic(auto, using(crate::proofs::HeadWords::last_joined))]
 fn push_last(text: &mut Vec<u8>, position: Position, is_host_redacted: bool)
     requires { vec_len text.old + 97 ≤ vec_capacity text.old }
     ensures items { text.new.items ≡ text.old.items ++ (last_line position is_host_redacted ++ 10 ∷ []) }
@@ -127,7 +126,6 @@ fn push_last(text: &mut Vec<u8>, position: Position, is_host_redacted: bool)
 }
 
 /// Appends the line of a position and its newline, at most 83 bytes, for which there is room: memory does not grow.
-#[tactic(auto, using(crate::proofs::HeadWords::position_joined))]
 pub fn push_position(text: &mut Vec<u8>, position: Position)
     requires { vec_len text.old + 83 ≤ vec_capacity text.old }
     ensures items { text.new.items ≡ text.old.items ++ (position_line position ++ 10 ∷ []) }

@@ -1,7 +1,7 @@
 //! The volumes that were read in one run: which ones they are, a line for each (JSON Lines, RFC 8259), and which one a
 //! line is in.
 ghost use Rattle.std.specs.Prelude.{◌≡◌, ◌≤◌, ◌+◌, ◌++◌, codes, length, vec_len, vec_capacity, OnOk};
-ghost use Rattle.kc_trace.specs.CustodyText.{AreInLine, volume_of, member, head_number_text, numbers_text, order_text, chain_text, volume_line, volumes_text, longest_chain, longest_place, longest_volume};
+ghost use Rattle.kc_trace.specs.CustodyText.{AreInLine, volume_of, member, head_number_text, numbers_text, order_text, volume_count_text, judged_text, chain_text, volume_line, volumes_text, longest_chain, longest_place, longest_volume};
 
 use crate::custody_writer::{push_member, push_trace};
 use kc_lines::push_bytes;
@@ -122,19 +122,28 @@ fn push_order(text: &mut Vec<u8>, order: &[u8])
     push_bytes(text, b"\"");
 }
 
-/// Appends which volumes were read, and by what their order was judged, if it is not by numbers and digests.
-pub(crate) fn push_chain(text: &mut Vec<u8>, chain: &Chain)
-    requires { vec_len text.old + longest_chain ≤ vec_capacity text.old }
-    ensures items { text.new.items ≡ text.old.items ++ chain_text chain.now }
-    ensures len { vec_len text.new ≤ vec_len text.old + longest_chain }
+/// Appends how many volumes were read, if there were several.
+fn push_volume_count(text: &mut Vec<u8>, count: u32)
+    requires { vec_len text.old + 31 ≤ vec_capacity text.old }
+    ensures items { text.new.items ≡ text.old.items ++ volume_count_text count }
+    ensures len { vec_len text.new ≤ vec_len text.old + 31 }
     ensures capacity { vec_capacity text.old ≤ vec_capacity text.new }
 {
-    if chain.count != 0 {
-        push_member(text, b",\"volumes\":", chain.count as usize);
+    if count != 0 {
+        push_member(text, b",\"volumes\":", count as usize);
     }
-    match &chain.order {
+}
+
+/// Appends the numbers of the first and the last volume, and by what the order of these volumes was judged.
+fn push_judged(text: &mut Vec<u8>, count: u32, order: &Order)
+    requires { vec_len text.old + 75 ≤ vec_capacity text.old }
+    ensures items { text.new.items ≡ text.old.items ++ judged_text count order.now }
+    ensures len { vec_len text.new ≤ vec_len text.old + 75 }
+    ensures capacity { vec_capacity text.old ≤ vec_capacity text.new }
+{
+    match order {
         Order::NotJudged => {
-            if chain.count != 0 {
+            if count != 0 {
                 push_order(text, b"not judged");
             }
         },
@@ -144,6 +153,17 @@ pub(crate) fn push_chain(text: &mut Vec<u8>, chain: &Chain)
         },
         Order::Digests(numbers) => push_numbers(text, numbers),
     }
+}
+
+/// Appends which volumes were read, and by what their order was judged, if it is not by numbers and digests.
+pub(crate) fn push_chain(text: &mut Vec<u8>, chain: &Chain)
+    requires { vec_len text.old + longest_chain ≤ vec_capacity text.old }
+    ensures items { text.new.items ≡ text.old.items ++ chain_text chain.now }
+    ensures len { vec_len text.new ≤ vec_len text.old + longest_chain }
+    ensures capacity { vec_capacity text.old ≤ vec_capacity text.new }
+{
+    push_volume_count(text, chain.count);
+    push_judged(text, chain.count, &chain.order);
 }
 
 /// Appends the lines of all volumes. `Memory` if memory runs out.

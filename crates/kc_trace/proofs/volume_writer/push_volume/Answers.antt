@@ -1,9 +1,10 @@
 use Rattle.std.proofs.Common.{codes, ◌++◌, [], ◌∷◌}
-use Rattle.kc_trace.specs.CustodyText.{member, head_number_text, trace_text}
+use Rattle.kc_trace.specs.CustodyText.{member, head_number_text, trace_text, volume_line}
 use Rattle.kc_trace.proofs.Pushed.{six}
 use Rattle.kc_trace.proofs.volume_writer.push_volume.Goals as goal
 
 pub returns-clause-line : goal.returns-clause-line
+unfolding volume_line
 returns-clause-line c =
     let volume = c.args.volume.now in
     six c.args.text.now.items c.push_place.new.text.items c.push_member.new.text.items c.push_member-2.new.text.items c.push_head_number.new.text.items c.push_trace.new.text.items c.push_bytes.new.text.items
