@@ -40,7 +40,7 @@ use Rattle.kc_custody.specs.Within.{IsWithin}
 use Rattle.kc_custody.proofs.Traced.{before-within, events-within}
 use Rattle.kc_remarks.proofs.Events.{events-of-notes}
 use Rattle.kc_cli.specs.Ledgers.{HasKept, Keeps, events_kept, IsGiven, IsGivenOf, GivesAccount, BeginsAccount}
-use Rattle.kc_cli.specs.Volumes.{known, HasTold}
+use Rattle.kc_cli.specs.Volumes.{known, IsAccountOf, HasTold}
 use Rattle.kc_cli.proofs.Counted.{one_each, answered_by}
 use Rattle.kc_cli.proofs.Headings.{headed}
 use Rattle.kc_cli.proofs.Blind.{made_blind}
@@ -76,24 +76,31 @@ entries_last named line (v ∷ volumes) volume entry at long number hidden diges
     ap (λ (rest : List VolumeEntry). entry_of named line v ∷ rest) (entries_last named (line + length v.calls) volumes volume entry after long number hidden digest)
 
 -- one trace more was read
-pub read_more : (order : CustodyOrder) (old new : CustodyAccount) (m : State) (sources : List (Option (List ℕ))) (source : Option (List ℕ)) (volume : Traced) (entry : VolumeEntry) → HasTold order old m sources → new.order ≡ old.order → new.first ≡ old.first → new.expected ≡ expected_next volume
+pub read_more : (order : CustodyOrder) (old new : CustodyAccount) (m : State) (sources : List (Option (List ℕ))) (source : Option (List ℕ)) (volume : Traced) (entry : VolumeEntry) → (h : HasTold order old m sources) → new.order ≡ old.order → new.first ≡ old.first
     → MayHave m.config old.expected volume.header → IfSome source (λ text. IsTraceUnder volume.header text volume.calls) → length volume.calls ≤ call_limit → new.kept.line ≡ old.kept.line + length volume.calls
     → ((before : List Call) → HasKept order.form m before old.core old.kept → HasKept order.form m (before ++ volume.calls) new.core new.kept)
     → new.entries.items ≡ old.entries.items ++ entry ∷ [] → entry.line ≡ old.kept.line → entry.line + entry.calls ≡ new.kept.line → entry.number ≡ head_number volume.header → entry.is_host_redacted ≡ is_host_redacted volume.header → entry.digest ≡ trace_named (names_trace order.scope.named) volume
-    → length old.entries.items + 1 < 2 ^ 32 → HasTold order new m (sources ++ source ∷ [])
-read_more order old new m sources source volume entry h same first next may traced few at more pushed begins ends number hidden digest room = record {
-  ordered = same ∙ h.ordered;
-  lawful = h.lawful;
-  volumes = h.volumes ++ volume ∷ [];
-  traced =
-      subst (λ (e : Expected). AreVolumes m.config e (sources ++ source ∷ []) (h.volumes ++ volume ∷ [])) (sym first)
-      (volumes_last m.config old.first sources h.volumes source volume h.traced (subst (λ (e : Expected). MayHave m.config e volume.header) h.next may) traced few);
-  next = next ∙ sym (next_last new.first h.volumes volume);
-  entries = pushed ∙ ap (λ (entries : List VolumeEntry). entries ++ entry ∷ []) h.entries
-      ∙ entries_last (names_trace order.scope.named) first_line h.volumes volume entry (begins ∙ h.kept.line) (let long : entry.calls ≡ length volume.calls = omega (arith, begins, ends, at) in long) number hidden digest;
-  counted = (let long = ap length pushed ∙ length-append old.entries.items (entry ∷ []) in omega (arith, long, room));
-  kept = subst (λ (all : List Call). HasKept order.form m all new.core new.kept) (sym (joined_last h.volumes volume)) (more (joined h.volumes) h.kept);
-}
+    → length old.entries.items + 1 < 2 ^ 32 → (of : IsAccountOf order new m (sources ++ source ∷ [])) × (of.volumes ≡ h.of.volumes ++ volume ∷ [])
+read_more order old new m sources source volume entry h same first may traced few at more pushed begins ends number hidden digest room =
+    let before = h.of.volumes in (
+      record {
+        ordered = same ∙ h.of.ordered;
+        lawful = h.of.lawful;
+        volumes = before ++ volume ∷ [];
+        traced =
+            subst (λ (e : Expected). AreVolumes m.config e (sources ++ source ∷ []) (before ++ volume ∷ [])) (sym first)
+            (volumes_last m.config old.first sources before source volume h.of.traced (subst (λ (e : Expected). MayHave m.config e volume.header) h.next may) traced few);
+        entries = pushed ∙ ap (λ (entries : List VolumeEntry). entries ++ entry ∷ []) h.of.entries
+            ∙ entries_last (names_trace order.scope.named) first_line before volume entry (begins ∙ h.of.kept.line) (let long : entry.calls ≡ length volume.calls = omega (arith, begins, ends, at) in long) number hidden digest;
+        counted = (let long = ap length pushed ∙ length-append old.entries.items (entry ∷ []) in omega (arith, long, room));
+        kept = subst (λ (all : List Call). HasKept order.form m all new.core new.kept) (sym (joined_last before volume)) (more (joined before) h.of.kept);
+      },
+      refl,
+    )
+
+-- and it is known what may come after it
+pub followed : (order : CustodyOrder) (new : CustodyAccount) (m : State) (sources : List (Option (List ℕ))) (before : List Traced) (volume : Traced) → (of : IsAccountOf order new m sources) → of.volumes ≡ before ++ volume ∷ [] → new.expected ≡ expected_next volume → HasTold order new m sources
+followed order new m sources before volume of is next = record { of = of; next = next ∙ sym (next_last new.first before volume) ∙ ap (expected_last new.first) (sym is) }
 
 -- texts that are known are those of the sources
 one_known : (one : List ℕ) (rest : Option (List (List ℕ))) (sources : List (Option (List ℕ))) → ((more : List (List ℕ)) → rest ≡ Some more → sources ≡ map Some more)
@@ -142,14 +149,16 @@ listed_in_line (e ∷ f ∷ entries) is = is
 -- an account before its first trace
 pub none_told : (order : CustodyOrder) (account : CustodyAccount) → account.expected ≡ account.first → IsLawful account.core → account.order ≡ order → account.entries.items ≡ [] → HasKept order.form account.core [] account.core account.kept → HasTold order account account.core []
 none_told order account same lawful ordered none kept = record {
-  ordered = ordered;
-  lawful = lawful;
-  volumes = [];
-  traced = tt;
+  of = record {
+    ordered = ordered;
+    lawful = lawful;
+    volumes = [];
+    traced = tt;
+    entries = none;
+    counted = (let long = ap length none in omega (arith, long));
+    kept = kept;
+  };
   next = same;
-  entries = none;
-  counted = (let long = ap length none in omega (arith, long));
-  kept = kept;
 }
 
 -- what is kept is of frames and slots that there are
@@ -176,7 +185,7 @@ pub record IsToldOf (account : CustodyAccount) (m : State) (calls : List Call) (
   pub denials : told.subject.answered.denials ≡ account.kept.denials
   pub ledger : told.ledger ≡ account.kept.ledger
 
-text_of : (order : CustodyOrder) (account : CustodyAccount) (m : State) (start : List ℕ) (sources : List (Option (List ℕ))) (texts : List (List ℕ)) (told : Told) (text : List ℕ) (h : HasTold order account m sources) → IsToldOf account m (joined h.volumes) told
+text_of : (order : CustodyOrder) (account : CustodyAccount) (m : State) (start : List ℕ) (sources : List (Option (List ℕ))) (texts : List (List ℕ)) (told : Told) (text : List ℕ) (h : IsAccountOf order account m sources) → IsToldOf account m (joined h.volumes) told
     → known sources ≡ Some texts → BeginsIn order.origin start m account.first → NamesStart (names_start order.scope.named) order.origin (Some start) m account.first account.start → IsGivenOf order.scope.vm told text
     → IsCustodyText order.origin order.form order.scope start texts text
 text_of order account m start sources texts told text h is all begins digest given =
@@ -206,7 +215,7 @@ text_of order account m start sources texts told text h is all begins digest giv
     }
 
 -- what the sink took of it is the text of all, if they are known
-pub gives_custody : (order : CustodyOrder) (account : CustodyAccount) (m : State) (start : Option (List ℕ)) (sources : List (Option (List ℕ))) (told : Told) (old new : Option (List ℕ)) (h : HasTold order account m sources) → IsToldOf account m (joined h.volumes) told
+pub gives_custody : (order : CustodyOrder) (account : CustodyAccount) (m : State) (start : Option (List ℕ)) (sources : List (Option (List ℕ))) (told : Told) (old new : Option (List ℕ)) (h : IsAccountOf order account m sources) → IsToldOf account m (joined h.volumes) told
     → IfSome start (λ text. BeginsIn order.origin text m account.first) → NamesStart (names_start order.scope.named) order.origin start m account.first account.start → GivesAccount account.order.scope.vm told old new → Writes (IsCustodyText order.origin order.form order.scope) start (known sources) old new
 gives_custody order account m None sources told old new h is begins digest given = tt
 gives_custody order account m (Some start) sources told old new h is begins digest given =
@@ -216,7 +225,7 @@ gives_custody order account m (Some start) sources told old new h is begins dige
     by_texts None made = tt
     by_texts (Some texts) made = (given.0, made texts refl, given.2)
 
-pub begins_custody : (order : CustodyOrder) (account : CustodyAccount) (m : State) (start : Option (List ℕ)) (sources : List (Option (List ℕ))) (told : Told) (old new : Option (List ℕ)) (h : HasTold order account m sources) → IsToldOf account m (joined h.volumes) told
+pub begins_custody : (order : CustodyOrder) (account : CustodyAccount) (m : State) (start : Option (List ℕ)) (sources : List (Option (List ℕ))) (told : Told) (old new : Option (List ℕ)) (h : IsAccountOf order account m sources) → IsToldOf account m (joined h.volumes) told
     → IfSome start (λ text. BeginsIn order.origin text m account.first) → NamesStart (names_start order.scope.named) order.origin start m account.first account.start → BeginsAccount account.order.scope.vm told old new → Begins (IsCustodyText order.origin order.form order.scope) start (known sources) old new
 begins_custody order account m None sources told old new h is begins digest given = tt
 begins_custody order account m (Some start) sources told old new h is begins digest given =
@@ -227,7 +236,7 @@ begins_custody order account m (Some start) sources told old new h is begins dig
     by_texts (Some texts) made = (given.0, given.1, made texts refl, given.3)
 
 -- the counts are of all calls
-pub all_answered : (order : CustodyOrder) (account : CustodyAccount) (m : State) (start : Option (List ℕ)) (sources : List (Option (List ℕ))) (answered : Answered) (h : HasTold order account m sources) → answered.calls ≡ length (joined h.volumes) → answered.denials ≡ account.kept.denials
+pub all_answered : (order : CustodyOrder) (account : CustodyAccount) (m : State) (start : Option (List ℕ)) (sources : List (Option (List ℕ))) (answered : Answered) (h : IsAccountOf order account m sources) → answered.calls ≡ length (joined h.volumes) → answered.denials ≡ account.kept.denials
     → IfSome start (λ text. BeginsIn order.origin text m account.first) → AreAllAnswered order.origin start (known sources) answered
 all_answered order account m None sources answered h count denials begins = tt
 all_answered order account m (Some start) sources answered h count denials begins =

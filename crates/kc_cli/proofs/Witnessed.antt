@@ -1,7 +1,7 @@
 -- What a witness has seen of a trace, and what names the text that calls begin with.
 use Rattle.std.proofs.Common.{ℕ, ◌≡◌, ◌<◌, ◌+◌, ◌++◌, Bool, true, false, List, [], ◌∷◌, length, take, get_or, Option, Some, None, refl, ap, sym, ◌∙◌, append_assoc}
 use Rattle.std.proofs.lemmas.List.{append-nil, take_more}
-use Rattle.std.specs.Prelude.{is_some, IfSome}
+use Rattle.std.specs.Prelude.{◌||◌, is_some, IfSome}
 use Rattle.std.specs.Io.KnownBytes.{Consumes, IsAtEnd}
 use Rattle.sha2.specs.Sha256.{sha256}
 use Rattle.kc_types.specs.declared.call.Call.{Call}
@@ -10,7 +10,7 @@ use Rattle.sha2.specs.declared.Sha256.{Sha256}
 use Rattle.kc_redact.specs.Witness.{witnessed, HasSeen}
 use Rattle.kc_trace.specs.declared.header.Header.{Header}
 use Rattle.kc_trace.specs.declared.expected.Expected.{Expected}
-use Rattle.kc_cli.specs.Traced.{Traced, trace_named, digest_if, HasWitnessed, HasPlaced, IsDigested}
+use Rattle.kc_cli.specs.Traced.{Traced, trace_named, digest_if, HasWitnessed, MayHaveWitnessed, IsDigested}
 use Rattle.kc_faults.specs.declared.origin.Origin.TheVariants as origins
 use Rattle.kc_cli.specs.Custody.{NamesStart}
 
@@ -35,24 +35,39 @@ pub sees_more : (asked : Bool) (header : Option Header) (old new : Sha256) (befo
 sees_more asked None old new before calls step h = let never : true ≡ false = h.0 in absurd cc
 sees_more asked (Some header) old new before calls step h = (h.0, step header before h.1)
 
--- nothing is promised of a witness that is not asked for, and what is promised of one that is asked for is carried over
-pub none_placed : (asked : Bool) (header : Option Header) (witness : Option Sha256) (calls : List Call) → asked ≡ false → HasPlaced asked header witness calls
-none_placed false header witness calls is = tt
-none_placed true header witness calls is = absurd cc
+-- nothing is promised of a witness that is not needed, and what is promised of one that is needed is carried over
+pub none_needed : (needed asked : Bool) (header : Option Header) (witness : Option Sha256) (calls : List Call) → needed ≡ false → MayHaveWitnessed needed asked header witness calls
+none_needed false asked header witness calls is = tt
+none_needed true asked header witness calls is = absurd cc
 
-pub none_witnessed : (asked : Bool) → HasPlaced asked None None []
-none_witnessed false = tt
-none_witnessed true = (refl, refl)
+pub none_witnessed : (needed asked : Bool) → MayHaveWitnessed needed asked None None []
+none_witnessed false asked = tt
+none_witnessed true asked = (refl, refl)
 
-pub placed_more : (asked : Bool) (before header : Option Header) (old new : Option Sha256) (first calls : List Call) → (HasWitnessed false before old first → HasWitnessed false header new calls) → HasPlaced asked before old first → HasPlaced asked header new calls
-placed_more false before header old new first calls step h = tt
-placed_more true before header old new first calls step h = step h
+pub needed_more : (needed asked : Bool) (before header : Option Header) (old new : Option Sha256) (first calls : List Call) → (HasWitnessed asked before old first → HasWitnessed asked header new calls) → MayHaveWitnessed needed asked before old first → MayHaveWitnessed needed asked header new calls
+needed_more false asked before header old new first calls step h = tt
+needed_more true asked before header old new first calls step h = step h
 
-pub digest_placed : (asked : Bool) (witness : Option Sha256) (volume : Traced) (digest : Option (List ℕ)) → (HasWitnessed false (Some volume.header) witness volume.calls → digest ≡ digest_if false volume) → HasPlaced asked (Some volume.header) witness volume.calls → IsDigested asked volume digest
-digest_placed false witness volume digest step h = tt
-digest_placed true witness volume digest step h = step h
+pub digest_needed : (needed asked : Bool) (witness : Option Sha256) (volume : Traced) (digest : Option (List ℕ)) → (HasWitnessed asked (Some volume.header) witness volume.calls → digest ≡ digest_if asked volume) → MayHaveWitnessed needed asked (Some volume.header) witness volume.calls → IsDigested needed asked volume digest
+digest_needed false asked witness volume digest step h = tt
+digest_needed true asked witness volume digest step h = step h
 
--- if there are no calls at all there are none at the end
+-- a digest that was needed
+pub was_needed : (needed asked : Bool) (volume : Traced) (digest : Option (List ℕ)) → needed ≡ true → IsDigested needed asked volume digest → digest ≡ digest_if asked volume
+was_needed true asked volume digest is digested = digested
+was_needed false asked volume digest is digested = absurd cc
+
+-- it is, if the trace is named
+pub named_needed : (asked followed : Bool) (volume : Traced) (digest : Option (List ℕ)) → IsDigested (asked || followed) asked volume digest → asked ≡ true → digest ≡ digest_if true volume
+named_needed true followed volume digest digested is = digested
+named_needed false followed volume digest digested is = absurd cc
+
+pub followed_needed : (asked followed : Bool) (volume : Traced) (digest : Option (List ℕ)) → IsDigested (asked || followed) asked volume digest → followed ≡ true → digest ≡ digest_if asked volume
+followed_needed true followed volume digest digested is = digested
+followed_needed false true volume digest digested is = digested
+followed_needed false false volume digest digested is = absurd cc
+
+-- if some calls and others are none, the others are none
 pub none_last : (before calls : List Call) → before ++ calls ≡ [] → calls ≡ []
 none_last [] calls is = is
 none_last (call ∷ before) calls is = absurd cc

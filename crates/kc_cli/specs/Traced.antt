@@ -55,12 +55,12 @@ HasWitnessed asked (Some header) witness calls = (is_some witness ≡ has_witnes
 abbrev pub digest_if : Bool → Traced → Option (List ℕ)
 digest_if asked volume = trace_named (has_witness asked volume.header) volume
 
--- if where the next volume comes is asked for, the witness is that of a trace that may have a head
-abbrev pub HasPlaced : Bool → Option Header → Option Sha256 → List Call → Type 0
-HasPlaced false header witness calls = Unit {0}
-HasPlaced true header witness calls = HasWitnessed false header witness calls
+-- the same, if the digest is needed
+abbrev pub MayHaveWitnessed : Bool → Bool → Option Header → Option Sha256 → List Call → Type 0
+MayHaveWitnessed false asked header witness calls = Unit {0}
+MayHaveWitnessed true asked header witness calls = HasWitnessed asked header witness calls
 
--- the digest of a trace that has a head, if where the next volume comes is asked for
-abbrev pub IsDigested : Bool → Traced → Option (List ℕ) → Type 0
-IsDigested false volume digest = Unit {0}
-IsDigested true volume digest = digest ≡ digest_if false volume
+-- the digest of a trace, if it has a witness, and if the digest is needed: since the trace is to be named, or since another volume may follow
+abbrev pub IsDigested : Bool → Bool → Traced → Option (List ℕ) → Type 0
+IsDigested false asked volume digest = Unit {0}
+IsDigested true asked volume digest = digest ≡ digest_if asked volume

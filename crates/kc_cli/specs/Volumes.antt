@@ -18,15 +18,19 @@ known (None ∷ sources) = None
 known (Some text ∷ sources) = option_map (λ texts. text ∷ texts) (known sources)
 
 -- the account is of the calls in these sources, made from this lawful state on, for what is ordered
-pub record HasTold (order : CustodyOrder) (account : CustodyAccount) (m : State) (sources : List (Option (List ℕ))) : Type 0 where
+pub record IsAccountOf (order : CustodyOrder) (account : CustodyAccount) (m : State) (sources : List (Option (List ℕ))) : Type 0 where
   pub ordered : account.order ≡ order
   pub lawful : IsLawful m
   pub volumes : List Traced
   pub traced : AreVolumes m.config account.first sources volumes
-  pub next : account.expected ≡ expected_last account.first volumes
   pub entries : account.entries.items ≡ entries_in order.scope volumes
   pub counted : length account.entries.items < 2 ^ 32
   pub kept : HasKept order.form m (joined volumes) account.core account.kept
+
+-- and it says what may come after the last of them
+pub record HasTold (order : CustodyOrder) (account : CustodyAccount) (m : State) (sources : List (Option (List ℕ))) : Type 0 where
+  pub of : IsAccountOf order account m sources
+  pub next : account.expected ≡ expected_last account.first of.volumes
 
 -- the volumes already read have more calls than another volume may come after
 abbrev pub IsFull : CustodyAccount → Type 0

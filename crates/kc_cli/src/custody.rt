@@ -15,7 +15,7 @@ ghost use Rattle.kc_cli.specs.Traced.{Traced, trace_named, digest_if};
 ghost use Rattle.kc_cli.specs.Custody.{IsCustodyText, TellsCustody, NamesStart, names_start, listed, trace_digest, first_number, numbers_in, lacks_digest, order_by, unnamed_start};
 ghost use Rattle.kc_cli.specs.Answers.{AreAllAnswered};
 ghost use Rattle.kc_cli.specs.Headings.{start_by, digests_by, heading_by};
-ghost use Rattle.kc_cli.specs.Volumes.{known, HasTold, IsFull};
+ghost use Rattle.kc_cli.specs.Volumes.{known, IsAccountOf, HasTold, IsFull};
 
 use crate::account::{CustodyForm, FIRST_LINE, Named, Scope, Subject, Told, give_told};
 use crate::starting::{Begun, begin};
@@ -89,9 +89,10 @@ fn digests_by(
     }
 }
 
-/// The digest by which a volume is named, if it is, of the digest that it has because it is named or has a head.
+/// The digest by which a volume is named, if it is, of the digest that it may have for another reason.
 fn digest_named(digest: Option<[u8; 32]>, is_named: bool) -> Option<[u8; 32]>
-    ensures { (volume : Traced) → digest ≡ digest_if is_named volume → result ≡ trace_named is_named volume }
+    ensures { (volume : Traced) → (is_named ≡ true → digest ≡ digest_if true volume)
+        → result ≡ trace_named is_named volume }
 {
     if is_named { digest } else { None }
 }
@@ -289,16 +290,24 @@ impl CustodyAccount {
         })
     }
 
-    /// Reads a trace to its end, which is the next volume, and makes its calls on one thread as they are read. After an
-    /// `Err` the account is of no use, and is ended. A source that fails, or that has more than 1,073,741,824 bytes, is
+    /// Reads a trace to its end, which is the next volume, and makes its calls on one thread as they are read. Only if it
+    /// is followed can another one be read after it. After an `Err` the account is of no use, and is ended. A source that fails, or that has more than 1,073,741,824 bytes, is
     /// `Read`, even if its bytes so far are refused already. Out of memory comes before a fault of the trace that is
     /// further on, and that its header is not one that may come there after everything else. If the volumes before it
     /// have more than 67,043,328 calls, it is not read, and there are too many.
-    pub fn read<T: Source>(&mut self, alloc: Global, trace: &mut T) -> Result<(), TextFault>
+    pub fn read<T: Source>(
+        &mut self,
+        alloc: Global,
+        trace: &mut T,
+        is_followed: bool,
+    ) -> Result<(), TextFault>
         requires trace { T.failed trace.old ≡ false }
         requires told { (order : CustodyOrder) × (m : State) × (sources : List (Option (List ℕ)))
             × HasTold order self.old m sources }
         ensures ok { OnOk result ((order : CustodyOrder) (m : State) (sources : List (Option (List ℕ)))
+            → HasTold order self.old m sources → IsAccountOf order self.new m (sources ++ T.left trace.old ∷ [])) }
+        ensures followed { is_followed ≡ true
+            → OnOk result ((order : CustodyOrder) (m : State) (sources : List (Option (List ℕ)))
             → HasTold order self.old m sources → HasTold order self.new m (sources ++ T.left trace.old ∷ [])) }
         ensures same { self.new.start ≡ self.old.start }
         ensures first { self.new.first ≡ self.old.first }
@@ -321,7 +330,9 @@ impl CustodyAccount {
             return Err(TextFault::Memory);
         }
         let is_named = self.order.scope.named.names_trace();
-        let Volume { header, digest } = self.kept.tell(alloc, &mut self.core, trace, is_named)?;
+        let Volume { header, digest } = self
+            .kept
+            .tell(alloc, &mut self.core, trace, is_named, is_followed)?;
         if let Some(wrong) = self.expected.fault(self.core.config(), &header) {
             return Err(TextFault::Trace(TraceFault::Misplaced(wrong)));
         }
@@ -355,19 +366,19 @@ impl CustodyAccount {
     ) -> Result<Answered, TextFault>
         requires out { K.failed out.old ≡ false }
         requires told { (order : CustodyOrder) × (m : State) × (sources : List (Option (List ℕ)))
-            × HasTold order self m sources }
+            × IsAccountOf order self m sources }
         ensures answered { (order : CustodyOrder) (m : State) (start : Option (List ℕ))
-            (sources : List (Option (List ℕ))) → HasTold order self m sources
+            (sources : List (Option (List ℕ))) → IsAccountOf order self m sources
             → IfSome start (λ text. BeginsIn order.origin text m self.first)
             → IfOk result (AreAllAnswered order.origin start (known sources)) }
         ensures ok { (order : CustodyOrder) (m : State) (start : Option (List ℕ))
-            (sources : List (Option (List ℕ))) → HasTold order self m sources
+            (sources : List (Option (List ℕ))) → IsAccountOf order self m sources
             → IfSome start (λ text. BeginsIn order.origin text m self.first)
             → NamesStart (names_start order.scope.named) order.origin start m self.first self.start
             → OnOk result (Writes (IsCustodyText order.origin order.form order.scope) start (known sources)
             (K.taken out.old) (K.taken out.new)) }
         ensures sink { (order : CustodyOrder) (m : State) (start : Option (List ℕ))
-            (sources : List (Option (List ℕ))) → HasTold order self m sources
+            (sources : List (Option (List ℕ))) → IsAccountOf order self m sources
             → IfSome start (λ text. BeginsIn order.origin text m self.first)
             → NamesStart (names_start order.scope.named) order.origin start m self.first self.start
             → TellsSink (K.failed out.new) (Begins (IsCustodyText order.origin order.form order.scope) start

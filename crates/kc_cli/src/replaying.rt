@@ -18,7 +18,7 @@ ghost use Rattle.kc_cli.specs.Answers.{AreAnswered};
 use crate::giving::{Replayed, give_replayed};
 use crate::order::{ReplayForm, ReplayOrder};
 use crate::starting::{Start, read_start};
-use crate::telling::{digest_of, witness_placed};
+use crate::telling::{digest_of, witness_more};
 use kc_core::KCore;
 use kc_digests::Lanes;
 use kc_faults::TextFault;
@@ -77,7 +77,7 @@ fn feed_source<T: Source, R: Threads + Wait + Sync>(
     ensures ok { IfOk result (λ fed. IfSome (T.left trace.old) (λ text. (calls : List Call)
         × IsTraceUnder fed.header text calls × IsFed replayer.old replayer.new calls fed.replies.items
         × IsKept form fed.calls.items calls
-        × IsDigested is_placed (record { header = fed.header; calls = calls }) fed.digest)) }
+        × IsDigested is_placed false (record { header = fed.header; calls = calls }) fed.digest)) }
     ensures few { IfOk result (λ fed. length fed.replies.items ≤ call_limit) }
     ensures ended { OnOk result (IsAtEnd (T.left trace.new)) }
     ensures trace { (fault : TraceFault) → result ≡ Err (TextFault.Trace fault)
@@ -94,7 +94,14 @@ fn feed_source<T: Source, R: Threads + Wait + Sync>(
     let mut witness = None;
     loop {
         let part = stream.next(alloc, trace, &mut buffer)?;
-        witness = witness_placed(alloc, witness, is_placed, stream.header(), &part.calls)?;
+        witness = witness_more(
+            alloc,
+            witness,
+            is_placed,
+            false,
+            stream.header(),
+            &part.calls,
+        )?;
         match replayer.feed(rt, alloc, &part.calls, &OpenGate) {
             Ok(mut more) => {
                 if replies.append(&mut more).is_err() {

@@ -1,5 +1,5 @@
 //! The calls of a trace, made as it is read, and what is kept of them until what is reported of them is written.
-ghost use Rattle.std.specs.Prelude.{◌≡◌, ◌≢◌, ◌<◌, ◌≤◌, ◌+◌, ◌^◌, ◌++◌, [], Bool, List, Option, None, Some, option_map, length, false, true, IfOk, IfErr, IfSome, OnOk, Err};
+ghost use Rattle.std.specs.Prelude.{◌≡◌, ◌≢◌, ◌<◌, ◌≤◌, ◌+◌, ◌^◌, ◌++◌, ◌||◌, [], Bool, List, Option, None, Some, option_map, length, false, true, IfOk, IfErr, IfSome, OnOk, Err};
 ghost use Rattle.std.specs.Io.KnownBytes.{IsAtEnd};
 ghost use Rattle.kc_types.specs.Limits.{call_limit};
 ghost use Rattle.kc_types.specs.declared.call.Call.{Call};
@@ -11,7 +11,7 @@ ghost use Rattle.kc_trace.specs.Trace.{IsTraceUnder, IsRefused};
 ghost use Rattle.kc_texts.specs.Ends.{ReadFailed};
 ghost use Rattle.kc_redact.specs.Witness.{HasSeen};
 ghost use Rattle.kc_cli.specs.Engine.{IsReplayFault};
-ghost use Rattle.kc_cli.specs.Traced.{Traced, has_witness, HasWitnessed, HasPlaced, digest_if};
+ghost use Rattle.kc_cli.specs.Traced.{Traced, has_witness, HasWitnessed, MayHaveWitnessed, IsDigested, digest_if};
 ghost use Rattle.kc_cli.specs.Ledgers.{HasKept};
 
 use crate::account::{CustodyForm, FIRST_LINE};
@@ -30,6 +30,13 @@ fn has_witness(is_named: bool, header: &Header) -> bool
     ensures { result ≡ has_witness is_named header.now }
 {
     is_named || header.has_head()
+}
+
+/// Whether the digest of a trace is needed: if the trace is named, or another volume may follow.
+fn is_needed(is_named: bool, is_followed: bool) -> bool
+    ensures { result ≡ (is_named || is_followed) }
+{
+    is_named || is_followed
 }
 
 /// The witness, or a new one that has seen no calls, if the trace has this header now and is to have one.
@@ -78,25 +85,27 @@ fn note_all(witness: &mut Option<Witness>, calls: &[Call])
     }
 }
 
-/// The witness of a trace that has this header now, after these calls more, if where the next volume comes is asked for.
-pub(crate) fn witness_placed(
+/// The witness of a trace that has this header now, after these calls more, if its digest is needed: since the trace is
+/// to be named, or since another volume may follow.
+pub(crate) fn witness_more(
     alloc: Global,
     witness: Option<Witness>,
-    is_placed: bool,
+    is_needed: bool,
+    is_named: bool,
     header: Option<&Header>,
     calls: &[Call],
 ) -> Result<Option<Witness>, TextFault>
     ensures seen { IfOk result (λ made. (before : Option AnyHeader) (first : List Call)
         → ((found : AnyHeader) → before ≡ Some found → option_map (λ header. header.now) header.entry ≡ Some found)
         → (option_map (λ header. header.now) header.entry ≡ None → calls.now ≡ [])
-        → HasPlaced is_placed before witness first
-        → HasPlaced is_placed (option_map (λ header. header.now) header.entry) made (first ++ calls.now)) }
+        → MayHaveWitnessed is_needed is_named before witness first
+        → MayHaveWitnessed is_needed is_named (option_map (λ header. header.now) header.entry) made (first ++ calls.now)) }
     ensures fault { IfErr result (λ fault. fault ≡ TextFault.Memory) }
 {
-    if !is_placed {
+    if !is_needed {
         return Ok(None);
     }
-    let mut witness = witness_under(alloc, witness, false, header)?;
+    let mut witness = witness_under(alloc, witness, is_named, header)?;
     note_all(&mut witness, calls);
     Ok(witness)
 }
@@ -112,8 +121,7 @@ pub(crate) fn digest_of(witness: &Option<Witness>) -> Option<[u8; 32]>
     }
 }
 
-/// What is known of a trace that was read: its header, and the SHA-256 digest of its redacted text if it is named or
-/// has a head.
+/// What is known of a trace that was read: its header, and the SHA-256 digest of its redacted text if it was hashed.
 #[derive(Drop)]
 pub(crate) struct Volume {
     pub header: Header,
@@ -147,14 +155,16 @@ impl Kept {
         })
     }
 
-    /// Makes the calls of the trace that a source has left, as it is read, and keeps of them what is reported. After an
-    /// `Err` some of the calls are done.
+    /// Makes the calls of the trace that a source has left, as it is read, and keeps of them what is reported. The trace
+    /// is hashed if it is named, or has a head and is followed by another volume. After an `Err` some of the calls are
+    /// done.
     pub(crate) fn tell<T: Source>(
         &mut self,
         alloc: Global,
         core: &mut KCore,
         trace: &mut T,
         is_named: bool,
+        is_followed: bool,
     ) -> Result<Volume, TextFault>
         requires trace { T.failed trace.old ≡ false }
         requires lines { self.old.line + call_limit < 2 ^ 32 }
@@ -162,7 +172,7 @@ impl Kept {
         ensures ok { IfOk result (λ volume. (calls : List Call)
             × IfSome (T.left trace.old) (λ text. IsTraceUnder volume.header text calls)
             × (length calls ≤ call_limit) × (self.new.line ≡ self.old.line + length calls)
-            × (volume.digest ≡ digest_if is_named (record { header = volume.header; calls = calls }))
+            × IsDigested (is_named || is_followed) is_named (record { header = volume.header; calls = calls }) volume.digest
             × ((form : CustodyForm) (start : State) (before : List Call) → IsLawful start
             → HasKept form start before core.old self.old
             → HasKept form start (before ++ calls) core.new self.new)) }
@@ -176,19 +186,26 @@ impl Kept {
         ensures started { result ≢ Err TextFault.Start }
         ensures fault { IfErr result IsReplayFault }
     {
+        let is_needed = is_needed(is_named, is_followed);
         let mut witness = None;
         let mut buffer = [0u8; PIECE];
         let mut stream = CallStream::new();
         loop {
             let part = stream.next(alloc, trace, &mut buffer)?;
-            witness = witness_under(alloc, witness, is_named, stream.header())?;
+            witness = witness_more(
+                alloc,
+                witness,
+                is_needed,
+                is_named,
+                stream.header(),
+                &part.calls,
+            )?;
             let Ok(()) = self
                 .ledger
                 .note(alloc, core, &part.calls, self.line, &mut self.denials)
             else {
                 return Err(TextFault::Memory);
             };
-            note_all(&mut witness, &part.calls);
             self.line += part.calls.len() as u32;
             if part.is_last {
                 break;

@@ -20,7 +20,7 @@ use Rattle.kc_cli.specs.declared.custody.CustodyOrder.{CustodyOrder}
 use Rattle.kc_cli.specs.Traced.{Traced, expected_last}
 use Rattle.kc_cli.specs.Custody.{joined, AreVolumes}
 use Rattle.kc_cli.specs.Engine.{IsReplayFault}
-use Rattle.kc_cli.specs.Volumes.{HasTold, IsFull}
+use Rattle.kc_cli.specs.Volumes.{IsAccountOf, HasTold, IsFull}
 use Rattle.kc_run.specs.declared.ending.Ending.{Ending}
 use Rattle.kc_run.specs.declared.ending.Ending.TheVariants as endings
 use Rattle.kc_args.specs.Jobs.{Path}
@@ -107,10 +107,10 @@ volume_told old new source number told same first ended whole = record {
 
 -- refused where the volumes before it led
 refused_last : (order : CustodyOrder) (account : CustodyAccount) (m : State) (before : List (Option (List ℕ))) (source : Option (List ℕ)) (fault : TraceFault) (told : HasTold order account m before)
-    → IfSome source (λ text. IsRefusedThere account.core.config account.expected text fault) → IfSome source (λ text. IsRefusedThere m.config (expected_last account.first told.volumes) text fault)
+    → IfSome source (λ text. IsRefusedThere account.core.config account.expected text fault) → IfSome source (λ text. IsRefusedThere m.config (expected_last account.first told.of.volumes) text fault)
 refused_last order account m before source fault told is =
     subst (λ (expected : Expected). IfSome source (λ text. IsRefusedThere m.config expected text fault)) told.next
-    (subst (λ (config : Configuration). IfSome source (λ text. IsRefusedThere config account.expected text fault)) (ap (λ (n : State). n.config) told.kept.left ∙ config-after m (joined told.volumes)) is)
+    (subst (λ (config : Configuration). IfSome source (λ text. IsRefusedThere config account.expected text fault)) (ap (λ (n : State). n.config) told.of.kept.left ∙ config-after m (joined told.of.volumes)) is)
 
 -- a volume is refused
 pub volume_refused : (old new : CustodyAccount) (source : Seen) (number : ℕ) (fault : TraceFault) → (IfSome source.had (λ text. IsRefusedThere old.core.config old.expected text fault) × IsAtEnd source.has) ⊎ ((fault ≡ TooManyCalls) × IsFull old) → (source.failed ≡ true → ⊥)
@@ -129,11 +129,11 @@ volume_refused old new source number fault why whole = record {
       traces = [];
       last = source;
       split = refl;
-      volumes = h.volumes;
-      traced = subst (λ (held : List (Option (List ℕ))). AreVolumes m.config old.first held h.volumes) (sym (append-nil before)) h.traced;
+      volumes = h.of.volumes;
+      traced = subst (λ (held : List (Option (List ℕ))). AreVolumes m.config old.first held h.of.volumes) (sym (append-nil before)) h.of.traced;
       fault_is = elim why [
         | inl is ↦ inl (refused_last order old m before source.had fault h is.0, is.1)
-        | inr full ↦ inr (full.0, (let line = h.kept.line in let more = full.1 in omega (arith, line, more)))
+        | inr full ↦ inr (full.0, (let line = h.of.kept.line in let more = full.1 in omega (arith, line, more)))
       ];
     },
   );
@@ -270,22 +270,22 @@ no_calls config expected (volume ∷ volumes) is = absurd is
 
 pub not_full : (order : CustodyOrder) (account : CustodyAccount) (m : State) → HasTold order account m [] → IsFull account → ⊥
 not_full order account m told full =
-    let line = told.kept.line in
-    let none = no_calls m.config account.first told.volumes told.traced in
+    let line = told.of.kept.line in
+    let none = no_calls m.config account.first told.of.volumes told.of.traced in
     omega (arith, line, none, full)
 
 -- the first trace is refused where the start leads
 pub refused_first : {Unread : Type 0} (order : CustodyOrder) (account : CustodyAccount) (m : State) (had has : Option (List ℕ)) (fault : TraceFault) → HasTold order account m []
     → (IfSome had (λ text. IsRefusedThere account.core.config account.expected text fault) × IsAtEnd has) ⊎ ((fault ≡ TooManyCalls) × IsFull account × Unread) → IfSome had (λ text. IsRefusedThere m.config account.first text fault) × IsAtEnd has
 refused_first order account m had has fault told (inl is) =
-    (subst (λ (expected : Expected). IfSome had (λ text. IsRefusedThere m.config expected text fault)) (none_last m.config account.first told.volumes told.traced) (refused_last order account m [] had fault told is.0), is.1)
+    (subst (λ (expected : Expected). IfSome had (λ text. IsRefusedThere m.config expected text fault)) (none_last m.config account.first told.of.volumes told.of.traced) (refused_last order account m [] had fault told is.0), is.1)
 refused_first order account m had has fault told (inr full) = absurd (not_full order account m told full.1)
 
 -- what an account has to be to be read into, and to be given
-pub some_told : (order : CustodyOrder) (account : CustodyAccount) (m : State) (sources : List (Option (List ℕ))) → HasTold order account m sources → (o : CustodyOrder) × (n : State) × (held : List (Option (List ℕ))) × HasTold o account n held
+pub some_told : (order : CustodyOrder) (account : CustodyAccount) (m : State) (sources : List (Option (List ℕ))) → IsAccountOf order account m sources → (o : CustodyOrder) × (n : State) × (held : List (Option (List ℕ))) × IsAccountOf o account n held
 some_told order account m sources told = (order, m, sources, told)
 
 -- all were read
 pub all_told : (old new : CustodyAccount) (refused : Option (List ℕ)) (sources : List Seen) (number : ℕ) (refusal : Option Ending) (order : CustodyOrder) (m : State) → ReadsOn old new refused sources number (Ok refusal) → refusal ≡ None → HasTold order old m []
-    → (o : CustodyOrder) × (n : State) × (held : List (Option (List ℕ))) × HasTold o new n held
-all_told old new refused sources number refusal order m reads none told = some_told order new m (had_by sources) (reads.told (ap Ok none) order m [] told)
+    → (o : CustodyOrder) × (n : State) × (held : List (Option (List ℕ))) × IsAccountOf o new n held
+all_told old new refused sources number refusal order m reads none told = some_told order new m (had_by sources) (reads.told (ap Ok none) order m [] told).of

@@ -21,7 +21,7 @@ use Rattle.kc_cli.specs.declared.custody.CustodyOrder.{CustodyOrder}
 use Rattle.kc_cli.specs.Answers.{AreAllAnswered}
 use Rattle.kc_cli.specs.Custody.{names_start, NamesStart, IsCustodyText, TellsCustody}
 use Rattle.kc_cli.specs.Engine.{IsReplayFault}
-use Rattle.kc_cli.specs.Volumes.{known, HasTold}
+use Rattle.kc_cli.specs.Volumes.{known, IsAccountOf, HasTold}
 use Rattle.kc_cli.proofs.Sources.{sink_ok}
 use Rattle.kc_args.specs.Jobs.{Path}
 use Rattle.kc_run.specs.declared.ending.Ending.{Ending}
@@ -35,10 +35,10 @@ use Rattle.kc_run.proofs.Carried.{sink_err}
 
 -- what is said of a text that is given, if it is given to this sink
 pub record Gives (account : CustodyAccount) (ends : Ends) (r : Result Answered TextFault) : Type 0 where
-  pub answered : (order : CustodyOrder) (m : State) (start : Option (List ℕ)) (sources : List (Option (List ℕ))) → HasTold order account m sources → IfSome start (λ text. BeginsIn order.origin text m account.first) → IfOk r (AreAllAnswered order.origin start (known sources))
-  pub ok : (order : CustodyOrder) (m : State) (start : Option (List ℕ)) (sources : List (Option (List ℕ))) → HasTold order account m sources → IfSome start (λ text. BeginsIn order.origin text m account.first) → NamesStart (names_start order.scope.named) order.origin start m account.first account.start
+  pub answered : (order : CustodyOrder) (m : State) (start : Option (List ℕ)) (sources : List (Option (List ℕ))) → IsAccountOf order account m sources → IfSome start (λ text. BeginsIn order.origin text m account.first) → IfOk r (AreAllAnswered order.origin start (known sources))
+  pub ok : (order : CustodyOrder) (m : State) (start : Option (List ℕ)) (sources : List (Option (List ℕ))) → IsAccountOf order account m sources → IfSome start (λ text. BeginsIn order.origin text m account.first) → NamesStart (names_start order.scope.named) order.origin start m account.first account.start
       → OnOk r (Writes (IsCustodyText order.origin order.form order.scope) start (known sources) ends.out.had ends.out.has)
-  pub sink : (order : CustodyOrder) (m : State) (start : Option (List ℕ)) (sources : List (Option (List ℕ))) → HasTold order account m sources → IfSome start (λ text. BeginsIn order.origin text m account.first) → NamesStart (names_start order.scope.named) order.origin start m account.first account.start
+  pub sink : (order : CustodyOrder) (m : State) (start : Option (List ℕ)) (sources : List (Option (List ℕ))) → IsAccountOf order account m sources → IfSome start (λ text. BeginsIn order.origin text m account.first) → NamesStart (names_start order.scope.named) order.origin start m account.first account.start
       → TellsSink ends.out.failed (Begins (IsCustodyText order.origin order.form order.scope) start (known sources) ends.out.had ends.out.has) ends.untouched r
   pub fault : IfErr r IsLastFault
 
@@ -85,8 +85,8 @@ pub volumes_given : {S : Type 0} {left : S → Option (List ℕ)} {failed : S �
     → ReadsOn old account ends.refused (ends.input ∷ files) 1 (Ok None) → Gives account ends r → ReportsVolumes left failed order.origin order.form order.scope after start ends (answered_as r)
 volumes_given {left = left} {failed = failed} order old account m start after ends files r begun opened long reads gives = by_result r gives
   where
-    told : HasTold order account m (ends.input.had ∷ held_by ends.held after)
-    told = subst (λ (held : List (Option (List ℕ))). HasTold order account m held) (all_held ends after files opened long) (reads.told refl order m [] begun.told)
+    told : IsAccountOf order account m (ends.input.had ∷ held_by ends.held after)
+    told = subst (λ (held : List (Option (List ℕ))). IsAccountOf order account m held) (all_held ends after files opened long) (reads.told refl order m [] begun.told).of
 
     digest : NamesStart (names_start order.scope.named) order.origin start.had m account.first account.start
     digest = subst (λ (e : Expected). NamesStart (names_start order.scope.named) order.origin start.had m e account.start) (sym (reads.first refl))
@@ -184,11 +184,11 @@ volumes_failed order old account m start after ends files f begun opened reads m
 
 -- the one trace is in the account
 pub trace_given : (order : CustodyOrder) (old account : CustodyAccount) (m : State) (start : Seen) (ends : Ends) (r : Result Answered TextFault) → HasBegun order old m start → ends.refused ≡ None
-    → ((order : CustodyOrder) (m : State) (sources : List (Option (List ℕ))) → HasTold order old m sources → HasTold order account m (sources ++ ends.input.had ∷ [])) → account.start ≡ old.start → account.first ≡ old.first → IsAtEnd ends.input.has → (ends.input.failed ≡ true → ⊥)
+    → ((order : CustodyOrder) (m : State) (sources : List (Option (List ℕ))) → HasTold order old m sources → IsAccountOf order account m (sources ++ ends.input.had ∷ [])) → account.start ≡ old.start → account.first ≡ old.first → IsAtEnd ends.input.has → (ends.input.failed ≡ true → ⊥)
     → Gives account ends r → ReportsTrace order.origin order.form order.scope start ends (answered_as r)
 trace_given order old account m start ends r begun opened more same first ended mark gives = by_result r gives
   where
-    told : HasTold order account m (ends.input.had ∷ [])
+    told : IsAccountOf order account m (ends.input.had ∷ [])
     told = more order m [] begun.told
 
     digest : NamesStart (names_start order.scope.named) order.origin start.had m account.first account.start

@@ -33,7 +33,7 @@ fn read_volume<T: Source>(
         × HasTold order account.old m sources }
     ensures { ReadsOn account.old account.new None (seen T.failed T.left trace.old trace.new ∷ []) number result }
 {
-    match account.read(alloc, trace) {
+    match account.read(alloc, trace, true) {
         Ok(()) => Ok(None),
         Err(TextFault::Trace(fault)) => Ok(Some(Ending::Refused {
             volume: number,
@@ -113,7 +113,7 @@ fn report_trace<T: Source, K: Sink, R: Threads + Wait + Sync>(
         (took K.failed K.taken out.old out.new) (out.new ≡ out.old)) result }
 {
     let mut account = account;
-    match account.read(system.alloc, input) {
+    match account.read(system.alloc, input, false) {
         Ok(()) => counted(account.give(system.threads, system.alloc, out)),
         Err(fault) => {
             account.end(system.threads);

@@ -1,12 +1,12 @@
 use Rattle.std.proofs.Common.{◌≡◌, ◌++◌, ◌∙◌, [], false, refl, sym, rules}
 use Rattle.kc_cli.specs.Traced.{Traced}
-use Rattle.kc_cli.proofs.Witnessed.{none_witnessed, none_last, digest_placed}
+use Rattle.kc_cli.proofs.Witnessed.{none_witnessed, none_last, digest_needed}
 use Rattle.kc_cli.proofs.Fed.{fed_none, fed_more, few_fed, kept_none, still_kept, still_whole, calls_known}
 use Rattle.kc_cli.proofs.replaying.feed_source.Goals as goal
 
 pub loop-witness-init : goal.loop-witness-init
 loop-witness-init g c = record {
-  read = ([], [], c.new-stream.ensures.read (g.T.Source.left c.args.trace.now), rw c.new-replies.ensures.items (fed_none _ c.requires.whole), rw c.new-calls.ensures.items (kept_none c.args.form), rw c.new-stream.ensures.header (none_witnessed c.args.is_placed));
+  read = ([], [], c.new-stream.ensures.read (g.T.Source.left c.args.trace.now), rw c.new-replies.ensures.items (fed_none _ c.requires.whole), rw c.new-calls.ensures.items (kept_none c.args.form), rw c.new-stream.ensures.header (none_witnessed c.args.is_placed false));
   few = search rules;
   mark = c.requires.trace;
   whole = c.requires.whole;
@@ -48,7 +48,7 @@ returns-in-Ok-finish-clause-ok g c =
     let traced = c.in-Ok-finish.ensures.ok _ _ _ _ more.1 (c.in_ok-part.ensures.last c.if-part.true) in
     calls_known _ _ _ _ _ _ (before.1 ++ c.in_ok-part.part.calls.items) _ _ _ traced (rw grown (fed_more _ _ _ before.1 c.in_ok-part.part.calls.items _ _ before.3 fed))
     (rw c.in-Ok-keep.ensures (still_kept c.args.form c.loop-witness.calls.items before.1 c.in_ok-part.part.calls.items before.4))
-    (digest_placed c.args.is_placed _ volume _ (c.digest_of.ensures false volume) (rw (c.header.ensures, c.in-Ok-finish.ensures.header) at seen))
+    (digest_needed c.args.is_placed false _ volume _ (c.digest_of.ensures false volume) (rw (c.header.ensures, c.in-Ok-finish.ensures.header) at seen))
 
 pub returns-in-Ok-finish-clause-few : goal.returns-in-Ok-finish-clause-few
 returns-in-Ok-finish-clause-few g c =

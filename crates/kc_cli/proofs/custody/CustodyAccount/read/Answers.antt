@@ -1,5 +1,5 @@
 use Rattle.std.specs.Prelude.{IfSome}
-use Rattle.std.proofs.Common.{◌≡◌, Err, ap, refl, sym, subst, arith, inl, ◌∙◌}
+use Rattle.std.proofs.Common.{◌≡◌, ◌∷◌, ◌++◌, [], Err, ap, refl, sym, subst, arith, inl, ◌∙◌}
 use Rattle.std.proofs.lemmas.Result.{err_from_is_err_and}
 use Rattle.kc_types.specs.Configuration.{Configuration}
 use Rattle.kc_model.specs.State.{State}
@@ -12,7 +12,8 @@ use Rattle.kc_cli.specs.Traced.{Traced}
 use Rattle.kc_cli.specs.Custody.{joined}
 use Rattle.kc_faults.proofs.Placed.{misplaced_there, known_refused_there}
 use Rattle.kc_cli.proofs.Placed.{next_is}
-use Rattle.kc_cli.proofs.Volumes.{read_more}
+use Rattle.kc_cli.proofs.Witnessed.{named_needed, followed_needed}
+use Rattle.kc_cli.proofs.Volumes.{read_more, followed}
 use Rattle.kc_cli.proofs.custody.CustodyAccount.read.Goals as goal
 
 pub returns-in-Ok-clause-ok : goal.returns-in-Ok-clause-ok
@@ -20,10 +21,25 @@ returns-in-Ok-clause-ok g c = λ order m sources h.
     let told = c.in_ok-header.ensures.ok in
     let at = told.3 in
     let volume : Traced = record { header = c.in_ok-header.field-0.header; calls = told.0 } in
-    let config = ap (λ (n : State). n.config) h.kept.left ∙ config-after m (joined h.volumes) in
+    let config = ap (λ (n : State). n.config) h.of.kept.left ∙ config-after m (joined h.of.volumes) in
     let may = subst (λ (x : Configuration). MayHave x c.args.self.now.expected volume.header) (c.in_ok-header.ensures.config ∙ config) (rw c.config.ensures.value at c.in_default.ensures) in
-    read_more order c.args.self.now _ m sources (g.T.Source.left c.args.trace.now) volume _ h refl refl (c.after-self.ensures ∙ ap (expected_after volume.header) told.4 ∙ next_is _ volume) may told.1 told.2 told.3 (λ before kept. told.5 order.form m before h.lawful kept)
-    c.in-Ok.ensures.items refl (omega (arith, at)) c.number.ensures c.is_host_redacted.ensures (rw (c.names_trace-is_named.ensures, h.ordered) at (c.digest_named.ensures volume told.4)) (omega arith)
+    let digest = c.digest_named.ensures volume (named_needed _ c.args.is_followed volume _ told.4) in
+    let more = read_more order c.args.self.now _ m sources (g.T.Source.left c.args.trace.now) volume _ h refl refl may told.1 told.2 told.3 (λ before kept. told.5 order.form m before h.of.lawful kept)
+    c.in-Ok.ensures.items refl (omega (arith, at)) c.number.ensures c.is_host_redacted.ensures (rw (c.names_trace-is_named.ensures, h.of.ordered) at digest) (omega arith) in
+    more.0
+
+pub returns-in-Ok-clause-followed : goal.returns-in-Ok-clause-followed
+returns-in-Ok-clause-followed g c = λ is_followed order m sources h.
+    let told = c.in_ok-header.ensures.ok in
+    let at = told.3 in
+    let volume : Traced = record { header = c.in_ok-header.field-0.header; calls = told.0 } in
+    let config = ap (λ (n : State). n.config) h.of.kept.left ∙ config-after m (joined h.of.volumes) in
+    let may = subst (λ (x : Configuration). MayHave x c.args.self.now.expected volume.header) (c.in_ok-header.ensures.config ∙ config) (rw c.config.ensures.value at c.in_default.ensures) in
+    let digest = c.digest_named.ensures volume (named_needed _ c.args.is_followed volume _ told.4) in
+    let more = read_more order c.args.self.now _ m sources (g.T.Source.left c.args.trace.now) volume _ h refl refl may told.1 told.2 told.3 (λ before kept. told.5 order.form m before h.of.lawful kept)
+    c.in-Ok.ensures.items refl (omega (arith, at)) c.number.ensures c.is_host_redacted.ensures (rw (c.names_trace-is_named.ensures, h.of.ordered) at digest) (omega arith) in
+    followed order _ m (sources ++ g.T.Source.left c.args.trace.now ∷ []) h.of.volumes volume more.0 more.1
+    (c.after-self.ensures ∙ ap (expected_after volume.header) (followed_needed _ c.args.is_followed volume _ told.4 is_followed) ∙ next_is _ volume)
 
 pub returns-in_err-header-clause-trace : goal.returns-in_err-header-clause-trace
 returns-in_err-header-clause-trace g c = λ fault e.

@@ -4,7 +4,8 @@ use Rattle.kc_types.specs.declared.call.Call.{Call}
 use Rattle.kc_model.specs.State.{State}
 use Rattle.kc_model.proofs.States.Sizes.{config-after}
 use Rattle.kc_cli.specs.Ledgers.{HasKept}
-use Rattle.kc_cli.proofs.Witnessed.{none_last}
+use Rattle.kc_cli.specs.Traced.{Traced}
+use Rattle.kc_cli.proofs.Witnessed.{none_last, none_witnessed, digest_needed}
 use Rattle.kc_cli.proofs.Told.{kept_after}
 use Rattle.kc_cli.proofs.telling.Kept.tell.Goals as goal
 
@@ -16,7 +17,7 @@ loop-stream-init g c = record {
     c.new-stream.ensures.read (g.T.Source.left c.args.trace.now),
     omega arith,
     omega arith,
-    rw c.new-stream.ensures.header (refl, refl),
+    rw c.new-stream.ensures.header (none_witnessed _ c.args.is_named),
     λ form start before is h. subst (λ (calls : List Call). HasKept form start calls c.args.core.now c.args.self.now) (sym (append-nil before)) h,
   );
   few = search rules;
@@ -58,8 +59,8 @@ loop-stream-preserved g c =
     let same = ap length c.deref.ensures.value in
     let noted = c.in-Ok.ensures.few in
     let short : c.loop-stream.self.line + c.len.result < 2 ^ 32 = let some = more.1.few in let room = c.requires.lines in omega (arith, some, long, at, room) in
-    let begun = c.in_ok-witness.ensures.seen c.loop-stream.stream.reader.progress.header before.1 (λ found is. c.header.ensures ∙ c.in_ok-part.ensures.header found is) before.5 in
-    let seen = (rw c.deref-in-loop-stream.ensures.value at c.note_all.ensures) c.args.is_named c.next.new.self.reader.progress.header before.1 (λ none. none_last before.1 calls (more.1.headless none)) (rw c.header.ensures at begun) in
+    let seen = (rw c.deref.ensures.value at c.in_ok-witness.ensures.seen) c.loop-stream.stream.reader.progress.header before.1 (λ found is. c.header.ensures ∙ c.in_ok-part.ensures.header found is)
+    (λ none. none_last before.1 calls (more.1.headless (sym c.header.ensures ∙ none))) before.5 in
     record {
       read = (
         before.0 ++ more.0,
@@ -67,7 +68,7 @@ loop-stream-preserved g c =
         more.1,
         omega (arith, long, at),
         omega (arith, long, few, same, noted),
-        seen,
+        rw c.header.ensures at seen,
         λ form start first is h. kept_after form start first before.1 calls c.loop-stream.core _ c.loop-stream.self _ is (before.6 form start first is h) ((rw c.deref.ensures.value at c.in-Ok.ensures.kept) form start)
             (rw c.deref.ensures.value at c.in-Ok.ensures.state) (rw c.deref.ensures.value at c.in-Ok.ensures.denied) (omega (arith, same, noted)) (rw c.deref.ensures.value at c.in-Ok.ensures.counted) (omega arith) short,
       );
@@ -86,13 +87,14 @@ returns-in-Ok-finish-clause-ok g c =
     let same = ap length c.deref.ensures.value in
     let noted = c.in-Ok.ensures.few in
     let short : c.loop-stream.self.line + c.len.result < 2 ^ 32 = let some = more.1.few in let room = c.requires.lines in omega (arith, some, long, at, room) in
-    let begun = c.in_ok-witness.ensures.seen c.loop-stream.stream.reader.progress.header before.1 (λ found is. c.header.ensures ∙ c.in_ok-part.ensures.header found is) before.5 in
-    let seen = (rw c.deref-in-loop-stream.ensures.value at c.note_all.ensures) c.args.is_named c.next.new.self.reader.progress.header before.1 (λ none. none_last before.1 calls (more.1.headless none)) (rw c.header.ensures at begun) in (
+    let seen = (rw c.deref.ensures.value at c.in_ok-witness.ensures.seen) c.loop-stream.stream.reader.progress.header before.1 (λ found is. c.header.ensures ∙ c.in_ok-part.ensures.header found is)
+    (λ none. none_last before.1 calls (more.1.headless (sym c.header.ensures ∙ none))) before.5 in
+    let volume : Traced = record { header = c.in-Ok-finish.header; calls = before.1 ++ calls } in (
       before.1 ++ calls,
       c.in-Ok-finish.ensures.ok _ _ _ _ more.1 (c.in_ok-part.ensures.last c.if-part.true),
       more.1.few,
       omega (arith, long, at),
-      c.digest_of.ensures c.args.is_named (record { header = c.in-Ok-finish.header; calls = before.1 ++ calls }) (rw c.in-Ok-finish.ensures.header at seen),
+      digest_needed _ c.args.is_named _ volume _ (c.digest_of.ensures c.args.is_named volume) (rw (c.header.ensures, c.in-Ok-finish.ensures.header) at seen),
       λ form start first is h. kept_after form start first before.1 calls c.loop-stream.core _ c.loop-stream.self _ is (before.6 form start first is h) ((rw c.deref.ensures.value at c.in-Ok.ensures.kept) form start)
           (rw c.deref.ensures.value at c.in-Ok.ensures.state) (rw c.deref.ensures.value at c.in-Ok.ensures.denied) (omega (arith, same, noted)) (rw c.deref.ensures.value at c.in-Ok.ensures.counted) (omega arith) short,
     )

@@ -4,7 +4,7 @@ use Rattle.kc_types.specs.declared.call.Call.{Call}
 use Rattle.kc_model.specs.State.{State}
 use Rattle.kc_model.specs.Lawful.{IsLawful}
 use Rattle.kc_cli.specs.declared.account.CustodyForm.{CustodyForm}
-use Rattle.kc_cli.specs.Traced.{HasWitnessed}
+use Rattle.kc_cli.specs.Traced.{MayHaveWitnessed}
 use Rattle.kc_cli.specs.Ledgers.{HasKept}
 use Rattle.kc_texts.specs.Streamed.{HasRead}
 use Rattle.kc_cli.proofs.telling.Kept.tell.Given as goal
@@ -13,7 +13,7 @@ use Rattle.kc_cli.proofs.telling.Kept.tell.Given as goal
 abbrev pub invariant-loop-stream : goal.invariant-loop-stream
 invariant-loop-stream g l = record {
   read : (bytes : List ℕ) × (calls : List Call) × HasRead l.stream bytes calls (g.T.Source.left l.fn.trace) (g.T.Source.left l.trace)
-      × (l.self.line ≡ l.fn.self.line + length calls) × (l.self.denials.total ≤ l.fn.self.denials.total + length calls) × HasWitnessed l.is_named l.stream.reader.progress.header l.witness calls
+      × (l.self.line ≡ l.fn.self.line + length calls) × (l.self.denials.total ≤ l.fn.self.denials.total + length calls) × MayHaveWitnessed l.is_needed l.is_named l.stream.reader.progress.header l.witness calls
       × ((form : CustodyForm) (start : State) (before : List Call) → IsLawful start → HasKept form start before l.fn.core l.fn.self → HasKept form start (before ++ calls) l.core l.self);
   few : l.stream.total ≤ byte_limit;
   mark : g.T.Source.failed l.trace ≡ false;
