@@ -24,7 +24,7 @@ pub misplaced_there : (config : Configuration) (expected : Expected) (header : H
 misplaced_there config expected header None calls wrong under is = tt
 misplaced_there config expected header (Some text) calls wrong under is = (header, calls, under, is)
 
--- a text that is no trace is none that may be there
+-- a text that is not a trace is not one that may be there
 pub refused_there : (config : Configuration) (expected : Expected) (text : List ℕ) (fault : TraceFault) → IsRefused text fault → IsRefusedThere config expected text fault
 refused_there config expected text NoHeader is = is
 refused_there config expected text (BadLine n) is = is

@@ -158,7 +158,7 @@ abbrev pub position_of : Header → Option Position
 position_of (Three head) = Some head.position
 position_of header = None
 
--- where the volume comes that goes on after these calls of one with this header and this digest: it is the same one if there are none yet, and otherwise the next
+-- where the volume comes that goes on from the state after these entries of a volume with this header and this digest: it is the same volume if there are none yet, and otherwise the next
 abbrev pub onward_from : List Entry → Header → List ℕ → Option Position
 onward_from [] header digest = position_of header
 onward_from (entry ∷ entries) header digest = position_after header (Some digest)

@@ -29,7 +29,7 @@ some_is x y e = cc
 
 -- ---- before and after the calls
 
--- a text that is no trace is none that may go on there
+-- a text that is not a trace is not one that may go on there
 pub refused : (core : Option State) (source : Option (List ℕ)) (expected : Expected) (fault : TraceFault) → IfSome source (λ text. IsRefused text fault) → IfSome core (λ m. IfSome source (λ text. IsRefusedThere m.config expected text fault))
 refused None source expected fault is = tt
 refused (Some m) None expected fault is = tt

@@ -137,7 +137,7 @@ impl Session {
     }
 
     /// Opens a session with the core in the boot state of its configuration, asked nothing yet; its first volume has a head
-    /// with this position, or none. `Memory` if memory cannot be had.
+    /// with this position, or none. `Memory` if memory runs out.
     pub fn new(alloc: Global, config: Config, position: Option<Position>) -> Result<Session, Memory>
         requires { MayRecord (header_at config position) }
         // No clause can rule out that memory runs out: tests open sessions.

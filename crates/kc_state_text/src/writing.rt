@@ -172,7 +172,7 @@ fn push_sizes(text: &mut Vec<u8>, sizes: Sizes) -> Result<(), Memory>
 }
 
 /// Makes the lines of a core's state, with this position or none, before those of its pages: at most 300,000 bytes.
-/// `Memory` if memory cannot be had.
+/// `Memory` if memory runs out.
 pub fn write_front(
     alloc: Global,
     core: &KCore,
