@@ -1,5 +1,5 @@
 -- A history with one call more, and the volume after it.
-use Rattle.std.proofs.Common.{◌≡◌, ℕ, ◌≤◌, ◌<◌, List, [], ◌∷◌, ◌++◌, length, refl, ap, sym, subst, ◌∙◌, arith, length-append}
+use Rattle.std.proofs.Common.{◌≡◌, ℕ, ◌≤◌, ◌<◌, [], ◌∷◌, ◌++◌, length, refl, ap, sym, subst, ◌∙◌, arith, length-append}
 use Rattle.std.specs.List.{AllByRecursion}
 use Rattle.std.proofs.lemmas.List.{map-append}
 use Rattle.kc_types.specs.Configuration.{Configuration}
@@ -18,7 +18,7 @@ use Rattle.kc_model.proofs.Promises.{promises_kept}
 use Rattle.kc_model.proofs.Refusals.ReplyBytes.{bytes-next}
 use Rattle.kc_live.specs.declared.receipt.Entry.{Entry}
 use Rattle.kc_trace.specs.declared.header.Header.{Header}
-use Rattle.kc_live.specs.Book.{Log, Recording, IsHeaderOf, IsMadeFrom, IsServed, MayStart, IsKept, IsWholeFrom, calls_of, digest_of, entry, log, longer, new_book, next_recording, next_volume, recorded, reply_to}
+use Rattle.kc_live.specs.Book.{Log, Recording, IsHeaderOf, IsMadeFrom, IsServed, MayStart, IsKept, IsWholeFrom, calls_of, entry, log, longer, new_book, next_recording, next_volume, recorded, reply_to}
 use Rattle.kc_live.proofs.Heads.{digest_is, header_first, header_next}
 
 -- a buffer made for the call has room for its reply
