@@ -81,7 +81,7 @@ fn replay_wiped<R: Threads + Wait + Sync>(
     volume: &Volume,
     workers: u32,
 ) -> Result<(), LiveCause>
-    requires made { IsMadeFrom (boot config) volume.now }
+    requires made { IsMadeFrom (boot config) volume.now.entries }
     requires workers { (0 < workers) × (workers ≤ worker_limit) }
     ensures { IfErr result (λ cause. (cause ≡ LiveCause.Memory) ⊎ (cause ≡ LiveCause.Start)) }
 {
@@ -104,7 +104,7 @@ fn replayed<R: Threads + Wait + Sync>(
     volume: Volume,
     workers: u32,
 ) -> Result<Vec<Call>, LiveCause>
-    requires made { IsMadeFrom (boot config) volume }
+    requires made { IsMadeFrom (boot config) volume.entries }
     requires workers { (0 < workers) × (workers ≤ worker_limit) }
     ensures calls { IfOk result (λ calls. calls.items ≡ calls_of volume.entries) }
     ensures cause { IfErr result (λ cause. (cause ≡ LiveCause.Memory) ⊎ (cause ≡ LiveCause.Start)) }

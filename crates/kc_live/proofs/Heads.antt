@@ -1,19 +1,24 @@
--- The header of the next volume is one of a trace.
-use Rattle.std.proofs.Common.{◌≡◌, ◌<◌, ◌+◌, ◌^◌, List, ℕ, zero, suc, All, refl, arith}
+-- The header of a first volume, and of the volume after one.
+use Rattle.std.proofs.Common.{◌≡◌, ◌<◌, ◌+◌, ◌^◌, List, ℕ, zero, suc, All, length, refl, arith}
 use Rattle.std.specs.Int.{to_be_bytes, w32}
 use Rattle.std.specs.Prelude.{Some, None, Bool, true, false, nat_lt, if◌then◌else◌}
-use Rattle.std.proofs.lemmas.Bool.{ltb-true}
+use Rattle.std.specs.List.{AllByRecursion}
+use Rattle.std.proofs.lemmas.Bool.{ltb-true, ltb-false, le-ltb, ne_eqb}
 use Rattle.std.proofs.lemmas.List.Elements.{All-nil, All-append}
 use Rattle.sha2.specs.Sha256.{sha256, digest_bytes}
 use Rattle.sha2.proofs.Facts256.{length-sha256}
+use Rattle.kc_types.specs.declared.version.Version.{Version}
+use Rattle.kc_types.specs.Limits.{leaf_limit, digest_limit}
+use Rattle.kc_types.specs.Configuration.{Configuration, IsConfiguration, most_frames}
+use Rattle.kc_types.specs.ConfigFaults.{fault_of}
 use Rattle.kc_model.specs.Volumes.{IsDigest}
 use Rattle.kc_trace.specs.declared.header.Header.{Header}
 use Rattle.kc_trace.specs.declared.header.Header.TheVariants.{One, Two, Three}
 use Rattle.kc_trace.specs.declared.header.Position.{Position}
 use Rattle.kc_trace.specs.declared.header.Position.TheVariants.{First, Later}
-use Rattle.kc_trace.specs.Header.{IsPosition}
+use Rattle.kc_trace.specs.Header.{IsHead, IsPosition}
 use Rattle.kc_trace.specs.Expected.{number_of}
-use Rattle.kc_live.specs.Book.{MayRecord, header_at, next_header}
+use Rattle.kc_live.specs.Book.{IsHeaderOf, MayRecord, header_at, next_header, number_after}
 
 word_is_bytes : (n : ℕ) → All (λ b. b < 256) (to_be_bytes w32 n)
 word_is_bytes n zero d lt = omega arith
@@ -43,3 +48,52 @@ next_may (Three head) digest may whole = by_number _ refl
     by_number : (fits : Bool) → nat_lt (number_of head.position + 1) (2 ^ 32) ≡ fits → MayRecord (header_at head.config (if fits then Some (Later (number_of head.position + 1) digest) else None))
     by_number false is = tt
     by_number true is = record { config = may.config; digests = may.digests; position = next_is head.position digest may.position is whole }
+
+-- ---- the header of a volume, by its number
+
+pub head_first : (config : Configuration) → IsConfiguration config → AllByRecursion IsDigest config.approved → IsHead (record { config = config; position = First })
+head_first config is digests = record { config = is; digests = digests; position = tt }
+
+pub header_first : (config : Configuration) → IsConfiguration config → AllByRecursion IsDigest config.approved → IsHeaderOf 0 config (header_at config (Some First))
+header_first config is digests = (head_first config is digests, refl, refl)
+
+pub header_may : (number : ℕ) (config : Configuration) (header : Header) → IsHeaderOf number config header → MayRecord header
+header_may number config One is = absurd is
+header_may number config Two is = tt
+header_may number config (Three head) is = is.0
+
+pub header_next : (number : ℕ) (config : Configuration) (header : Header) (digest : List ℕ) → IsHeaderOf number config header → IsDigest digest → IsHeaderOf (number_after number) config (next_header header digest)
+header_next number config One digest is whole = absurd is
+header_next number config Two digest is whole = omega (arith, is)
+header_next number config (Three head) digest is whole = by_number _ refl
+  where
+    by_number : (fits : Bool) → nat_lt (number_of head.position + 1) (2 ^ 32) ≡ fits
+        → IsHeaderOf (number_after number) config (header_at head.config (if fits then Some (Later (number_of head.position + 1) digest) else None))
+    by_number false is_last = let last = ltb-false (number_of head.position + 1) (2 ^ 32) is_last in let number_is = is.2 in omega (arith, last, number_is)
+    by_number true is_more =
+        let more = ltb-true (number_of head.position + 1) (2 ^ 32) is_more in
+        let number_is = is.2 in (
+          record { config = is.0.config; digests = is.0.digests; position = next_is head.position digest is.0.position is_more whole },
+          is.1,
+          omega (arith, more, number_is),
+        )
+
+-- ---- a machine has no fault
+
+pub no_fault : (c : Configuration) → IsConfiguration c → fault_of c ≡ None
+no_fault c is =
+    let some = is.some_frames in
+    let one = is.some_leaves in
+    rw (
+      ne_eqb c.frames 0 (λ z. absurd (omega (arith, some, z))),
+      le-ltb (most_frames c.version) c.frames is.few_frames,
+      le-ltb c.frames (c.core + c.host) is.within,
+      ne_eqb c.leaves 0 (λ z. absurd (omega (arith, one, z))),
+      le-ltb leaf_limit c.leaves is.few_leaves,
+      le-ltb digest_limit (length c.approved) is.few_digests,
+    ) refl
+
+-- a machine with the same parts is the same
+pub same_machine : (c : Configuration) (version : Version) (frames core host leaves : ℕ) (approved : List (List ℕ)) → version ≡ c.version → frames ≡ c.frames → core ≡ c.core → host ≡ c.host → leaves ≡ c.leaves → approved ≡ c.approved
+    → record { version = version; frames = frames; core = core; host = host; leaves = leaves; approved = approved } ≡ c
+same_machine c version frames core host leaves approved v f o h l a = rw (v, f, o, h, l, a) refl

@@ -11,7 +11,7 @@ use Rattle.kc_model.specs.Histories.{same_actor}
 use Rattle.kc_live.specs.Program.{ProgramView, actors_of}
 use Rattle.kc_live.specs.declared.stop.LiveCause.{LiveCause}
 use Rattle.kc_live.specs.declared.stop.LiveCause.TheVariants.{NotYours, HistoryFull, Memory, Start, Unsettled, BadActor}
-use Rattle.kc_live.specs.Book.{Log}
+use Rattle.kc_live.specs.Book.{Recording}
 use Rattle.kc_live.specs.Plans.{IsActor, AreActors, HaveActors, MayJoin, MayRunTogether, IsFirstBad, stranger_from}
 use Rattle.kc_live.specs.Stops.{IsCauseOf, IsLeftHistory, FitsHistory}
 use Rattle.kc_live.specs.Cuts.{IsCut, IsFirstUnknown, IsJudgedPart, IsLeftOf, StopsTrace, callers, noted, appearing, with_call, grown}
@@ -135,7 +135,7 @@ left-runs config ps Memory stops fits = stops
 left-runs config ps Start stops fits = stops
 left-runs config ps Unsettled stops fits = stops
 
-pub left-of : (config : Configuration) (calls part : List Call) (ps : List ProgramView) (cause : LiveCause) (is_settled : Bool) (history : Option Log) → IsJudgedPart config calls part → IsCut part ps → IsCauseOf config ps cause
+pub left-of : (config : Configuration) (calls part : List Call) (ps : List ProgramView) (cause : LiveCause) (is_settled : Bool) (history : Option Recording) → IsJudgedPart config calls part → IsCut part ps → IsCauseOf config ps cause
     → FitsHistory cause (is_some history) → IfSome history (IsLeftHistory config ps is_settled) → IfSome history (IsLeftOf config calls is_settled)
 left-of config calls part ps cause is_settled None judged cut stops fits left = tt
 left-of config calls part ps cause is_settled (Some history) judged cut stops fits left = (ps, whole-cut config calls part ps judged cut (left-runs config ps cause stops fits), left)

@@ -9,7 +9,7 @@ use Rattle.kc_model.specs.Histories.{same_actor, calls_by}
 use Rattle.kc_live.specs.declared.stop.LiveCause.{LiveCause}
 use Rattle.kc_live.specs.declared.stop.LiveCause.TheVariants.{NotYours, HistoryFull, Memory, Start, Unsettled, BadActor}
 use Rattle.kc_live.specs.Program.{ProgramView, NoneIs, ActorsApart, actors_of}
-use Rattle.kc_live.specs.Book.{Log}
+use Rattle.kc_live.specs.Book.{Recording}
 use Rattle.kc_live.specs.Plans.{IsActor, AreActors, IsFirstBad, MayRunTogether, count_of}
 use Rattle.kc_live.specs.Stops.{IsLeftHistory}
 
@@ -80,7 +80,7 @@ StopsTrace config calls Start = MayRun config calls
 StopsTrace config calls Unsettled = MayRun config calls
 
 -- the history that a run of a trace left, for the programs that the trace is cut into
-abbrev pub IsLeftOf : Configuration → List Call → Bool → Log → Type 0
+abbrev pub IsLeftOf : Configuration → List Call → Bool → Recording → Type 0
 IsLeftOf config calls is_settled left = (ps : List ProgramView) × IsCut calls ps × IsLeftHistory config ps is_settled left
 
 -- who makes each call

@@ -2,7 +2,7 @@
 use Rattle.std.specs.Prelude.{◌≡◌, ℕ, ◌+◌, ◌<◌, ◌≤◌, ◌==◌, Bool, true, false, Some, List, [], ◌∷◌, ◌++◌, length, All, slice_get, slice_index_or, slice_set, if◌then◌else◌}
 use Rattle.kc_types.specs.Configuration.{Configuration}
 use Rattle.kc_live.specs.declared.receipt.Receipt.{Receipt}
-use Rattle.kc_live.specs.Book.{Log, VolumeView, entry, volume_in}
+use Rattle.kc_live.specs.Book.{Recording, VolumeView, entry, volume_in}
 
 -- how often a number is in a list
 abbrev pub times : ℕ → List ℕ → ℕ
@@ -42,8 +42,8 @@ pub record IsSettled (v : VolumeView) (rows : List (List Receipt)) : Type 0 wher
   pub match : RowsMatch v rows
 
 -- the history is of a core of the configuration and has one volume, and the receipts are just those of it
-abbrev pub IsAnswer : Configuration → Log → List (List Receipt) → Type 0
-IsAnswer config l rows = (l.state.config ≡ config) × (l.volume ≡ 0) × IsSettled (volume_in l) rows
+abbrev pub IsAnswer : Configuration → Recording → List (List Receipt) → Type 0
+IsAnswer config r rows = (r.log.state.config ≡ config) × (r.log.volume ≡ 0) × IsSettled (volume_in r) rows
 
 -- the receipt may come next: no receipt had its number before, and it is not below the least
 pub record MayComeNext (v : VolumeView) (seen : List Bool) (least : ℕ) (r : Receipt) : Type 0 where

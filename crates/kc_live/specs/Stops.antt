@@ -8,7 +8,7 @@ use Rattle.kc_live.specs.declared.stop.LiveCause.{LiveCause}
 use Rattle.kc_live.specs.declared.stop.LiveCause.TheVariants.{NotYours, HistoryFull, Memory, Start, Unsettled, BadActor}
 use Rattle.kc_live.specs.declared.program.ThreadStop.{ThreadStop}
 use Rattle.kc_live.specs.declared.program.ThreadStop.TheVariants as stops
-use Rattle.kc_live.specs.Book.{Log, IsLegal, IsWholeFrom, volume_in}
+use Rattle.kc_live.specs.Book.{Recording, IsLegal, IsWholeFrom, volume_in}
 use Rattle.kc_live.specs.Program.{ProgramView, HasBeginnings, HasNoOthers}
 use Rattle.kc_live.specs.Plans.{HaveActors, IsFirstBad, stranger_from, count_of, MayRunTogether}
 
@@ -40,11 +40,11 @@ FitsHistory Start is_there = is_there ≡ true
 FitsHistory Unsettled is_there = is_there ≡ true
 
 -- the history of a run that gave no answer: it is legal, and if the receipts are settled with it, all of it was made from the boot state of the given configuration on, and it has a beginning of each program's calls, and no others
-pub record IsLeftHistory (machine : Configuration) (ps : List ProgramView) (is_settled : Bool) (left : Log) : Type 0 where
+pub record IsLeftHistory (machine : Configuration) (ps : List ProgramView) (is_settled : Bool) (left : Recording) : Type 0 where
   pub legal : IsLegal (volume_in left)
-  pub whole : is_settled ≡ true → IsWholeFrom machine left
-  pub begun : is_settled ≡ true → HasBeginnings left.entries ps
-  pub others : is_settled ≡ true → HasNoOthers left.entries ps
+  pub whole : is_settled ≡ true → IsWholeFrom machine left.log
+  pub begun : is_settled ≡ true → HasBeginnings left.log.entries ps
+  pub others : is_settled ≡ true → HasNoOthers left.log.entries ps
 
 -- the cause if a thread did not make a call: out of memory is reported as that; any other fault, of programs that were judged, leaves the run unsettled
 abbrev pub fault_cause : LiveFault → LiveCause

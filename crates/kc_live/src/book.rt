@@ -1,17 +1,19 @@
 //! The history of a core, volume by volume, from a configuration's boot state on.
 ghost use Rattle.std.specs.Prelude.{◌≡◌, ◌<◌, ◌≤◌, ◌↔◌, ◌++◌, ◌∷◌, [], length, vec_capacity, IsErr, IfOk, IfErr, OnOk, OnErr};
-ghost use Rattle.kc_types.specs.Limits.{call_limit};
+ghost use Rattle.kc_types.specs.Limits.{call_limit, digest_limit};
 
 use crate::fault::LiveFault;
-use crate::journal::{Journal, VolumeDigest};
+use crate::journal::{Journal, VolumeDigest, header_in, see_digests};
 use crate::ready::Ready;
 use crate::receipt::{Entry, Receipt};
 use kc_core::KCore;
+use kc_trace::{Header, Position};
 use kc_types::{Config, Memory};
 use std::alloc::Global;
 use std::marker::Model;
 
-/// A journal from a configuration's boot state on. Every value of it is legal: one thread could have made all its volumes.
+/// A journal from a configuration's boot state on. Every value of it is legal: one thread could have made all its volumes,
+/// and the header of each has a head of the machine, with the volume's number.
 #[derive(Drop)]
 pub struct Book {
     journal: Journal,
@@ -21,31 +23,30 @@ impl Model for Book {
     ghost use Rattle.std.specs.Coded.{codes, coded_ℕ};
     ghost use Rattle.std.specs.FinMap as map;
     ghost use Rattle.std.specs.Ordering.{nat_cmp};
-    ghost use Rattle.std.specs.Prelude.{◌≡◌};
-    ghost use Rattle.kc_trace.specs.declared.header.Header.TheVariants.{Two};
-    ghost use Rattle.kc_live.specs.Book.{Log, IsKept};
+    ghost use Rattle.kc_live.specs.Book.{Recording, IsKept};
 
-    ghost Value = { Log };
+    ghost Value = { Recording };
 
     ghost coded = { Prim.hlevel (codes, map.code {R = nat_cmp} coded_ℕ coded_ℕ) };
 
-    ghost view = { λ b. b.journal.log };
+    ghost view = { λ b. b.journal };
 
-    ghost invariant = { λ b. IsKept b.journal.log × (b.journal.header ≡ Two) };
+    ghost invariant = { λ b. IsKept b.journal };
 }
 
 impl Book {
-    ghost use Rattle.kc_live.specs.Book.{IsDigestOf, IsLegal, IsKept, longer, next_volume, receipt_of, new_log, volume_in};
+    ghost use Rattle.kc_live.specs.Book.{IsDigestOf, IsLegal, IsKept, new_book, next_recording, receipt_of, recorded, volume_in};
 
-    /// Begins with the core in the boot state of its configuration, no calls, and room for as many as there can be; `Memory`
-    /// if memory runs out.
+    /// Begins the first volume of a history, whose header has a head that says so: with the core in the boot state of its
+    /// configuration, no calls, and room for as many as there can be. `Memory` if memory runs out.
     pub fn new(alloc: Global, config: Config) -> Result<Book, Memory>
         // No clause can rule out that memory runs out: tests make books.
-        ensures { IfOk result (λ book. book ≡ new_log config) }
+        ensures { IfOk result (λ book. book ≡ new_book config) }
     {
         let core = KCore::boot(alloc, config)?;
+        see_digests(core.config());
         Ok(Book {
-            journal: Journal::of(alloc, core, None)?,
+            journal: Journal::of(alloc, core, Some(Position::First))?,
         })
     }
 
@@ -54,9 +55,9 @@ impl Book {
     /// exactly if the volume has 65,536 calls.
     pub fn record(&mut self, ready: Ready, receipts: &mut Vec<Receipt>) -> Result<(), LiveFault>
         requires { length receipts.old.items < vec_capacity receipts.old }
-        ensures receipt { OnOk result (receipts.new.items ≡ receipts.old.items ++ receipt_of self.old ready ∷ []) }
-        ensures entry { OnOk result (self.new ≡ longer self.old ready) }
-        ensures full { IsErr result ↔ (length self.old.entries ≡ call_limit) }
+        ensures receipt { OnOk result (receipts.new.items ≡ receipts.old.items ++ receipt_of self.old.log ready ∷ []) }
+        ensures entry { OnOk result (self.new ≡ recorded self.old ready) }
+        ensures full { IsErr result ↔ (length self.old.log.entries ≡ call_limit) }
         ensures fault { IfErr result (λ fault. fault ≡ LiveFault.HistoryFull) }
         ensures err { OnErr result ((receipts.new ≡ receipts.old) × (self.new ≡ self.old)) }
     {
@@ -65,18 +66,25 @@ impl Book {
         Ok(())
     }
 
-    /// Hands out the volume, full or not, and begins the next one with the core as it is. The room for the next one's calls is
-    /// made before, so that memory cannot run out here.
-    pub fn turn(&mut self, room: Vec<Entry>) -> Volume
-        requires empty { room.items ≡ [] }
-        requires room { call_limit ≤ vec_capacity room }
+    /// Hands out the volume, full or not, and begins the next one with the core as it is. The head of the next one has the
+    /// next number, and the digest of this one; after the last number, 4,294,967,295, volumes have none. The room for the
+    /// next one's calls, and for the approved digests in the head of this one, is made before, so that memory cannot run
+    /// out here.
+    pub fn turn(&mut self, room: Vec<Entry>, digests: Vec<[u8; 32]>) -> Volume
+        requires empty { (room.items ≡ []) × (digests.items ≡ []) }
+        requires room { (call_limit ≤ vec_capacity room) × (digest_limit ≤ vec_capacity digests) }
         ensures volume { result ≡ volume_in self.old }
-        ensures next { self.new ≡ next_volume self.old }
+        ensures next { self.new ≡ next_recording self.old }
         ensures legal { IsLegal result }
     {
         let number = self.journal.volume();
+        let header = header_in(digests, self.journal.header());
         let entries = self.journal.turn(room);
-        Volume { number, entries }
+        Volume {
+            number,
+            header,
+            entries,
+        }
     }
 
     /// Gives the digest of the volume so far. The calls since it was last asked are hashed now. No memory is taken.
@@ -86,7 +94,7 @@ impl Book {
         ensures same { self.new ≡ self.old }
     {
         VolumeDigest {
-            volume: self.journal.volume(),
+            volume: self.journal.volume().saturating_add(1),
             calls: self.journal.entries().len() as u32,
             digest: self.journal.digest(),
         }
@@ -98,19 +106,24 @@ impl Book {
         ensures kept { IsKept result }
     {
         let Book { journal } = self;
-        let (number, entries, core) = journal.into_parts();
+        let (number, header, entries, core) = journal.into_parts();
         History {
-            volume: Volume { number, entries },
+            volume: Volume {
+                number,
+                header,
+                entries,
+            },
             core,
         }
     }
 }
 
-/// A volume that was handed out: the calls between two states of a core that goes on. Every value of it is legal, as a
-/// `Book` is.
+/// A volume that was handed out: the calls between two states of a core that goes on, and the header of their trace. Every
+/// value of it is legal, as a `Book` is.
 #[derive(Drop)]
 pub struct Volume {
     number: u64,
+    header: Header,
     entries: Vec<Entry>,
 }
 
@@ -121,19 +134,29 @@ impl Model for Volume {
 
     ghost Value = { VolumeView };
 
-    ghost view = { λ v. record { number = v.number; entries = v.entries.items } };
+    ghost view = { λ v. record { number = v.number; header = v.header; entries = v.entries.items } };
 
-    ghost invariant = { λ v. IsLegal (record { number = v.number; entries = v.entries.items }) × (length v.entries.items ≤ call_limit) };
+    ghost invariant = { λ v. IsLegal (record { number = v.number; header = v.header; entries = v.entries.items }) × (length v.entries.items ≤ call_limit) };
 }
 
 impl Volume {
-    ghost use Rattle.kc_live.specs.Book.{IsLegal};
+    ghost use Rattle.kc_live.specs.Book.{IsLegal, MayRecord};
 
-    /// The volume's number, from 0: how many volumes came before.
+    /// The volume's number, from 0: how many volumes came before. Its head counts from 1.
     pub fn number(&self) -> u64
         ensures { result ≡ self.now.number }
     {
         self.number
+    }
+
+    /// The header of the volume's trace: its head has the machine, the volume's number from 1, and the digest of the redacted
+    /// text of the volume before. Only a volume after number 4,294,967,295 has no head.
+    pub fn header(&self) -> &Header
+        ensures header { result.now ≡ self.now.header }
+        ensures legal { IsLegal self.now }
+        ensures may { MayRecord self.now.header }
+    {
+        &self.header
     }
 
     /// The calls in the order in which they were made, each with its reply.
@@ -151,7 +174,11 @@ impl Volume {
         ensures legal { IsLegal self }
         ensures short { length self.entries ≤ call_limit }
     {
-        let Volume { number: _, entries } = self;
+        let Volume {
+            number: _,
+            header: _,
+            entries,
+        } = self;
         entries
     }
 }
@@ -167,15 +194,15 @@ impl Model for History {
     ghost use Rattle.std.specs.Coded.{codes, coded_ℕ};
     ghost use Rattle.std.specs.FinMap as map;
     ghost use Rattle.std.specs.Ordering.{nat_cmp};
-    ghost use Rattle.kc_live.specs.Book.{Log, IsKept, log};
+    ghost use Rattle.kc_live.specs.Book.{Recording, IsKept, log};
 
-    ghost Value = { Log };
+    ghost Value = { Recording };
 
     ghost coded = { Prim.hlevel (codes, map.code {R = nat_cmp} coded_ℕ coded_ℕ) };
 
-    ghost view = { λ h. log h.volume.number h.volume.entries h.core };
+    ghost view = { λ h. record { header = h.volume.header; log = log h.volume.number h.volume.entries h.core } };
 
-    ghost invariant = { λ h. IsKept (log h.volume.number h.volume.entries h.core) };
+    ghost invariant = { λ h. IsKept (record { header = h.volume.header; log = log h.volume.number h.volume.entries h.core }) };
 }
 
 impl History {
@@ -185,14 +212,14 @@ impl History {
     pub fn volume(&self) -> &Volume
         ensures same { result.now ≡ volume_in self.now }
         ensures legal { IsLegal (volume_in self.now) }
-        ensures short { length self.now.entries ≤ call_limit }
+        ensures short { length self.now.log.entries ≤ call_limit }
     {
         &self.volume
     }
 
     /// The core as the calls left it.
     pub fn core(&self) -> &KCore
-        ensures { result.now ≡ self.now.state }
+        ensures { result.now ≡ self.now.log.state }
     {
         &self.core
     }
@@ -200,7 +227,7 @@ impl History {
     /// The last volume, and the core as its calls left it.
     pub fn into_parts(self) -> (Volume, KCore)
         ensures volume { result.0 ≡ volume_in self }
-        ensures core { result.1 ≡ self.state }
+        ensures core { result.1 ≡ self.log.state }
     {
         let History { volume, core } = self;
         (volume, core)

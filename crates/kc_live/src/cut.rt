@@ -117,8 +117,8 @@ pub fn run_trace<G: Gate + Sync, R: Threads + Wait + Sync>(
 
     // One thread could have made the history from the boot state of the configuration on, it keeps the promises, and it
     // has each actor's calls in order.
-    ensures whole { IfOk result (IsWholeFrom config) }
-    ensures order { IfOk result (λ history. KeepsOrders (calls_of history.entries) calls.items) }
+    ensures whole { IfOk result (λ history. IsWholeFrom config history.log) }
+    ensures order { IfOk result (λ history. KeepsOrders (calls_of history.log.entries) calls.items) }
 {
     let part = judged_part(&config, calls);
     let Ok(programs) = programs_of(alloc, part) else {

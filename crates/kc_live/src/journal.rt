@@ -1,8 +1,10 @@
 //! A core, and the calls of one volume with their replies, the header of their trace and their digest.
+ghost use Rattle.std.specs.List.{AllByRecursion};
 ghost use Rattle.std.specs.Prelude.{◌≡◌, ◌<◌, ◌≤◌, ◌↔◌, ◌++◌, [], List, length, vec_capacity, Some, IsErr, IfOk, IfErr, OnOk, OnErr};
-ghost use Rattle.kc_types.specs.Limits.{call_limit};
+ghost use Rattle.kc_types.specs.Limits.{call_limit, digest_limit};
 ghost use Rattle.kc_types.specs.declared.call.Call.{Call};
 ghost use Rattle.kc_model.specs.Lawful.{IsLawful};
+ghost use Rattle.kc_model.specs.Volumes.{IsDigest};
 ghost use Rattle.kc_trace.specs.declared.header.Header.{Header};
 ghost use Rattle.kc_trace.specs.Expected.{position_after};
 ghost use Rattle.kc_redact.specs.Witness.{HasSeen};
@@ -22,11 +24,11 @@ use std::mem;
 /// The digest of a volume so far, as it is published.
 #[derive(Clone, Copy, Debug, PartialEq, Eq)]
 pub struct VolumeDigest {
-    /// The number of the volume, from 0.
+    /// The number of the volume, from 1: that of its head.
     pub volume: u64,
     /// How many calls it had, up to 65,536.
     pub calls: u32,
-    /// The SHA-256 digest (FIPS 180-4) of the redacted trace of these calls.
+    /// The SHA-256 digest (FIPS 180-4) of the redacted trace of these calls, with its header and head.
     pub digest: [u8; 32],
 }
 
@@ -52,6 +54,61 @@ fn header_at(config: &Config, position: Option<Position>) -> Result<Header, Memo
             position,
             is_host_redacted: false,
         })),
+    }
+}
+
+/// Gives the bytes of a digest: 32, as its type says.
+fn bytes_of(digest: &[u8; 32]) -> &[u8]
+    ensures { IsDigest digest.now }
+{
+    digest.as_slice()
+}
+
+/// Looks at the approved digests of a machine: each has 32 bytes.
+pub(crate) fn see_digests(config: &Config)
+    ensures { AllByRecursion IsDigest config.now.approved }
+{
+    for digest in config.approved() {
+        bytes_of(digest);
+    }
+}
+
+/// Copies a machine, with its approved digests in this room. No memory is taken.
+fn config_in(room: Vec<[u8; 32]>, config: &Config) -> Config
+    requires empty { room.items ≡ [] }
+    requires room { digest_limit ≤ vec_capacity room }
+    ensures { result ≡ config.now }
+{
+    let mut approved = room;
+    for digest in config.approved() {
+        approved.push_reserved(*digest);
+    }
+    match Config::with_version(
+        config.version(),
+        config.frames(),
+        config.core(),
+        config.host(),
+        config.leaves(),
+        approved,
+    ) {
+        Ok(config) => config,
+        Err(_) => unreachable!(),
+    }
+}
+
+/// Copies a header, with the approved digests of its machine in this room. No memory is taken.
+pub(crate) fn header_in(room: Vec<[u8; 32]>, header: &Header) -> Header
+    requires empty { room.items ≡ [] }
+    requires room { digest_limit ≤ vec_capacity room }
+    ensures { result ≡ header.now }
+{
+    match header {
+        Header::One => Header::One,
+        Header::Two => Header::Two,
+        Header::Three(head) => Header::Three(Head {
+            config: config_in(room, &head.config),
+            position: head.position,
+        }),
     }
 }
 
@@ -248,18 +305,19 @@ impl Journal {
         &self.core
     }
 
-    /// Ends with the volume's number, its calls with their replies, and the core as they left it.
-    pub fn into_parts(self) -> (u64, Vec<Entry>, KCore)
-        ensures { log result.0 result.1.items result.2 ≡ self.log }
+    /// Ends with the volume's number, its header, its calls with their replies, and the core as they left it.
+    pub fn into_parts(self) -> (u64, Header, Vec<Entry>, KCore)
+        ensures header { result.1 ≡ self.header }
+        ensures log { log result.0 result.2.items result.3 ≡ self.log }
     {
         let Journal {
             core,
-            header: _,
+            header,
             volume,
             entries,
             witness: _,
             seen: _,
         } = self;
-        (volume, entries, core)
+        (volume, header, entries, core)
     }
 }

@@ -8,7 +8,7 @@ use crate::book::{Book, History, Volume};
 use crate::fault::LiveFault;
 use crate::journal::VolumeDigest;
 use crate::seat::Seat;
-use kc_types::{CALL_LIMIT, Call, Config, Memory};
+use kc_types::{CALL_LIMIT, Call, Config, DIGEST_LIMIT, Memory};
 use std::alloc::Global;
 use std::sync::{Mutex, Wait};
 
@@ -21,7 +21,8 @@ pub struct LiveCore {
 }
 
 impl LiveCore {
-    /// Begins with the core in the boot state of its configuration, and no calls; `Memory` if memory runs out.
+    /// Begins with the core in the boot state of its configuration, and no calls. Its volumes have heads, from the first on.
+    /// `Memory` if memory runs out.
     // No clause can name what is under the lock: tests call, close and settle.
     pub fn new(alloc: Global, config: Config) -> Result<LiveCore, Memory> {
         Ok(LiveCore {
@@ -41,14 +42,16 @@ impl LiveCore {
         seat.make(rt, self.alloc, &self.book, call)
     }
 
-    /// Hands out the volume, full or not, and begins the next one with the core as it is; it may wait for the lock, and
-    /// makes the room for the next one's calls before. `Memory` if memory for them runs out, and then nothing has changed.
+    /// Hands out the volume, full or not, and begins the next one with the core as it is, whose head follows from this one's;
+    /// it may wait for the lock, and takes all memory that the turn needs before. `Memory` if memory runs out, and then
+    /// nothing has changed.
     // An empty volume is legal too: tests turn volumes over.
     pub fn turn<R: Wait>(&self, rt: &R) -> Result<Volume, Memory>
         ensures { IfOk result IsLegal }
     {
         let room = Vec::with_capacity(self.alloc, CALL_LIMIT)?;
-        Ok(self.book.lock(rt).turn(room))
+        let digests = Vec::with_capacity(self.alloc, DIGEST_LIMIT)?;
+        Ok(self.book.lock(rt).turn(room, digests))
     }
 
     /// Gives the digest of the volume that is being filled, as it is published (`docs/WITNESS.md`); it may wait for the lock,

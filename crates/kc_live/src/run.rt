@@ -143,13 +143,13 @@ pub fn run_live<G: Gate + Sync, R: Threads + Wait + Sync>(
 
     // One thread could have made the history from the boot state of the configuration on, it keeps the promises, and the
     // receipts are just those of it.
-    ensures whole { IfOk result (λ r. IsWholeFrom config r.0) }
+    ensures whole { IfOk result (λ r. IsWholeFrom config r.0.log) }
     ensures settled { IfOk result (λ r. IsSettled (volume_in r.0) (map (λ v. v.items) r.1.items)) }
 
     // Row by row the receipts are of the programs' calls, and so is the history, actor by actor.
     ensures rows { IfOk result (λ r. map (λ row. receipt_calls row.items) r.1.items ≡ map (λ p. p.calls) programs.items) }
-    ensures calls { IfOk result (λ r. HasCalls r.0.entries programs.items) }
-    ensures others { IfOk result (λ r. HasNoOthers r.0.entries programs.items) }
+    ensures calls { IfOk result (λ r. HasCalls r.0.log.entries programs.items) }
+    ensures others { IfOk result (λ r. HasNoOthers r.0.log.entries programs.items) }
 {
     if let Some(cause) = early_stop(&config, programs.as_slice()) {
         return Err(refused(cause));

@@ -1,6 +1,6 @@
 //! What each call of a trace may touch, and its wave, to be compared with what another program finds; how long finding
 //! that takes; what a replay gives whose waves are all taken by workers, whatever they gain; what a live run leaves;
-//! whether a core is turned over while it is called; or the digests that it publishes of its volumes.
+//! whether a core is turned over while it is called; or the digests that it publishes of its volumes, and their traces.
 //!
 //! The arguments are the paths of a configuration and of a trace, and perhaps a number, how often to measure; or `replay`
 //! or `dump` and a number of workers; or `live` or `turn`; or `digest` and how many calls a volume has.
@@ -15,7 +15,7 @@ use kc_dump_text::write_dump;
 use kc_dumping::dump;
 use kc_live::{Entry, History, LiveCore, LiveStop, Seat, Volume, VolumeDigest, run_trace};
 use kc_replay::{Gate, Outcome, Plan, footprints, replay};
-use kc_trace::{read_trace, write_replies, write_trace};
+use kc_trace::{LONGEST_CALL, push_call, push_header, read_trace, write_replies, write_trace};
 use kc_types::{Actor, Call, Config, Resource, actor_of};
 use std::io::Write;
 use std::rt::Clock;
@@ -203,7 +203,20 @@ fn print_digest(rt: &HostRuntime, said: VolumeDigest) -> Result<()> {
     Ok(())
 }
 
-/// Makes the calls from seats of their actors, in volumes of a number of calls, and prints the digest after each call.
+/// Prints the trace of a volume, with its header.
+fn print_volume(rt: &HostRuntime, volume: &Volume) -> Result<()> {
+    let mut text = Vec::with_capacity(rt.alloc(), LONGEST_CALL)?;
+    push_header(&mut text, volume.header());
+    for entry in volume.entries() {
+        text.reserve(LONGEST_CALL)?;
+        push_call(&mut text, &entry.call);
+    }
+    rt.stdout().write_all(text.as_slice())?;
+    Ok(())
+}
+
+/// Makes the calls from seats of their actors, in volumes of a number of calls, and prints the digest after each call, and
+/// after the last one of a volume its trace.
 fn print_digests<R: Wait>(
     rt: &HostRuntime,
     threads: &R,
@@ -219,7 +232,8 @@ fn print_digests<R: Wait>(
         let said = core.digest(threads);
         print_digest(rt, said)?;
         if said.calls as usize >= most {
-            core.turn(threads)?;
+            let volume = core.turn(threads)?;
+            print_volume(rt, &volume)?;
         }
     }
     Ok(())

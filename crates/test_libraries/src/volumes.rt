@@ -119,6 +119,12 @@ fn settled(
     Some((same, host, guest))
 }
 
+/// Whether a volume has this place among the volumes, from 0, and its head the same, from 1.
+fn is_at(volume: &Volume, place: usize) -> bool {
+    let number = volume.header().number();
+    volume.number() == place as u64 && number.map(u64::from) == volume.number().checked_add(1)
+}
+
 /// Whether the volumes follow one another, and the receipts are theirs, each once.
 fn are_settled(
     alloc: Global,
@@ -130,7 +136,7 @@ fn are_settled(
     let mut same = true;
     for (place, volume) in volumes.iter().enumerate() {
         let (is_settled, later, others) = settled(alloc, volume, host, guest)?;
-        same = same && is_settled && volume.number() == place as u64;
+        same = same && is_settled && is_at(volume, place);
         host = later;
         guest = others;
     }

@@ -9,7 +9,7 @@ returns-in-Err-clause-stop g c =
 pub returns-in-Ok-run_live-clause-order : goal.returns-in-Ok-run_live-clause-order
 returns-in-Ok-run_live-clause-order g c =
     rw (c.history_of.ensures, judged-whole c.args.config c.args.calls.items c.judged_part-part.result.items c.in-Ok.programs.items c.judged_part-part.ensures c.in-Ok.ensures c.in-Ok-run_live.ensures.sound.known)
-    (keeps-orders c.in-Ok-run_live.answer.0.entries c.in-Ok.programs.items c.judged_part-part.result.items c.in-Ok.ensures c.in-Ok-run_live.ensures.calls c.in-Ok-run_live.ensures.others)
+    (keeps-orders c.in-Ok-run_live.answer.0.log.entries c.in-Ok.programs.items c.judged_part-part.result.items c.in-Ok.ensures c.in-Ok-run_live.ensures.calls c.in-Ok-run_live.ensures.others)
 
 pub returns-in-Ok-run_live-clause-sound : goal.returns-in-Ok-run_live-clause-sound
 returns-in-Ok-run_live-clause-sound g c = (
