@@ -1,11 +1,13 @@
 -- A trace that has no head is given one.
-use Rattle.std.proofs.Common.{ℕ, zero, suc, ◌≡◌, ◌<◌, ◌+◌, ◌^◌, Bool, true, false, All, List, [], ◌∷◌, ◌++◌, length, take, drop, get_or, Option, Some, None, inl, inr, refl, sym, ap, subst, ◌∙◌, arith}
-use Rattle.std.specs.Prelude.{IfSome, nat_lt, if◌then◌else◌}
+use Rattle.std.proofs.Common.{ℕ, zero, suc, ◌≡◌, ◌≢◌, ◌<◌, ◌+◌, ◌^◌, Bool, true, false, All, List, [], ◌∷◌, ◌++◌, length, take, drop, get_or, Option, Some, None, Result, Ok, Err, inl, inr, refl, sym, ap, subst, ◌∙◌, append_assoc, arith}
+use Rattle.std.specs.Prelude.{IfOk, IfErr, IfSome, nat_lt, if◌then◌else◌}
 use Rattle.std.specs.List.{AllByRecursion}
 use Rattle.std.specs.Io.KnownBytes.{Appends, Consumes, IsAtEnd}
 use Rattle.std.specs.Int.{to_be_bytes, w32}
 use Rattle.std.proofs.lemmas.Bool.{cases_lt, ltb-true}
-use Rattle.std.proofs.lemmas.List.{take_all, append-nil}
+use Rattle.std.proofs.lemmas.List.{take_all, take_more, append-nil}
+use Rattle.std.proofs.lemmas.Grind.{flat_map-append}
+use Rattle.std.proofs.lemmas.List.Concat.{flat_map-cons}
 use Rattle.std.proofs.lemmas.List.Elements.{All-nil, All-append}
 use Rattle.std.proofs.Math.Seq.{take-append-add, take-append-le}
 use Rattle.std.proofs.KnownBytes.{Appends-trans}
@@ -27,13 +29,19 @@ use Rattle.kc_trace.specs.declared.fault.TraceFault.{TraceFault}
 use Rattle.kc_trace.specs.declared.fault.TraceFault.TheVariants.{NoHeader, BadLine, NoNewline, TooManyCalls, Misplaced, Memory}
 use Rattle.kc_trace.specs.Header.{IsHead, IsHeader, IsPosition, has_head, trace_header}
 use Rattle.kc_trace.specs.Expected.{number_of, position_after}
-use Rattle.kc_trace.specs.Spelling.{lines_of, text_of}
+use Rattle.kc_trace.specs.Spelling.{line_of, lines_of, text_of}
 use Rattle.kc_trace.specs.Trace.{AreCalls, IsTrace, IsTraceUnder, IsRefused}
+use Rattle.kc_texts.specs.Ends.{Seen, ReadFailed, HasFailedRead, HasFailed}
 use Rattle.kc_texts.specs.Written.{Writes, Begins}
+use Rattle.kc_faults.specs.declared.fault.TextFault.{TextFault}
+use Rattle.kc_faults.specs.declared.fault.TextFault.TheVariants as texts
+use Rattle.kc_faults.specs.Outcomes.{TellsSink}
 use Rattle.kc_faults.specs.Origins.{SpellsMachine}
 use Rattle.kc_cli.specs.Traced.{trace_digest_of, position_next}
-use Rattle.kc_redact_text.specs.Reading.{IsHeaderAndCalls}
-use Rattle.kc_redact_text.specs.Converts.{volume_of, IsFirstHead, IsHeadAfter, IsNextOf, IsBare, IsUnderHead, IsFirstVolume, IsNextVolume, AreLines, TookUnder, BegunUnder, IsRefusedBare, IsRefusedLast, IsLast, why_last}
+use Rattle.kc_cli.proofs.Sources.{sink_err}
+use Rattle.kc_redact_text.specs.Reading.{IsHeaderAndCalls, IsReadingFault}
+use Rattle.kc_redact_text.specs.declared.convert.Converted.{Converted}
+use Rattle.kc_redact_text.specs.Converts.{volume_of, IsFirstHead, IsHeadAfter, IsNextOf, IsBare, IsUnderHead, IsFirstVolume, IsNextVolume, AreLines, TookUnder, BegunUnder, IsRefusedBare, IsRefusedLast, IsLast, why_last, IsConversion, volume_refused, trace_refused, IsSystemFault, IsUnderFault}
 
 -- ---- digests
 
@@ -66,6 +74,17 @@ spelled_digests text config (inr is) = subst (λ (c : Configuration). AllByRecur
 pub first_is : (source : Option (List ℕ)) (config : Configuration) → IfSome source (λ text. SpellsMachine text config) → IsConfiguration config → IfSome source (λ text. IsFirstHead text (record { config = config; position = First }))
 first_is None config said kept = tt
 first_is (Some text) config said kept = record { machine = said; first = refl; valid = record { config = kept; digests = spelled_digests text config said; position = tt } }
+
+-- ---- the digest of a redacted trace
+
+-- the line of one call more
+pub hashed_more : (bytes : List ℕ) (calls : List Call) (call : Call) (n : ℕ) → n < length calls → call ≡ get_or calls n call → (bytes ++ lines_of (take n calls)) ++ (line_of call ++ 10 ∷ []) ≡ bytes ++ lines_of (take (n + 1) calls)
+hashed_more bytes calls call n lt is =
+    let line = λ (one : Call). line_of one ++ 10 ∷ [] in
+    let more : lines_of (take (n + 1) calls) ≡ lines_of (take n calls) ++ (line_of call ++ 10 ∷ []) =
+    ap lines_of (take_more calls n call lt) ∙ flat_map-append line (take n calls) (get_or calls n call ∷ [])
+    ∙ ap (λ (t : List ℕ). lines_of (take n calls) ++ t) (flat_map-cons line (get_or calls n call) [] ∙ append-nil (line (get_or calls n call)) ∙ ap line (sym is)) in
+    append_assoc bytes (lines_of (take n calls)) (line_of call ++ 10 ∷ []) ∙ ap (λ (t : List ℕ). bytes ++ t) (sym more)
 
 -- ---- the head after a volume
 
@@ -172,7 +191,7 @@ headed head One text lines calls e read = absurd (let never = same_digit text (T
 headed head Two text lines calls e read = absurd (let never = same_digit text (Three head) Two lines (lines_of calls) e read.whole in omega (arith, never))
 
 pub refused_headed : (head : Head) (text lines : List ℕ) (fault : TraceFault) → text ≡ trace_header (Three head) ++ lines → ((calls : List Call) × IsTrace text calls) → fault ≡ Misplaced Unexpected → IsRefusedBare text fault
-refused_headed head text lines fault e trace same = subst (λ (f : TraceFault). IsRefusedBare text f) (sym same) (refl, headed head trace.1 text lines trace.0 e trace.2)
+refused_headed head text lines fault e trace same = subst (λ (f : TraceFault). IsRefusedBare text f) (sym same) (refl, headed head trace.1.0 text lines trace.0 e trace.1.1)
 
 refused_bare : (text : List ℕ) (fault : TraceFault) → IsRefused text fault → IsRefusedBare text fault
 refused_bare text NoHeader h = h
@@ -187,7 +206,7 @@ judged_bare text fault h = refused_bare text fault h
 
 -- a trace begins with a header
 pub has_header : (text : List ℕ) → ((calls : List Call) × IsTrace text calls) → ((header : Header) (rest : List ℕ) → IsHeader header → text ≡ trace_header header ++ rest → ⊥) → ⊥
-has_header text trace none = none trace.1 (lines_of trace.0) trace.2.valid trace.2.whole
+has_header text trace none = none trace.1.0 (lines_of trace.0) trace.1.1.valid trace.1.1.whole
 
 -- ---- two texts, one after the other
 
@@ -258,3 +277,119 @@ begins_next (Some volume) (Some text) old new head next took = (_, took.1, (head
 pub some_after : (source : Option (List ℕ)) (head : Head) → IfSome source (λ text. IsHeadAfter text head) → IfSome source (λ text. (next : Head) × IsHeadAfter text next)
 some_after None head h = tt
 some_after (Some text) head h = (head, h)
+
+-- ---- how a conversion after a volume ends
+
+-- the clauses of its contract
+pub record Told (before trace : Seen) (old new : Option (List ℕ)) (out : Bool) (unread untouched : Type 0) (r : Result Converted TextFault) : Type 0 where
+  pub ok : IfOk r (IsConversion before trace old new unread untouched)
+  pub read : r ≡ Err texts.Read → HasFailedRead (before ∷ trace ∷ [])
+  pub failed : HasFailed (before ∷ trace ∷ []) → r ≡ Err texts.Read
+  pub sink : TellsSink out (Begins IsNextVolume before.had trace.had old new) untouched r
+  pub others : IfErr r IsSystemFault
+
+-- a fault of the volume before; nothing was read of the trace, and nothing written
+pub record VolumeFails (before trace : Seen) (out : Bool) (unread untouched : Type 0) (f : TextFault) : Type 0 where
+  pub trace_is : (said : TraceFault) → f ≡ texts.Trace said → IfSome before.had (λ text. IsRefusedLast text said) × IsAtEnd before.has
+  pub read : f ≡ texts.Read → ReadFailed before.failed before.had before.has
+  pub failed : before.failed ≡ true → f ≡ texts.Read
+  pub whole : trace.failed ≡ false
+  pub ready : out ≡ false
+  pub unread_is : unread
+  pub untouched_is : untouched
+
+volume_failed : (before trace : Seen) (old new : Option (List ℕ)) (out : Bool) (unread untouched : Type 0) (f : TextFault) → VolumeFails before trace out unread untouched f → IsSystemFault f → f ≢ texts.Write → Told before trace old new out unread untouched (Err f)
+volume_failed before trace old new out unread untouched f h system other = record {
+  ok = tt;
+  read = λ e. inl (h.read (let same : f ≡ texts.Read = cc in same));
+  failed = λ bad. elim bad [
+    | inl is ↦ ap Err (h.failed is)
+    | inr (inl is) ↦ absurd (let never : false ≡ true = sym h.whole ∙ is in cc)
+    | inr (inr never) ↦ absurd never
+  ];
+  sink = record {
+    write = λ e. absurd (other (let same : f ≡ texts.Write = cc in same));
+    failed_is = λ bad. absurd (let never : false ≡ true = sym h.ready ∙ bad in cc);
+    kept = inl h.untouched_is;
+  };
+  others = system;
+}
+
+pub volume_told : (before trace : Seen) (old new : Option (List ℕ)) (out : Bool) (unread untouched : Type 0) (f : TextFault) → VolumeFails before trace out unread untouched f → IsReadingFault f → Told before trace old new out unread untouched (volume_refused f)
+volume_told before trace old new out unread untouched (texts.Trace said) h is =
+    let refused = h.trace_is said refl in
+    record {
+      ok = (refused.0, refused.1, h.unread_is, h.untouched_is);
+      read = λ e. absurd cc;
+      failed = λ bad. elim bad [
+        | inl failed ↦ (let never = h.failed failed in absurd cc)
+        | inr (inl failed) ↦ absurd (let never : false ≡ true = sym h.whole ∙ failed in cc)
+        | inr (inr never) ↦ absurd never
+      ];
+      sink = record { write = λ e. absurd cc; failed_is = λ bad. absurd (let never : false ≡ true = sym h.ready ∙ bad in cc); kept = tt };
+      others = tt;
+    }
+volume_told before trace old new out unread untouched texts.Memory h is = volume_failed before trace old new out unread untouched texts.Memory h tt (λ e. cc)
+volume_told before trace old new out unread untouched texts.Read h is = volume_failed before trace old new out unread untouched texts.Read h tt (λ e. cc)
+volume_told before trace old new out unread untouched texts.Write h is = absurd is
+volume_told before trace old new out unread untouched texts.Start h is = absurd is
+volume_told before trace old new out unread untouched texts.Workers h is = absurd is
+volume_told before trace old new out unread untouched texts.Unsettled h is = absurd is
+volume_told before trace old new out unread untouched (texts.Config said) h is = absurd is
+volume_told before trace old new out unread untouched (texts.Dump said) h is = absurd is
+volume_told before trace old new out unread untouched (texts.State said) h is = absurd is
+volume_told before trace old new out unread untouched (texts.BadActor program) h is = absurd is
+volume_told before trace old new out unread untouched (texts.NoSlot slot) h is = absurd is
+
+-- a fault of the trace, or of writing it with the head that comes after the volume
+pub record TraceFails (before trace : Seen) (old new : Option (List ℕ)) (out : Bool) (untouched : Type 0) (f : TextFault) : Type 0 where
+  pub head : Head
+  pub next : IfSome before.had (λ text. IsHeadAfter text head)
+  pub before_whole : before.failed ≡ true → ⊥
+  pub trace_is : (said : TraceFault) → f ≡ texts.Trace said → IfSome trace.had (λ text. IsRefusedBare text said) × IsAtEnd trace.has
+  pub read : f ≡ texts.Read → ReadFailed trace.failed trace.had trace.has
+  pub failed : trace.failed ≡ true → f ≡ texts.Read
+  pub sink : TellsSink {A = Unit {0}} out (BegunUnder head trace.had old new) untouched (Err f)
+
+trace_failed : (before trace : Seen) (old new : Option (List ℕ)) (out : Bool) (unread untouched : Type 0) (f : TextFault) → TraceFails before trace old new out untouched f → IsSystemFault f → Told before trace old new out unread untouched (Err f)
+trace_failed before trace old new out unread untouched f h system = record {
+  ok = tt;
+  read = λ e. inr (inl (h.read (let same : f ≡ texts.Read = cc in same)));
+  failed = λ bad. elim bad [
+    | inl is ↦ absurd (h.before_whole is)
+    | inr (inl is) ↦ ap Err (h.failed is)
+    | inr (inr never) ↦ absurd never
+  ];
+  sink = sink_err _ _ _ _ f (λ begun. begins_next before.had trace.had old new h.head h.next begun) h.sink;
+  others = system;
+}
+
+pub trace_told : (before trace : Seen) (old new : Option (List ℕ)) (out : Bool) (unread untouched : Type 0) (f : TextFault) → TraceFails before trace old new out untouched f → IsUnderFault f → Told before trace old new out unread untouched (trace_refused f)
+trace_told before trace old new out unread untouched (texts.Trace said) h is =
+    let refused = h.trace_is said refl in
+    let same : untouched = elim h.sink.kept [
+      | inl same ↦ same
+      | inr e ↦ absurd (let never : texts.Trace said ≡ texts.Write = cc in cc)
+    ] in
+    record {
+      ok = (some_after before.had h.head h.next, refused.0, refused.1, same);
+      read = λ e. absurd cc;
+      failed = λ bad. elim bad [
+        | inl failed ↦ absurd (h.before_whole failed)
+        | inr (inl failed) ↦ (let never = h.failed failed in absurd cc)
+        | inr (inr never) ↦ absurd never
+      ];
+      sink = record { write = λ e. absurd cc; failed_is = λ bad. (let e = h.sink.failed_is bad in absurd cc); kept = tt };
+      others = tt;
+    }
+trace_told before trace old new out unread untouched texts.Memory h is = trace_failed before trace old new out unread untouched texts.Memory h tt
+trace_told before trace old new out unread untouched texts.Read h is = trace_failed before trace old new out unread untouched texts.Read h tt
+trace_told before trace old new out unread untouched texts.Write h is = trace_failed before trace old new out unread untouched texts.Write h tt
+trace_told before trace old new out unread untouched texts.Start h is = absurd is
+trace_told before trace old new out unread untouched texts.Workers h is = absurd is
+trace_told before trace old new out unread untouched texts.Unsettled h is = absurd is
+trace_told before trace old new out unread untouched (texts.Config said) h is = absurd is
+trace_told before trace old new out unread untouched (texts.Dump said) h is = absurd is
+trace_told before trace old new out unread untouched (texts.State said) h is = absurd is
+trace_told before trace old new out unread untouched (texts.BadActor program) h is = absurd is
+trace_told before trace old new out unread untouched (texts.NoSlot slot) h is = absurd is

@@ -1,5 +1,5 @@
 -- A trace that has no head is given one.
-use Rattle.std.specs.Prelude.{◌≡◌, ◌≢◌, false, ℕ, List, ◌++◌, take, Option, Some, None, IfSome}
+use Rattle.std.specs.Prelude.{◌≡◌, ◌≢◌, false, ℕ, List, ◌++◌, take, Option, Some, None, Result, Ok, Err, IfSome}
 use Rattle.std.specs.Io.KnownBytes.{Appends, IsAtEnd}
 use Rattle.kc_types.specs.declared.call.Call.{Call}
 use Rattle.kc_trace.specs.declared.header.Head.{Head}
@@ -106,6 +106,12 @@ IsRefusedLast text fault = IsRefused text fault
 
 -- ---- how it ends
 
+-- the trace is refused, and running out of memory is never reported as that; or memory ran out
+abbrev pub IsTextFault : TextFault → Type 0
+IsTextFault (texts.Trace fault) = fault ≢ traces.Memory
+IsTextFault texts.Memory = Unit {0}
+IsTextFault _ = ⊥
+
 -- memory ran out, or a source or the sink failed
 abbrev pub IsSystemFault : TextFault → Type 0
 IsSystemFault texts.Memory = Unit {0}
@@ -113,7 +119,7 @@ IsSystemFault texts.Read = Unit {0}
 IsSystemFault texts.Write = Unit {0}
 IsSystemFault _ = ⊥
 
--- the trace is refused, and running out of memory is never reported as that; or it is one of these faults
+-- the trace is refused, and running out of memory is never reported as that; or it is a fault of the system
 abbrev pub IsUnderFault : TextFault → Type 0
 IsUnderFault (texts.Trace fault) = fault ≢ traces.Memory
 IsUnderFault fault = IsSystemFault fault
@@ -122,6 +128,15 @@ IsUnderFault fault = IsSystemFault fault
 abbrev pub IsConvertFault : TextFault → Type 0
 IsConvertFault (texts.Config fault) = Unit {0}
 IsConvertFault fault = IsUnderFault fault
+
+-- what a fault of reading the volume before, or the trace, comes to: a fault of its text refuses it
+abbrev pub volume_refused : TextFault → Result Converted TextFault
+volume_refused (texts.Trace fault) = Ok (VolumeRefused fault)
+volume_refused fault = Err fault
+
+abbrev pub trace_refused : TextFault → Result Converted TextFault
+trace_refused (texts.Trace fault) = Ok (TraceRefused fault)
+trace_refused fault = Err fault
 
 -- the volume before the trace was read to its end, and the trace too, and the sink took the trace with the head that
 -- comes after that volume; or the volume is refused, and nothing was read of the trace; or the trace is refused, after

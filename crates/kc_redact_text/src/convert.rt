@@ -1,5 +1,5 @@
 //! Giving a trace its head.
-ghost use Rattle.std.specs.Prelude.{◌≡◌, ◌≢◌, ◌⊎◌, ◌++◌, ◌∷◌, [], ℕ, List, Option, false, true, is_err, IfOk, IfErr, IfSome, OnOk, OnErr, Err};
+ghost use Rattle.std.specs.Prelude.{◌≡◌, ◌⊎◌, ◌++◌, ◌∷◌, [], ℕ, List, Option, false, true, is_err, IfOk, IfErr, IfSome, OnOk, OnErr, Err};
 ghost use Rattle.std.specs.Io.KnownBytes.{Appends, IsAtEnd};
 ghost use Rattle.kc_types.specs.declared.call.Call.{Call};
 ghost use Rattle.kc_config_text.specs.declared.config_text.ConfigTextFault.{ConfigTextFault};
@@ -11,7 +11,7 @@ ghost use Rattle.kc_trace.specs.Trace.{IsTrace, IsRefused};
 ghost use Rattle.kc_texts.specs.Ends.{ReadFailed, HasFailedRead, HasFailed, seen};
 ghost use Rattle.kc_texts.specs.Written.{AppendsBeginning, Writes, Begins};
 ghost use Rattle.kc_faults.specs.Outcomes.{TellsSources, TellsSink};
-ghost use Rattle.kc_redact_text.specs.Converts.{IsFirstVolume, IsNextVolume, AreLines, TookUnder, BegunUnder, IsRefusedBare, IsConversion, IsSystemFault, IsUnderFault, IsConvertFault};
+ghost use Rattle.kc_redact_text.specs.Converts.{IsFirstVolume, IsNextVolume, AreLines, TookUnder, BegunUnder, IsRefusedBare, IsConversion, volume_refused, trace_refused, IsTextFault, IsSystemFault, IsUnderFault, IsConvertFault};
 
 use crate::heads::{read_first_head, read_next_head};
 use kc_faults::TextFault;
@@ -37,7 +37,7 @@ fn judge(alloc: Global, text: &[u8]) -> Result<(), TextFault>
     ensures ok { OnOk result ((calls : List Call) × IsTrace text.now calls) }
     ensures trace { (fault : TraceFault) → result ≡ Err (TextFault.Trace fault)
         → IsRefused text.now fault }
-    ensures fault { IfErr result (λ fault. (fault ≢ TextFault.Read) × IsUnderFault fault) }
+    ensures fault { IfErr result IsTextFault }
 {
     match read_trace(alloc, text) {
         Ok(_) => Ok(()),
@@ -50,7 +50,7 @@ fn judge(alloc: Global, text: &[u8]) -> Result<(), TextFault>
 fn bare_lines(alloc: Global, text: &[u8]) -> Result<&[u8], TextFault>
     ensures ok { IfOk result (λ lines. AreLines text.now lines.now) }
     ensures trace { (fault : TraceFault) → result ≡ Err (TextFault.Trace fault) → IsRefusedBare text.now fault }
-    ensures fault { IfErr result (λ fault. (fault ≢ TextFault.Read) × IsUnderFault fault) }
+    ensures fault { IfErr result IsTextFault }
 {
     judge(alloc, text)?;
     match read_header(alloc, text) {
@@ -160,6 +160,26 @@ pub fn convert_text<C: Source, T: Source, K: Sink>(
     convert_under(alloc, head, trace, out)
 }
 
+/// What a fault of reading the volume before comes to: a fault of its text refuses it.
+fn volume_refused(fault: TextFault) -> Result<Converted, TextFault>
+    ensures { result ≡ volume_refused fault }
+{
+    match fault {
+        TextFault::Trace(fault) => Ok(Converted::VolumeRefused(fault)),
+        fault => Err(fault),
+    }
+}
+
+/// The same of the trace.
+fn trace_refused(fault: TextFault) -> Result<Converted, TextFault>
+    ensures { result ≡ trace_refused fault }
+{
+    match fault {
+        TextFault::Trace(fault) => Ok(Converted::TraceRefused(fault)),
+        fault => Err(fault),
+    }
+}
+
 /// Reads a volume and a trace without a head, each to its end, and writes the trace with the head of the volume after
 /// that one: the same calls, with all their bytes. The calls are not made.
 ///
@@ -191,12 +211,10 @@ pub fn convert_after_text<B: Source, T: Source, K: Sink>(
 {
     let head = match read_next_head(alloc, before) {
         Ok(head) => head,
-        Err(TextFault::Trace(fault)) => return Ok(Converted::VolumeRefused(fault)),
-        Err(fault) => return Err(fault),
+        Err(fault) => return volume_refused(fault),
     };
     match convert_under(alloc, head, trace, out) {
         Ok(()) => Ok(Converted::Written),
-        Err(TextFault::Trace(fault)) => Ok(Converted::TraceRefused(fault)),
-        Err(fault) => Err(fault),
+        Err(fault) => trace_refused(fault),
     }
 }

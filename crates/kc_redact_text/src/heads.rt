@@ -7,7 +7,7 @@ ghost use Rattle.kc_config_text.specs.declared.config_text.ConfigTextFault.{Conf
 ghost use Rattle.kc_config_text.specs.ConfigText.{config_in};
 ghost use Rattle.kc_trace.specs.declared.fault.TraceFault.{TraceFault};
 ghost use Rattle.kc_trace.specs.Expected.{position_after};
-ghost use Rattle.kc_trace.specs.Spelling.{line_of, text_of, longest_call};
+ghost use Rattle.kc_trace.specs.Spelling.{line_of, lines_of, text_of, longest_call};
 ghost use Rattle.kc_texts.specs.Ends.{ReadFailed};
 ghost use Rattle.kc_faults.specs.Outcomes.{IsConfigFault};
 ghost use Rattle.kc_redact_text.specs.Reading.{IsReadingFault};
@@ -60,6 +60,16 @@ fn hash_line(hasher: &mut Sha256, line: &mut Vec<u8>, call: &RedactedCall)
     hasher.update(line.as_slice());
 }
 
+/// Hashes the lines of redacted calls. The buffer is overwritten.
+fn hash_lines(hasher: &mut Sha256, line: &mut Vec<u8>, calls: &[RedactedCall])
+    requires { longest_call ≤ vec_capacity line.old }
+    ensures { (bytes : List ℕ) → Holds256 hasher.old bytes → Holds256 hasher.new (bytes ++ lines_of calls.now) }
+{
+    for call in calls {
+        hash_line(hasher, line, call);
+    }
+}
+
 /// The SHA-256 digest of a redacted trace; `Memory` if memory runs out.
 fn digest_of(
     alloc: Global,
@@ -73,9 +83,7 @@ fn digest_of(
     push_header(&mut line, header);
     let mut hasher = Sha256::new();
     hasher.update(line.as_slice());
-    for call in calls {
-        hash_line(&mut hasher, &mut line, call);
-    }
+    hash_lines(&mut hasher, &mut line, calls);
     Ok(hasher.finalize())
 }
 
