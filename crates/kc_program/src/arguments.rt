@@ -24,7 +24,11 @@ const OPTIONS: [(&str, &str, &str); 20] = [
     ("--all", "audit", ""),
     ("--host", "redact", ""),
     ("--after", "convert", ""),
-    ("--explain", "replay", ", live, custody, audit, redact and convert"),
+    (
+        "--explain",
+        "replay",
+        ", live, custody, audit, redact and convert",
+    ),
 ];
 
 /// What may have been meant.

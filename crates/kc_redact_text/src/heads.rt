@@ -24,10 +24,7 @@ use sha2::{Digest, Sha256};
 use std::alloc::Global;
 
 /// Reads the text of a machine to its end, and returns the head of the first volume on it.
-pub(crate) fn read_first_head<C: Source>(
-    alloc: Global,
-    config: &mut C,
-) -> Result<Head, TextFault>
+pub(crate) fn read_first_head<C: Source>(alloc: Global, config: &mut C) -> Result<Head, TextFault>
     requires { C.failed config.old ≡ false }
     ensures ok { IfOk result (λ head. IfSome (C.left config.old) (λ text. IsFirstHead text head)) }
     ensures ended { OnOk result (IsAtEnd (C.left config.new)) }
@@ -71,11 +68,7 @@ fn hash_lines(hasher: &mut Sha256, line: &mut Vec<u8>, calls: &[RedactedCall])
 }
 
 /// The SHA-256 digest of a redacted trace; `Memory` if memory runs out.
-fn digest_of(
-    alloc: Global,
-    header: &Header,
-    calls: &[RedactedCall],
-) -> Result<[u8; 32], Memory>
+fn digest_of(alloc: Global, header: &Header, calls: &[RedactedCall]) -> Result<[u8; 32], Memory>
     // No clause can rule out that memory runs out: tests ask for digests.
     ensures { IfOk result (λ digest. digest ≡ sha256 (text_of header.now calls.now)) }
 {
