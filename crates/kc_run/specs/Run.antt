@@ -133,13 +133,13 @@ pub record RedactsHost (origin : Origin) (start : Seen) (ends : Ends) (ended : E
   pub fault : IfErr ended IsHostRedactFault
 
 -- a conversion of a first volume, over an open file of its machine, ended so
-pub record ConvertsFirst (config : Seen) (ends : Ends) (ended : Ended) : Type 0 where
+pub record ConvertsFirst (machine : Seen) (ends : Ends) (ended : Ended) : Type 0 where
   pub opened : ends.refused ≡ None
-  pub written : OnOk ended (Writes IsFirstVolume config.had ends.input.had ends.out.had ends.out.has)
+  pub written : OnOk ended (Writes IsFirstVolume machine.had ends.input.had ends.out.had ends.out.has)
   pub done : IfOk ended (λ ending. ending ≡ endings.Done)
-  pub sources : TellsSources (config ∷ ends.input ∷ []) ended
-  pub sink : TellsSink ends.out.failed (Begins IsFirstVolume config.had ends.input.had ends.out.had ends.out.has) ends.untouched ended
-  pub config : (fault : ConfigTextFault) → ended ≡ Err (texts.Config fault) → IfSome config.had (λ text. config_in text ≡ Err fault) × IsAtEnd config.has × ends.unread
+  pub sources : TellsSources (machine ∷ ends.input ∷ []) ended
+  pub sink : TellsSink ends.out.failed (Begins IsFirstVolume machine.had ends.input.had ends.out.had ends.out.has) ends.untouched ended
+  pub config : (fault : ConfigTextFault) → ended ≡ Err (texts.Config fault) → IfSome machine.had (λ text. config_in text ≡ Err fault) × IsAtEnd machine.has × ends.unread
   pub trace : (fault : TraceFault) → ended ≡ Err (texts.Trace fault) → IfSome ends.input.had (λ text. IsRefusedBare text fault) × IsAtEnd ends.input.has
   pub fault : IfErr ended IsConvertFault
 
