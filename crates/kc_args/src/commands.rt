@@ -294,7 +294,7 @@ fn convert_command<'a>(alloc: Global) -> Result<Command<'a>, AllocError>
     let command = subcommand(
         alloc,
         "convert",
-        "Write a trace without a head with one: --config for a first volume, --after for a later one",
+        "Write a trace without a head with one, of a first volume or of the one after another",
         "kcore convert [OPTIONS] [FILE]",
         "Examples:\n  kcore convert --config machine.json old1.trace > new1.trace\n  kcore convert --after new1.trace old2.trace > new2.trace",
     );
