@@ -6,7 +6,7 @@ _kcore() {
     [ "$before" != = ] || before=${COMP_WORDS[COMP_CWORD - 2]}
     COMPREPLY=()
     case $before in
-        --config | --from | --to)
+        --config | --from | --to | --after)
             mapfile -t COMPREPLY < <(compgen -f -- "$word")
             compopt -o filenames 2> /dev/null
             return ;;
@@ -15,18 +15,19 @@ _kcore() {
     esac
     local words=
     case $command in
-        '') words='replay live custody audit redact help --help --version' ;;
+        '') words='replay live custody audit redact convert help --help --version' ;;
         replay) words='--config --from --to --workers --lines --dump --state --blank --explain --help' ;;
         live) words='--config --workers --explain --help' ;;
         custody) words='--config --from --vm --summary --svg --html --refused --accesses --unseen --digests --explain --help' ;;
         audit) words='--all --explain --help' ;;
         redact) words='--config --from --host --explain --help' ;;
-        help) [ "$COMP_CWORD" -gt 2 ] || words='replay live custody audit redact help' ;;
+        convert) words='--config --after --explain --help' ;;
+        help) [ "$COMP_CWORD" -gt 2 ] || words='replay live custody audit redact convert help' ;;
     esac
     mapfile -t COMPREPLY < <(compgen -W "$words" -- "$word")
     # The trace or dump that a command reads.
     case $command in
-        replay | live | custody | audit | redact)
+        replay | live | custody | audit | redact | convert)
             [ "${word:0:1}" = - ] && return
             [ "$word" ] && COMPREPLY=()
             mapfile -t -O ${#COMPREPLY[@]} COMPREPLY < <(compgen -f -- "$word")

@@ -3,6 +3,7 @@
 _kcore() {
     local config='--config=[the machine, as JSON]:file:_files'
     local from='--from=[begin in this state]:file:_files'
+    local after='--after=[the volume before, which has a head]:file:_files'
     local to='--to=[compare the state left with this text]:file:_files'
     local workers='--workers=[use up to N threads]:number:({1..64})'
     local lines='--lines[write each call with its reply, as JSON]'
@@ -30,6 +31,7 @@ _kcore() {
         'custody:write what happened to frames and VMs'
         'audit:report what is wrong with a dump'
         'redact:write a trace without what guests wrote'
+        'convert:write a trace with a head'
         'help:print help'
     )
     local curcontext=$curcontext context state state_descr line
@@ -46,6 +48,7 @@ _kcore() {
         custody) _arguments $config $from $vm $summary $svg $html $refused $accesses $unseen $digests $explain $help $files ;;
         audit) _arguments $all $explain $help $file ;;
         redact) _arguments $config $from $host $explain $help $file ;;
+        convert) _arguments $config $after $explain $help $file ;;
         help) (( CURRENT > 2 )) || _describe -t commands command commands ;;
     esac
 }

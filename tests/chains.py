@@ -2,7 +2,8 @@
 
 Its report has to be what the rules say of the whole trace, with the volumes named. The picture has to be that of the
 whole trace, except for its foot. A damaged volume has to be refused by its number, for what is wrong with it. Half of
-the chains have heads; of these a volume that is left out, doubled, exchanged or of another machine is refused."""
+the chains have heads; of these a volume that is left out, doubled, exchanged or of another machine is refused. Volumes without heads are given theirs,
+one after another."""
 import hashlib
 import random
 import re
@@ -176,6 +177,24 @@ class Chain:
         said = " ".join(["custody", *form, "of volumes with a fault"])
         return None if self.ran(rng, *form) == wanted else f"{said}: {wanted[2].strip()}"
 
+    def converted_differs(self, rng, _):
+        """What differs if the volumes come without heads and are given them, or None."""
+        machine, position = self.core.config, rng.choice([heads.Position(1, None), heads.some_position(rng)])
+        before = None
+        for number, new in enumerate(heads.chain_of(rng, machine, position, self.volumes), 1):
+            is_bare = rng.random() < 0.9
+            old = heads.Headed(machine, None, new.lines, rng.choice([None, True])) if is_bare else new
+            start = ["--config", self.path] if before is None else ["--after", before]
+            wanted = 0, new.text(), ""
+            if not is_bare:
+                name = "" if before is None else "volume 2: "
+                wanted = 2, "", f"kcore: {name}trace has a head, and none is expected\n"
+            # (a chain may begin with a later volume, which nothing is known of before it)
+            if (before or position.number == 1) and run(["convert", *start], old.text()) != wanted:
+                return f"volume {number} of {len(self.volumes)}, given a head"
+            before = self.file("converted", new.text())
+        return None
+
     def order_differs(self, rng, _):
         """What differs if the volumes are not those of the chain, or None: one is refused, or they are a chain, too."""
         if self.traces[0].position is None:
@@ -204,7 +223,7 @@ def difference(case, program, told, remarks):
     config, lines = case
     rng = random.Random(f"{config['cut_by']} chain")
     chain = Chain(rng, program, lines, told, remarks)
-    looks = [chain.report_differs] * TRIED + [rng.choice([chain.picture_differs, chain.fault_differs, chain.order_differs])]
+    looks = [chain.report_differs] * TRIED + [rng.choice([chain.picture_differs, chain.fault_differs, chain.order_differs, chain.converted_differs])]
     for look in looks:
         differs = look(rng, config["told_of"])
         if differs:

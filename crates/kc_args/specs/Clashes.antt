@@ -21,9 +21,12 @@ first_option clashes.SvgAccesses = codes "--svg"
 first_option clashes.SummaryHtml = codes "--summary"
 first_option clashes.SvgHtml = codes "--svg"
 first_option clashes.UnseenAccesses = codes "--unseen"
+first_option clashes.ConfigAfter = codes "--config"
+first_option clashes.ConvertAlone = codes "convert"
 
 abbrev pub link_of : Clash → List ℕ
 link_of clashes.BlankAlone = codes "' needs one of '"
+link_of clashes.ConvertAlone = codes "' needs one of '"
 link_of clashes.ConfigAlone = codes "' needs '"
 link_of clashes.FromAlone = codes "' needs '"
 link_of clash = codes "' cannot be used with '"
@@ -46,6 +49,8 @@ other_option clashes.SvgAccesses = codes "--accesses"
 other_option clashes.SummaryHtml = codes "--html"
 other_option clashes.SvgHtml = codes "--html"
 other_option clashes.UnseenAccesses = codes "--accesses"
+other_option clashes.ConfigAfter = codes "--after"
+other_option clashes.ConvertAlone = codes "--config' and '--after"
 
 -- how the command is used: custody alone takes more than one file
 abbrev pub usage_of : Clash → List ℕ
@@ -57,6 +62,8 @@ usage_of clashes.ReplayConfigFrom = codes "replay [OPTIONS] [FILE]"
 usage_of clashes.RedactConfigFrom = codes "redact [OPTIONS] [FILE]"
 usage_of clashes.ConfigAlone = codes "redact [OPTIONS] [FILE]"
 usage_of clashes.FromAlone = codes "redact [OPTIONS] [FILE]"
+usage_of clashes.ConfigAfter = codes "convert [OPTIONS] [FILE]"
+usage_of clashes.ConvertAlone = codes "convert [OPTIONS] [FILE]"
 usage_of clash = codes "custody [OPTIONS] [FILE]..."
 
 -- in the form in which a wrong command line is reported

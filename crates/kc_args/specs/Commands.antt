@@ -67,6 +67,9 @@ audit = ended (with_rule (new_app (codes "audit")) (flag_rule (codes "all"))) fi
 abbrev pub redact : App
 redact = ended (with_rule (with_start (new_app (codes "redact"))) (flag_rule (codes "host"))) file_rule
 
+abbrev pub convert : App
+convert = ended (with_rule (with_rule (new_app (codes "convert")) (path_rule (codes "config"))) (path_rule (codes "after"))) file_rule
+
 -- the command with `replay` alone
 abbrev pub base : App
 base = with_subcommand (on_top (λ s. record s { no_binary_name = true; has_version = true }) (new_app (codes "kcore"))) replay.top
@@ -79,9 +82,13 @@ more = with_subcommand base live.top
 abbrev pub many : App
 many = with_subcommand more custody.top
 
--- the command with all but `redact`
+-- the command with `replay`, `live`, `custody` and `audit`
 abbrev pub most : App
 most = with_subcommand many audit.top
 
+-- the command with all but `convert`
+abbrev pub nearly : App
+nearly = with_subcommand most redact.top
+
 abbrev pub kcore : App
-kcore = with_subcommand most redact.top
+kcore = with_subcommand nearly convert.top

@@ -108,6 +108,13 @@ abbrev pub redact_from_action : Bool → Option Start → Result Action Clash
 redact_from_action host None = Err clashes.RedactConfigFrom
 redact_from_action host (Some start) = redact_action host start
 
+-- which head a trace is given, by `--config` and `--after`: one of them is needed
+abbrev pub convert_action : Option Path → Option Path → Result Action Clash
+convert_action (Some config) None = Ok (actions.Convert config)
+convert_action None (Some volume) = Ok (actions.ConvertAfter volume)
+convert_action (Some config) (Some volume) = Err clashes.ConfigAfter
+convert_action None None = Err clashes.ConvertAlone
+
 -- what these options ask for, or what contradicts itself in them first
 abbrev pub action_of : Options → Result Action Clash
 action_of (options.Replay config from to workers lines dump state blank) = replay_action (replay_form lines dump state) (start_of config from) to blank workers
@@ -116,6 +123,7 @@ action_of (options.Custody config from vm summary svg html refused accesses unse
     custody_action summary svg html (record { refused = refused; accesses = accesses }) unseen digests (start_of config from) vm
 action_of (options.Audit all) = Ok (actions.Audit all)
 action_of (options.Redact config from host) = redact_from_action host (start_of config from)
+action_of (options.Convert config after) = convert_action config after
 
 -- what no subcommand asks for: to replay standard input on one thread and write the replies
 abbrev pub plain_job : Job

@@ -6,7 +6,7 @@ use Rattle.clap.specs.Words.{Text, Row, first_of, one_of, all_of}
 use Rattle.clap.specs.Walk.{byte_or_zero}
 use Rattle.kc_types.specs.Limits.{worker_limit}
 use Rattle.kc_args.specs.declared.options.Options.{Options}
-use Rattle.kc_args.specs.declared.options.Options.TheVariants.{Replay, Live, Custody, Audit, Redact}
+use Rattle.kc_args.specs.declared.options.Options.TheVariants.{Replay, Live, Custody, Audit, Redact, Convert}
 
 -- 1 to 64: the command's rules accept no other number of workers
 abbrev pub in_range : ℕ → ℕ
@@ -53,9 +53,9 @@ files_after rows = files_after_first (all_of (codes "file") rows)
 abbrev pub IsFlag : Text → List Row → Bool → Type 0
 IsFlag flag rows given = IsTrue given ↔ IsSet flag rows
 
--- the options that the subcommand of this name is given, by their rows: there are `replay`, `live`, `custody`, `audit` and `redact` alone
+-- the options that the subcommand of this name is given, by their rows: there are `replay`, `live`, `custody`, `audit`, `redact` and `convert` alone
 abbrev pub AreOptionsIn : Text → List Row → Options → Type 0
-AreOptionsIn name rows (Replay config from to workers lines dump state blank) = (name ≢ codes "live") × (name ≢ codes "custody") × (name ≢ codes "audit") × (name ≢ codes "redact")
+AreOptionsIn name rows (Replay config from to workers lines dump state blank) = (name ≢ codes "live") × (name ≢ codes "custody") × (name ≢ codes "audit") × (name ≢ codes "redact") × (name ≢ codes "convert")
     × HasOptions rows config workers × HasPath (codes "from") rows from × HasPath (codes "to") rows to
     × IsFlag (codes "lines") rows lines × IsFlag (codes "dump") rows dump × IsFlag (codes "state") rows state × IsFlag (codes "blank") rows blank
 AreOptionsIn name rows (Live config workers) = (name ≡ codes "live") × HasOptions rows config workers
@@ -66,3 +66,5 @@ AreOptionsIn name rows (Custody config from vm summary svg html refused accesses
 AreOptionsIn name rows (Audit all) = (name ≡ codes "audit") × IsFlag (codes "all") rows all
 AreOptionsIn name rows (Redact config from host) = (name ≡ codes "redact")
     × HasPath (codes "config") rows config × HasPath (codes "from") rows from × IsFlag (codes "host") rows host
+AreOptionsIn name rows (Convert config after) = (name ≡ codes "convert")
+    × HasPath (codes "config") rows config × HasPath (codes "after") rows after

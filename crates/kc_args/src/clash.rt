@@ -4,7 +4,7 @@ ghost use Rattle.kc_args.specs.Clashes.{first_option, link_of, other_option, usa
 
 use arrayvec::ArrayString;
 
-/// Two options of a command that exclude each other, or one that needs another.
+/// Two options of a command that exclude each other, or one that needs another, or a command that needs one.
 #[derive(Clone, Copy, Debug, PartialEq, Eq)]
 pub enum Clash {
     /// `replay --dump --state`
@@ -41,6 +41,10 @@ pub enum Clash {
     SvgHtml,
     /// `custody --unseen --accesses`
     UnseenAccesses,
+    /// `convert --config PATH --after PATH`
+    ConfigAfter,
+    /// `convert` with neither of these.
+    ConvertAlone,
 }
 
 impl Clash {
@@ -54,7 +58,8 @@ impl Clash {
             Clash::ReplayConfigFrom
             | Clash::CustodyConfigFrom
             | Clash::RedactConfigFrom
-            | Clash::ConfigAlone => "--config",
+            | Clash::ConfigAlone
+            | Clash::ConfigAfter => "--config",
             Clash::SummarySvg
             | Clash::SummaryRefused
             | Clash::SummaryAccesses
@@ -62,6 +67,7 @@ impl Clash {
             Clash::FromAlone => "--from",
             Clash::SvgRefused | Clash::SvgAccesses | Clash::SvgHtml => "--svg",
             Clash::UnseenAccesses => "--unseen",
+            Clash::ConvertAlone => "convert",
         }
     }
 
@@ -69,7 +75,7 @@ impl Clash {
         ensures { result.now ≡ link_of self.now }
     {
         match self {
-            Clash::BlankAlone => "' needs one of '",
+            Clash::BlankAlone | Clash::ConvertAlone => "' needs one of '",
             Clash::ConfigAlone | Clash::FromAlone => "' needs '",
             _ => "' cannot be used with '",
         }
@@ -89,6 +95,8 @@ impl Clash {
             Clash::SummaryRefused | Clash::SvgRefused => "--refused",
             Clash::SummaryAccesses | Clash::SvgAccesses | Clash::UnseenAccesses => "--accesses",
             Clash::SummaryHtml | Clash::SvgHtml => "--html",
+            Clash::ConfigAfter => "--after",
+            Clash::ConvertAlone => "--config' and '--after",
         }
     }
 
@@ -103,6 +111,7 @@ impl Clash {
             | Clash::ReplayConfigFrom => "replay [OPTIONS] [FILE]",
             Clash::RedactConfigFrom | Clash::ConfigAlone | Clash::FromAlone =>
                 "redact [OPTIONS] [FILE]",
+            Clash::ConfigAfter | Clash::ConvertAlone => "convert [OPTIONS] [FILE]",
             _ => "custody [OPTIONS] [FILE]...",
         }
     }

@@ -2,7 +2,7 @@
 ghost use Rattle.std.specs.Prelude.{◌≡◌, IfOk, codes, false};
 ghost use Rattle.clap.specs.declared.builder.command.Command.TheViews.{out-Command as fields_of};
 ghost use Rattle.clap.specs.Words.{app_of, rule_of, new_app, with_rule};
-ghost use Rattle.kc_args.specs.Commands.{kcore, replay, live, custody, audit, redact, with_start, with_outputs, with_forms, with_contents, ended, path_rule, flag_rule, workers_rule, vm_rule, file_rule, files_rule};
+ghost use Rattle.kc_args.specs.Commands.{kcore, replay, live, custody, audit, redact, convert, with_start, with_outputs, with_forms, with_contents, ended, path_rule, flag_rule, workers_rule, vm_rule, file_rule, files_rule};
 
 use clap::{Arg, ArgAction, Command};
 use kc_types::{SLOT_LIMIT, WORKER_LIMIT};
@@ -287,6 +287,24 @@ fn redact_command<'a>(alloc: Global) -> Result<Command<'a>, AllocError>
     ended(alloc, command, file_arg(alloc, TRACE_HELP))
 }
 
+fn convert_command<'a>(alloc: Global) -> Result<Command<'a>, AllocError>
+    ensures app { IfOk result (λ c. app_of c ≡ convert) }
+    ensures local { IfOk result (λ c. (fields_of c).has_globals ≡ false) }
+{
+    let command = subcommand(
+        alloc,
+        "convert",
+        "Write a trace without a head with one, of a first volume or of the one after another",
+        "kcore convert [OPTIONS] [FILE]",
+        "Examples:\n  kcore convert --config machine.json old1.trace > new1.trace\n  kcore convert --after new1.trace old2.trace > new2.trace",
+    );
+    let help = "The head is that of the first volume on the machine of this text";
+    let command = with_own(command, path_arg(alloc, "config", help))?;
+    let help = "The head is that of the volume after this one, which has a head";
+    let command = with_own(command, path_arg(alloc, "after", help))?;
+    ended(alloc, command, file_arg(alloc, TRACE_HELP))
+}
+
 /// Makes the whole command.
 pub fn command<'a>(alloc: Global) -> Result<Command<'a>, AllocError>
     ensures app { IfOk result (λ c. app_of c ≡ kcore) }
@@ -296,6 +314,7 @@ pub fn command<'a>(alloc: Global) -> Result<Command<'a>, AllocError>
     let custody = custody_command(alloc)?;
     let audit = audit_command(alloc)?;
     let redact = redact_command(alloc)?;
+    let convert = convert_command(alloc)?;
     let base = Command::new(alloc, "kcore")
         .no_binary_name(true)
         .version(VERSION)
@@ -305,5 +324,6 @@ pub fn command<'a>(alloc: Global) -> Result<Command<'a>, AllocError>
     base.subcommand(live)?
         .subcommand(custody)?
         .subcommand(audit)?
-        .subcommand(redact)
+        .subcommand(redact)?
+        .subcommand(convert)
 }

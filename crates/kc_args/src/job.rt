@@ -47,6 +47,14 @@ pub enum Action<'a> {
     RedactHost {
         start: Start<'a>,
     },
+    /// Write the trace with the head of the first volume on the machine in this file.
+    Convert {
+        config: &'a str,
+    },
+    /// Write the trace with the head of the volume after the one in this file.
+    ConvertAfter {
+        volume: &'a str,
+    },
 }
 
 /// What the program is asked to do.

@@ -1,6 +1,6 @@
 //! What options ask for, unless they contradict each other.
 ghost use Rattle.std.specs.Prelude.{◌≡◌};
-ghost use Rattle.kc_args.specs.Jobs.{start_of, replay_form, is_alone, summary_of, picture_of, custody_form, named_by, redact_action, action_of};
+ghost use Rattle.kc_args.specs.Jobs.{start_of, replay_form, is_alone, summary_of, picture_of, custody_form, named_by, redact_action, convert_action, action_of};
 
 use crate::clash::Clash;
 use crate::job::{Action, Start};
@@ -109,6 +109,18 @@ fn redact_action<'a>(host: bool, start: Start<'a>) -> Result<Action<'a>, Clash>
     }
 }
 
+/// Which head a trace is given, by `--config` and `--after`: one of them is needed.
+fn convert_action<'a>(config: Option<&'a str>, after: Option<&'a str>) -> Result<Action<'a>, Clash>
+    ensures { result ≡ convert_action config.entry after.entry }
+{
+    match (config, after) {
+        (Some(config), None) => Ok(Action::Convert { config }),
+        (None, Some(volume)) => Ok(Action::ConvertAfter { volume }),
+        (Some(_), Some(_)) => Err(Clash::ConfigAfter),
+        (None, None) => Err(Clash::ConvertAlone),
+    }
+}
+
 /// What these options ask for, or what contradicts itself in them first.
 pub(crate) fn action_of<'a>(options: Options<'a>) -> Result<Action<'a>, Clash>
     ensures { result ≡ action_of options.entry }
@@ -174,5 +186,6 @@ pub(crate) fn action_of<'a>(options: Options<'a>) -> Result<Action<'a>, Clash>
             };
             redact_action(host, start)
         },
+        Options::Convert { config, after } => convert_action(config, after),
     }
 }

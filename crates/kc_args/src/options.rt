@@ -44,6 +44,10 @@ pub(crate) enum Options<'a> {
         from: Option<&'a str>,
         host: bool,
     },
+    Convert {
+        config: Option<&'a str>,
+        after: Option<&'a str>,
+    },
 }
 
 /// The first text of an option, if it has one.
@@ -155,6 +159,12 @@ pub(crate) fn options_in<'a>(name: &str, found: &ArgMatches<'a>) -> Options<'a>
         };
     }
     let config = text_in(found, "config");
+    if is_named(name, "convert") {
+        return Options::Convert {
+            config,
+            after: text_in(found, "after"),
+        };
+    }
     if is_named(name, "redact") {
         return Options::Redact {
             config,

@@ -43,19 +43,21 @@ next_is (Later number after) digest is more whole = (omega (arith, is.0), ltb-tr
 pub next_may : (header : Header) (digest : List ℕ) → MayRecord header → IsDigest digest → MayRecord (next_header header digest)
 next_may One digest may whole = absurd may
 next_may Two digest may whole = tt
-next_may (Three head) digest may whole = by_number _ refl
+next_may (Three head) digest may whole = by_flag head.is_host_redacted _ refl
   where
-    by_number : (fits : Bool) → nat_lt (number_of head.position + 1) (2 ^ 32) ≡ fits → MayRecord (header_at head.config (if fits then Some (Later (number_of head.position + 1) digest) else None))
-    by_number false is = tt
-    by_number true is = record { config = may.config; digests = may.digests; position = next_is head.position digest may.position is whole }
+    by_flag : (flag fits : Bool) → nat_lt (number_of head.position + 1) (2 ^ 32) ≡ fits
+        → MayRecord (header_at head.config (if flag then None else (if fits then Some (Later (number_of head.position + 1) digest) else None)))
+    by_flag true fits is = tt
+    by_flag false false is = tt
+    by_flag false true is = record { config = may.config; digests = may.digests; position = next_is head.position digest may.position is whole }
 
 -- ---- the header of a volume, by its number
 
-pub head_first : (config : Configuration) → IsConfiguration config → AllByRecursion IsDigest config.approved → IsHead (record { config = config; position = First })
+pub head_first : (config : Configuration) → IsConfiguration config → AllByRecursion IsDigest config.approved → IsHead (record { config = config; position = First; is_host_redacted = false })
 head_first config is digests = record { config = is; digests = digests; position = tt }
 
 pub header_first : (config : Configuration) → IsConfiguration config → AllByRecursion IsDigest config.approved → IsHeaderOf 0 config (header_at config (Some First))
-header_first config is digests = (head_first config is digests, refl, refl)
+header_first config is digests = (head_first config is digests, refl, refl, refl)
 
 pub header_may : (number : ℕ) (config : Configuration) (header : Header) → IsHeaderOf number config header → MayRecord header
 header_may number config One is = absurd is
@@ -65,17 +67,19 @@ header_may number config (Three head) is = is.0
 pub header_next : (number : ℕ) (config : Configuration) (header : Header) (digest : List ℕ) → IsHeaderOf number config header → IsDigest digest → IsHeaderOf (number_after number) config (next_header header digest)
 header_next number config One digest is whole = absurd is
 header_next number config Two digest is whole = omega (arith, is)
-header_next number config (Three head) digest is whole = by_number _ refl
+header_next number config (Three head) digest is whole = by_flag head.is_host_redacted _ is.3 refl
   where
-    by_number : (fits : Bool) → nat_lt (number_of head.position + 1) (2 ^ 32) ≡ fits
-        → IsHeaderOf (number_after number) config (header_at head.config (if fits then Some (Later (number_of head.position + 1) digest) else None))
-    by_number false is_last = let last = ltb-false (number_of head.position + 1) (2 ^ 32) is_last in let number_is = is.2 in omega (arith, last, number_is)
-    by_number true is_more =
+    by_flag : (flag fits : Bool) → flag ≡ false → nat_lt (number_of head.position + 1) (2 ^ 32) ≡ fits
+        → IsHeaderOf (number_after number) config (header_at head.config (if flag then None else (if fits then Some (Later (number_of head.position + 1) digest) else None)))
+    by_flag true fits never is_more = absurd cc
+    by_flag false false same is_last = let last = ltb-false (number_of head.position + 1) (2 ^ 32) is_last in let number_is = is.2 in omega (arith, last, number_is)
+    by_flag false true same is_more =
         let more = ltb-true (number_of head.position + 1) (2 ^ 32) is_more in
         let number_is = is.2 in (
           record { config = is.0.config; digests = is.0.digests; position = next_is head.position digest is.0.position is_more whole },
           is.1,
           omega (arith, more, number_is),
+          refl,
         )
 
 -- ---- a machine has no fault

@@ -1,5 +1,5 @@
 -- What a book keeps: the calls of one volume of a core's life, with their replies, and the header of the volume's trace.
-use Rattle.std.specs.Prelude.{◌≡◌, ◌≤◌, ℕ, ◌+◌, ◌-◌, ◌^◌, min, List, [], ◌∷◌, ◌++◌, Option, Some, None, length, map}
+use Rattle.std.specs.Prelude.{◌≡◌, ◌≤◌, ℕ, false, ◌+◌, ◌-◌, ◌^◌, min, List, [], ◌∷◌, ◌++◌, Option, Some, None, length, map}
 use Rattle.kc_types.specs.Configuration.{Configuration}
 use Rattle.kc_types.specs.Limits.{call_limit}
 use Rattle.kc_types.specs.declared.call.Call.{Call}
@@ -65,11 +65,11 @@ pub record MayStart (number : ℕ) (start : State) : Type 0 where
   pub leads : start ≡ state_after (boot config) before
   pub first : number ≡ 0 → before ≡ []
 
--- the header of the volume of this number on this machine: a head with the machine and the number, which heads count from 1; no head, only if 32 bits do not hold that number
+-- the header of the volume of this number on this machine, whose trace has all that the host wrote: a head with the machine and the number, which heads count from 1; no head, only if 32 bits do not hold that number
 abbrev pub IsHeaderOf : ℕ → Configuration → Header → Type 0
 IsHeaderOf number config One = ⊥
 IsHeaderOf number config Two = 2 ^ 32 ≤ number + 1
-IsHeaderOf number config (Three head) = IsHead head × (head.config ≡ config) × (number_of head.position ≡ number + 1)
+IsHeaderOf number config (Three head) = IsHead head × (head.config ≡ config) × (number_of head.position ≡ number + 1) × (head.is_host_redacted ≡ false)
 
 -- one thread could have made the volume, from a state in which it may start, and its header is that of its machine and number
 pub record IsLegal (v : VolumeView) : Type 0 where

@@ -108,6 +108,7 @@ pub(crate) fn header_in(room: Vec<[u8; 32]>, header: &Header) -> Header
         Header::Three(head) => Header::Three(Head {
             config: config_in(room, &head.config),
             position: head.position,
+            is_host_redacted: head.is_host_redacted,
         }),
     }
 }

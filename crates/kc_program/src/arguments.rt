@@ -4,8 +4,8 @@ use std::fmt;
 use std::fs::metadata;
 
 /// Each option, the first command that has it, and the others.
-const OPTIONS: [(&str, &str, &str); 19] = [
-    ("--config", "replay", ", live, custody and redact"),
+const OPTIONS: [(&str, &str, &str); 20] = [
+    ("--config", "replay", ", live, custody, redact and convert"),
     ("--from", "replay", ", custody and redact"),
     ("--to", "replay", ""),
     ("--workers", "replay", " and live"),
@@ -23,7 +23,12 @@ const OPTIONS: [(&str, &str, &str); 19] = [
     ("--digests", "custody", ""),
     ("--all", "audit", ""),
     ("--host", "redact", ""),
-    ("--explain", "replay", ", live, custody, audit and redact"),
+    ("--after", "convert", ""),
+    (
+        "--explain",
+        "replay",
+        ", live, custody, audit, redact and convert",
+    ),
 ];
 
 /// What may have been meant.

@@ -7,6 +7,8 @@ pub enum Kind {
     Trace,
     /// A trace that is a volume after the input.
     Volume,
+    /// A trace that is the volume before the input.
+    Before,
     Dump,
     Config,
     /// A state in which calls begin.
@@ -19,7 +21,7 @@ impl Kind {
     /// The kind's name.
     pub fn word(self) -> &'static str {
         match self {
-            Kind::Trace | Kind::Volume => "trace",
+            Kind::Trace | Kind::Volume | Kind::Before => "trace",
             Kind::Dump => "dump",
             Kind::Config => "configuration",
             Kind::State | Kind::Compared => "state",
@@ -30,7 +32,7 @@ impl Kind {
     pub fn is_input(self) -> bool {
         match self {
             Kind::Trace | Kind::Dump => true,
-            Kind::Volume | Kind::Config | Kind::State | Kind::Compared => false,
+            Kind::Volume | Kind::Before | Kind::Config | Kind::State | Kind::Compared => false,
         }
     }
 
@@ -38,11 +40,20 @@ impl Kind {
     /// 65,536 frames has about 8 MB.
     pub fn kept(self) -> usize {
         match self {
-            Kind::Trace | Kind::Volume | Kind::State => 64,
+            Kind::Trace | Kind::Volume | Kind::Before | Kind::State => 64,
             Kind::Dump => 16_777_216,
             Kind::Config => 65_536,
             Kind::Compared => 0,
         }
+    }
+}
+
+/// What a start is, if a file is named for it.
+fn kind_of_start(start: Start<'_>) -> Option<Kind> {
+    match start {
+        Start::Boot(None) => None,
+        Start::Boot(Some(_)) => Some(Kind::Config),
+        Start::State(_) => Some(Kind::State),
     }
 }
 
@@ -54,7 +65,8 @@ pub struct Asked<'a> {
     input: Option<&'a str>,
     /// The files of the volumes after the input.
     after: &'a [&'a str],
-    start: Start<'a>,
+    /// What the file is from which the calls go on, if one is named.
+    start: Option<Kind>,
     pub explain: bool,
 }
 
@@ -64,10 +76,12 @@ impl<'a> Asked<'a> {
         let (kind, start) = match job.action {
             Action::Replay { start, .. }
             | Action::Custody { start, .. }
-            | Action::RedactHost { start } => (Kind::Trace, start),
-            Action::Live { config, .. } => (Kind::Trace, Start::Boot(config)),
-            Action::Redact => (Kind::Trace, Start::Boot(None)),
-            Action::Audit { .. } => (Kind::Dump, Start::Boot(None)),
+            | Action::RedactHost { start } => (Kind::Trace, kind_of_start(start)),
+            Action::Live { config, .. } => (Kind::Trace, kind_of_start(Start::Boot(config))),
+            Action::Convert { .. } => (Kind::Trace, Some(Kind::Config)),
+            Action::ConvertAfter { .. } => (Kind::Trace, Some(Kind::Before)),
+            Action::Redact => (Kind::Trace, None),
+            Action::Audit { .. } => (Kind::Dump, None),
         };
         Asked {
             kind,
@@ -80,7 +94,7 @@ impl<'a> Asked<'a> {
 
     /// Whether no file is named for what calls begin with.
     pub fn is_unnamed(&self) -> bool {
-        self.start == Start::Boot(None)
+        self.start.is_none()
     }
 
     /// What the next file is to the job once this many were opened: the input comes first, if it is named, then what
@@ -90,10 +104,8 @@ impl<'a> Asked<'a> {
         if opened < before_start {
             return self.kind;
         }
-        let is_start = opened == before_start;
         match self.start {
-            Start::Boot(Some(_)) if is_start => Kind::Config,
-            Start::State(_) if is_start => Kind::State,
+            Some(kind) if opened == before_start => kind,
             _ if self.after.is_empty() => Kind::Compared,
             _ => Kind::Volume,
         }

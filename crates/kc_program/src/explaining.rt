@@ -47,13 +47,13 @@ fn misplacing(fault: &HeaderFault) -> &'static str {
             "its head says that it is a later volume: it goes on --from the state that the one before it left"
         },
         HeaderFault::Number | HeaderFault::Digest => {
-            "its head says after which volume it comes, and that is not the one before it"
+            "its head says after which volume it comes, and that is not the one before it; or, of the volume before a trace that is converted, it has the last number"
         },
         HeaderFault::Missing => {
-            "it has no head, which would say its machine and where it comes: one is needed if what is before it has one, and for redact --host without --config and --from"
+            "it has no head, which would say its machine and where it comes: one is needed if what is before it has one, for redact --host without --config and --from, and in the volume that convert --after names"
         },
         HeaderFault::Unexpected => {
-            "it has header 3, which says where it comes, and what is before it does not say where it ends"
+            "it has header 3, which says where it comes, and what is before it does not say where it ends; convert gives a head to a trace that has none"
         },
     }
 }
@@ -194,11 +194,13 @@ impl<'a> Reading<'a> {
     ) -> Reading<'a> {
         let files = files.read.as_slice();
         let is_after = volume.unwrap_or(1) > 1;
+        let is_second = files.iter().any(|file| file.kind == Kind::Before);
         let input = files
             .iter()
             .find(|file| match file.kind {
+                Kind::Before => volume == Some(1),
                 Kind::Volume => is_after,
-                kind => kind.is_input() && !is_after,
+                kind => kind.is_input() && (is_second || !is_after),
             })
             .unwrap_or(standard);
         Reading {

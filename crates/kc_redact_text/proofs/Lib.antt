@@ -3,3 +3,4 @@ pub mod Whole
 pub mod Taken
 pub mod Given
 pub mod Placed
+pub mod Converts

@@ -1,3 +1,4 @@
+pub mod Converts
 pub mod Kept
 pub mod Made
 pub mod Reading

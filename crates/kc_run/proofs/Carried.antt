@@ -6,6 +6,8 @@ use Rattle.kc_types.specs.Limits.{worker_limit}
 use Rattle.kc_trace.specs.declared.fault.TraceFault.{TraceFault}
 use Rattle.kc_trace.specs.Trace.{IsRefused}
 use Rattle.kc_remarks.specs.declared.denials.Answered.{Answered}
+use Rattle.kc_config_text.specs.declared.config_text.ConfigTextFault.{ConfigTextFault}
+use Rattle.kc_config_text.specs.ConfigText.{config_in}
 use Rattle.kc_dump_text.specs.declared.fault.DumpFault.{DumpFault}
 use Rattle.kc_dump_text.specs.Refused.{IsRefusedDump}
 use Rattle.kc_faults.specs.declared.origin.Origin.{Origin}
@@ -13,21 +15,23 @@ use Rattle.kc_faults.specs.declared.origin.Origin.TheVariants as origins
 use Rattle.kc_faults.specs.declared.fault.TextFault.{TextFault}
 use Rattle.kc_faults.specs.declared.fault.TextFault.TheVariants as texts
 use Rattle.kc_cli.specs.Audit.{Audits, BeginsAudit, IsDumpFault}
-use Rattle.kc_texts.specs.Ends.{Seen}
+use Rattle.kc_texts.specs.Ends.{Seen, HasFailedRead, HasFailed}
 use Rattle.kc_faults.specs.Outcomes.{TellsSources, TellsTexts, TellsReplay, TellsSink}
 use Rattle.kc_texts.specs.Written.{Writes, Begins}
 use Rattle.kc_faults.proofs.Told.{sources_after, texts_after, replay_after, sources_err, texts_err, replay_err}
 use Rattle.kc_cli.proofs.Sources.{sink_ok}
 use Rattle.kc_redact_text.specs.Redacts.{Redacts, BeginsRedaction, IsRedactFault, IsHostRedacted, IsHostRedactFault}
+use Rattle.kc_redact_text.specs.declared.convert.Converted.{Converted}
+use Rattle.kc_redact_text.specs.Converts.{IsFirstVolume, IsNextVolume, IsRefusedBare, IsConversion, IsSystemFault, IsConvertFault}
 use Rattle.kc_cli.specs.declared.order.ReplayForm.{ReplayForm}
 use Rattle.kc_cli.specs.declared.replaying.Compared.{Compared}
 use Rattle.kc_cli.specs.Engine.{IsReplayText, DiffersFromLeft}
 use Rattle.kc_cli.specs.Answers.{AreAnswered}
 use Rattle.kc_cli.specs.Live.{IsLiveText, CouldRun, HasBadActor}
 use Rattle.kc_run.specs.declared.ending.Ending.TheVariants as endings
-use Rattle.kc_run.specs.Endings.{done_as, answered_as, compared_by, compared_as, judged_as}
+use Rattle.kc_run.specs.Endings.{done_as, answered_as, compared_by, compared_as, judged_as, ending_converted, converted_as}
 use Rattle.kc_run.specs.Ends.{Ends}
-use Rattle.kc_run.specs.Run.{IsAnswered, IsCompared, Replays, RunsLive, AuditsDump, RedactsTrace, RedactsHost}
+use Rattle.kc_run.specs.Run.{IsAnswered, IsCompared, Replays, RunsLive, AuditsDump, RedactsTrace, RedactsHost, ConvertsFirst, ConvertsAfter}
 
 pub sink_err : {A B : Type 0} (failed : Bool) (begun untouched : Type 0) (f : TextFault) → TellsSink {A = A} failed begun untouched (Err f) → TellsSink {A = B} failed begun untouched (Err f)
 sink_err {A} {B} failed begun untouched f h = record {
@@ -202,6 +206,51 @@ redacts_host origin start ends (Err f) opened counted written sources told sink 
   answered = tt;
   sources = sources_err _ f sources;
   told = texts_err _ _ _ _ f told;
+  sink = sink_err _ _ _ f sink;
+  fault = fault;
+}
+
+pub converts_first : {A : Type 0} (config : Seen) (ends : Ends) (r : Result A TextFault) → ends.refused ≡ None → OnOk r (Writes IsFirstVolume config.had ends.input.had ends.out.had ends.out.has) → TellsSources (config ∷ ends.input ∷ []) r
+    → TellsSink ends.out.failed (Begins IsFirstVolume config.had ends.input.had ends.out.had ends.out.has) ends.untouched r
+    → ((fault : ConfigTextFault) → r ≡ Err (texts.Config fault) → IfSome config.had (λ text. config_in text ≡ Err fault) × IsAtEnd config.has × ends.unread)
+    → ((fault : TraceFault) → r ≡ Err (texts.Trace fault) → IfSome ends.input.had (λ text. IsRefusedBare text fault) × IsAtEnd ends.input.has) → IfErr r IsConvertFault → ConvertsFirst config ends (done_as r)
+converts_first config ends (Ok x) opened written sources sink machine trace fault = record {
+  opened = opened;
+  written = written;
+  done = refl;
+  sources = sources_after _ x (Ok endings.Done) sources tt;
+  sink = sink_ok _ _ _ x endings.Done sink;
+  config = λ said e. absurd cc;
+  trace = λ said e. absurd cc;
+  fault = tt;
+}
+converts_first config ends (Err f) opened written sources sink machine trace fault = record {
+  opened = opened;
+  written = tt;
+  done = tt;
+  sources = sources_err _ f sources;
+  sink = sink_err _ _ _ f sink;
+  config = λ said e. machine said (let same : f ≡ texts.Config said = cc in cc);
+  trace = λ said e. trace said (let same : f ≡ texts.Trace said = cc in cc);
+  fault = fault;
+}
+
+pub converts_after : (before : Seen) (ends : Ends) (r : Result Converted TextFault) → ends.refused ≡ None → IfOk r (IsConversion before ends.input ends.out.had ends.out.has ends.unread ends.untouched)
+    → (r ≡ Err texts.Read → HasFailedRead (before ∷ ends.input ∷ [])) → (HasFailed (before ∷ ends.input ∷ []) → r ≡ Err texts.Read)
+    → TellsSink ends.out.failed (Begins IsNextVolume before.had ends.input.had ends.out.had ends.out.has) ends.untouched r → IfErr r IsSystemFault → ConvertsAfter before ends (converted_as r)
+converts_after before ends (Ok converted) opened made read failed sink fault = record {
+  opened = opened;
+  ending = (converted, refl, made);
+  read = λ e. absurd cc;
+  failed = λ bad. (let e = failed bad in absurd cc);
+  sink = sink_ok _ _ _ converted (ending_converted converted) sink;
+  fault = tt;
+}
+converts_after before ends (Err f) opened made read failed sink fault = record {
+  opened = opened;
+  ending = tt;
+  read = λ e. read (let same : f ≡ texts.Read = cc in cc);
+  failed = λ bad. (let e = failed bad in let same : f ≡ texts.Read = cc in cc);
   sink = sink_err _ _ _ f sink;
   fault = fault;
 }

@@ -9,6 +9,8 @@ use Rattle.kc_faults.specs.declared.fault.TextFault.{TextFault}
 use Rattle.kc_faults.specs.declared.fault.TextFault.TheVariants as texts
 use Rattle.kc_faults.specs.Faults.{status_of, fault_line, volume_fault_line}
 use Rattle.kc_cli.specs.declared.replaying.Compared.{Compared}
+use Rattle.kc_redact_text.specs.declared.convert.Converted.{Converted}
+use Rattle.kc_redact_text.specs.declared.convert.Converted.TheVariants as conversions
 use Rattle.kc_run.specs.declared.ending.Ending.{Ending}
 use Rattle.kc_run.specs.declared.ending.Ending.TheVariants as endings
 
@@ -44,6 +46,16 @@ judged_as (Err fault) other = Err fault
 abbrev pub answered_as : Result Answered TextFault → Ended
 answered_as (Ok answered) = Ok (endings.Answered answered)
 answered_as (Err fault) = Err fault
+
+-- the ending of a conversion after a volume, which is the first of two volumes; the trace is the second
+abbrev pub ending_converted : Converted → Ending
+ending_converted conversions.Written = endings.Done
+ending_converted (conversions.VolumeRefused fault) = endings.Refused 1 fault
+ending_converted (conversions.TraceRefused fault) = endings.Refused 2 fault
+
+abbrev pub converted_as : Result Converted TextFault → Ended
+converted_as (Ok converted) = Ok (ending_converted converted)
+converted_as (Err fault) = Err fault
 
 -- the exit status: 0 if all is as it was asked, 1 if the state differs or something is found in the dump, and otherwise
 -- that of the fault, or of the volume's fault

@@ -4,6 +4,8 @@ use Rattle.std.specs.Io.KnownBytes.{Keeps, IsAtEnd}
 use Rattle.kc_types.specs.Limits.{worker_limit}
 use Rattle.kc_args.specs.declared.job.Job.{Job}
 use Rattle.kc_remarks.specs.declared.denials.Answered.{Answered}
+use Rattle.kc_config_text.specs.declared.config_text.ConfigTextFault.{ConfigTextFault}
+use Rattle.kc_config_text.specs.ConfigText.{config_in}
 use Rattle.kc_dump_text.specs.declared.fault.DumpFault.{DumpFault}
 use Rattle.kc_dump_text.specs.Refused.{IsRefusedDump}
 use Rattle.kc_trace.specs.declared.fault.TraceFault.{TraceFault}
@@ -16,10 +18,12 @@ use Rattle.kc_faults.specs.declared.origin.Origin.TheVariants as origins
 use Rattle.kc_faults.specs.declared.fault.TextFault.{TextFault}
 use Rattle.kc_faults.specs.declared.fault.TextFault.TheVariants as texts
 use Rattle.kc_cli.specs.Audit.{Audits, BeginsAudit, IsDumpFault}
-use Rattle.kc_texts.specs.Ends.{Seen, seen}
+use Rattle.kc_texts.specs.Ends.{Seen, HasFailedRead, HasFailed, seen}
 use Rattle.kc_faults.specs.Outcomes.{TellsSources, TellsTexts, TellsReplay, TellsSink}
 use Rattle.kc_texts.specs.Written.{Writes, Begins}
 use Rattle.kc_redact_text.specs.Redacts.{Redacts, BeginsRedaction, IsRedactFault, IsHostRedacted, IsHostRedactFault}
+use Rattle.kc_redact_text.specs.declared.convert.Converted.{Converted}
+use Rattle.kc_redact_text.specs.Converts.{IsFirstVolume, IsNextVolume, IsRefusedBare, IsConversion, IsSystemFault, IsConvertFault}
 use Rattle.kc_cli.specs.declared.order.ReplayForm.{ReplayForm}
 use Rattle.kc_cli.specs.Engine.{IsReplayText, DiffersFromLeft}
 use Rattle.kc_cli.specs.Answers.{AreAnswered}
@@ -32,7 +36,7 @@ use Rattle.kc_run.specs.declared.ending.Ending.TheVariants as endings
 use Rattle.kc_run.specs.Opening.{IsHeaderOf, IsUnnamed, HoldsStart, IsUnseenFault, IsOfFile, IsOpenFault}
 use Rattle.kc_run.specs.Ends.{Ends, ends_of}
 use Rattle.kc_run.specs.Custody.{ReportsCustody}
-use Rattle.kc_run.specs.Endings.{Ended, Took, status_after, fault_in, answered_in, difference_in, volume_in, IsReported}
+use Rattle.kc_run.specs.Endings.{Ended, Took, ending_converted, status_after, fault_in, answered_in, difference_in, volume_in, IsReported}
 
 -- a file is not open, and so nothing was read of standard input, and nothing written
 pub record IsUnopened (path : Path) (ends : Ends) (ended : Ended) : Type 0 where
@@ -128,6 +132,28 @@ pub record RedactsHost (origin : Origin) (start : Seen) (ends : Ends) (ended : E
   pub sink : TellsSink ends.out.failed (Begins (IsHostRedacted origin) start.had ends.input.had ends.out.had ends.out.has) ends.untouched ended
   pub fault : IfErr ended IsHostRedactFault
 
+-- a conversion of a first volume, over an open file of its machine, ended so
+pub record ConvertsFirst (machine : Seen) (ends : Ends) (ended : Ended) : Type 0 where
+  pub opened : ends.refused ≡ None
+  pub written : OnOk ended (Writes IsFirstVolume machine.had ends.input.had ends.out.had ends.out.has)
+  pub done : IfOk ended (λ ending. ending ≡ endings.Done)
+  pub sources : TellsSources (machine ∷ ends.input ∷ []) ended
+  pub sink : TellsSink ends.out.failed (Begins IsFirstVolume machine.had ends.input.had ends.out.had ends.out.has) ends.untouched ended
+  pub config : (fault : ConfigTextFault) → ended ≡ Err (texts.Config fault) → IfSome machine.had (λ text. config_in text ≡ Err fault) × IsAtEnd machine.has × ends.unread
+  pub trace : (fault : TraceFault) → ended ≡ Err (texts.Trace fault) → IfSome ends.input.had (λ text. IsRefusedBare text fault) × IsAtEnd ends.input.has
+  pub fault : IfErr ended IsConvertFault
+
+-- a conversion of a later volume, over an open file of the one before it, ended so
+pub record ConvertsAfter (before : Seen) (ends : Ends) (ended : Ended) : Type 0 where
+  pub opened : ends.refused ≡ None
+  -- one of the two is refused, with its number, or the trace is written
+  pub ending : IfOk ended
+      (λ ending. (converted : Converted) × (ending ≡ ending_converted converted) × IsConversion before ends.input ends.out.had ends.out.has ends.unread ends.untouched converted)
+  pub read : ended ≡ Err texts.Read → HasFailedRead (before ∷ ends.input ∷ [])
+  pub failed : HasFailed (before ∷ ends.input ∷ []) → ended ≡ Err texts.Read
+  pub sink : TellsSink ends.out.failed (Begins IsNextVolume before.had ends.input.had ends.out.had ends.out.has) ends.untouched ended
+  pub fault : IfErr ended IsSystemFault
+
 -- it could not be seen whether the trace has a head, and so nothing was written
 pub record IsUnseen (ends : Ends) (ended : Ended) : Type 0 where
   pub fault : TextFault
@@ -172,6 +198,8 @@ IsEnding left failed (actions.Custody start form scope) after ends ended = Begin
 IsEnding left failed (actions.Audit all) after ends ended = AuditsDump all ends ended
 IsEnding left failed actions.Redact after ends ended = RedactsTrace ends ended
 IsEnding left failed (actions.RedactHost start) after ends ended = RedactsHostAt left failed (path_of start) (origin_at start) ends ended
+IsEnding left failed (actions.Convert config) after ends ended = OverFile left failed config ConvertsFirst ends ended
+IsEnding left failed (actions.ConvertAfter volume) after ends ended = OverFile left failed volume ConvertsAfter ends ended
 
 -- how an action ended over the file that is named, by all the bytes that it held; `left` and `failed` say of a file what is left of it, and whether a read of it failed. Nothing was read of standard input
 pub record ReadsFile {S : Type 0} (left : S → Option (List ℕ)) (failed : S → Bool) (path : Path) (action : Action) (after : List Path) (ends : Ends) (ended : Ended) : Type 0 where

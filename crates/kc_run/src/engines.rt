@@ -3,9 +3,9 @@ ghost use Rattle.std.specs.Prelude.{◌≡◌, false, None};
 ghost use Rattle.kc_texts.specs.Ends.{seen};
 ghost use Rattle.kc_args.specs.Jobs.{origin_at, path_of};
 ghost use Rattle.kc_run.specs.Opening.{Held};
-ghost use Rattle.kc_run.specs.Endings.{took, done_as, answered_as, compared_as, ending_of, judged_as};
+ghost use Rattle.kc_run.specs.Endings.{took, done_as, answered_as, compared_as, converted_as, ending_of, judged_as};
 ghost use Rattle.kc_run.specs.Ends.{ends_of};
-ghost use Rattle.kc_run.specs.Run.{BeginsAt, ReplaysTo, RunsLive, AuditsDump, RedactsTrace, RedactsHostAt};
+ghost use Rattle.kc_run.specs.Run.{BeginsAt, ReplaysTo, RunsLive, AuditsDump, RedactsTrace, RedactsHostAt, ConvertsFirst, ConvertsAfter, OverFile};
 
 use crate::beginning::{StartText, header_text, open, unnamed_text};
 use crate::ending::Ending;
@@ -15,7 +15,7 @@ use kc_cli::{
     Answered, Compared, Headed, Lanes, ReplayOrder, Sink, Source, TextFault, audit_text, live_text,
     replay_text, replay_to_text,
 };
-use kc_redact_text::{redact_host_text, redact_text};
+use kc_redact_text::{Converted, convert_after_text, convert_text, redact_host_text, redact_text};
 use kc_replay::OpenGate;
 use kc_trace::{HeaderFault, TraceFault};
 use std::alloc::Global;
@@ -63,6 +63,18 @@ fn compared(answer: Result<Compared, TextFault>) -> Result<Ending, TextFault>
             }),
             None => Ok(Ending::Answered(made.answered)),
         },
+        Err(fault) => Err(fault),
+    }
+}
+
+/// The ending of a conversion after a volume: that volume is the first of two, and the trace the second.
+fn converted(answer: Result<Converted, TextFault>) -> Result<Ending, TextFault>
+    ensures { result ≡ converted_as answer }
+{
+    match answer {
+        Ok(Converted::Written) => Ok(Ending::Done),
+        Ok(Converted::VolumeRefused(fault)) => Ok(Ending::Refused { volume: 1, fault }),
+        Ok(Converted::TraceRefused(fault)) => Ok(Ending::Refused { volume: 2, fault }),
         Err(fault) => Err(fault),
     }
 }
@@ -245,4 +257,48 @@ pub(crate) fn redact_host<F: Files, T: Headed, K: Sink, R: Threads + Wait + Sync
     let answer = redact_host_text(threads, alloc, &mut file, input, out, origin, lanes);
     files.close(file);
     counted(answer)
+}
+
+/// Gives the trace the head of the first volume on the machine that is in a file.
+#[inline(never)]
+pub(crate) fn convert<F: Files, T: Source, K: Sink>(
+    alloc: Global,
+    files: &mut F,
+    config: &str,
+    input: &mut T,
+    out: &mut K,
+) -> Result<Ending, TextFault>
+    requires files { F.refused files.old ≡ None }
+    requires input { T.failed input.old ≡ false }
+    requires out { K.failed out.old ≡ false }
+    ensures { OverFile F.File.left F.File.failed config.entry ConvertsFirst
+        (ends_of (F.held files.old) (F.refused files.new) (seen T.failed T.left input.old input.new)
+        (input.new ≡ input.old) (took K.failed K.taken out.old out.new) (out.new ≡ out.old)) result }
+{
+    let mut file = open(files, config)?;
+    let answer = convert_text(alloc, &mut file, input, out);
+    files.close(file);
+    done(answer)
+}
+
+/// Gives the trace the head of the volume after the one that is in a file.
+#[inline(never)]
+pub(crate) fn convert_after<F: Files, T: Source, K: Sink>(
+    alloc: Global,
+    files: &mut F,
+    volume: &str,
+    input: &mut T,
+    out: &mut K,
+) -> Result<Ending, TextFault>
+    requires files { F.refused files.old ≡ None }
+    requires input { T.failed input.old ≡ false }
+    requires out { K.failed out.old ≡ false }
+    ensures { OverFile F.File.left F.File.failed volume.entry ConvertsAfter
+        (ends_of (F.held files.old) (F.refused files.new) (seen T.failed T.left input.old input.new)
+        (input.new ≡ input.old) (took K.failed K.taken out.old out.new) (out.new ≡ out.old)) result }
+{
+    let mut file = open(files, volume)?;
+    let answer = convert_after_text(alloc, &mut file, input, out);
+    files.close(file);
+    converted(answer)
 }

@@ -8,7 +8,7 @@ ghost use Rattle.kc_run.specs.Run.{IsEnding, IsEndingOf, IsRun};
 use crate::beginning::open;
 use crate::custody::custody;
 use crate::ending::{Ending, Exit, end};
-use crate::engines::{System, audit, live, redact, redact_host, replay};
+use crate::engines::{System, audit, convert, convert_after, live, redact, redact_host, replay};
 use crate::files::Files;
 use kc_args::{Action, Job};
 use kc_cli::{CustodyOrder, Headed, ReplayOrder, Sink, TextFault};
@@ -61,6 +61,8 @@ fn run_action<F: Files, T: Headed, K: Sink, R: Threads + Wait + Sync>(
         Action::Audit { all } => audit(system, all, input, out),
         Action::Redact => redact(system.alloc, input, out),
         Action::RedactHost { start } => redact_host(system, files, start, input, out),
+        Action::Convert { config } => convert(system.alloc, files, config, input, out),
+        Action::ConvertAfter { volume } => convert_after(system.alloc, files, volume, input, out),
     }
 }
 

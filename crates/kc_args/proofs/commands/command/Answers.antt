@@ -15,4 +15,5 @@ returns c =
     let more_is = c.in_ok-subcommand.ensures.shape c.in_ok-live.ensures.local ∙ ap₂ with_subcommand base_is (ap (λ (a : App). a.top) c.in_ok-live.ensures.app) in
     let many_is = c.in_ok-subcommand-2.ensures.shape c.in_ok-custody.ensures.local ∙ ap₂ with_subcommand more_is (ap (λ (a : App). a.top) c.in_ok-custody.ensures.app) in
     let most_is = c.in_ok-subcommand-3.ensures.shape c.in_ok-audit.ensures.local ∙ ap₂ with_subcommand many_is (ap (λ (a : App). a.top) c.in_ok-audit.ensures.app) in
-    record { app = IfOk-weaker c.subcommand-5.result _ _ (λ r h. h.shape c.in_ok-redact.ensures.local ∙ ap₂ with_subcommand most_is (ap (λ (a : App). a.top) c.in_ok-redact.ensures.app)) c.subcommand-5.ensures }
+    let nearly_is = c.in_ok-subcommand-4.ensures.shape c.in_ok-redact.ensures.local ∙ ap₂ with_subcommand most_is (ap (λ (a : App). a.top) c.in_ok-redact.ensures.app) in
+    record { app = IfOk-weaker c.subcommand-6.result _ _ (λ r h. h.shape c.in_ok-convert.ensures.local ∙ ap₂ with_subcommand nearly_is (ap (λ (a : App). a.top) c.in_ok-convert.ensures.app)) c.subcommand-6.ensures }
