@@ -41,7 +41,7 @@ use Rattle.kc_cli.specs.Traced.{trace_digest_of, position_next}
 use Rattle.kc_cli.proofs.Sources.{sink_err}
 use Rattle.kc_redact_text.specs.Reading.{IsHeaderAndCalls, IsReadingFault}
 use Rattle.kc_redact_text.specs.declared.convert.Converted.{Converted}
-use Rattle.kc_redact_text.specs.Converts.{volume_of, IsFirstHead, IsHeadAfter, IsNextOf, IsBare, IsUnderHead, IsFirstVolume, IsNextVolume, AreLines, TookUnder, BegunUnder, IsRefusedBare, IsRefusedLast, IsLast, why_last, IsConversion, volume_refused, trace_refused, IsSystemFault, IsUnderFault}
+use Rattle.kc_redact_text.specs.Converts.{volume_of, IsFirstHead, IsHeadAfter, IsNextOf, IsUnderHead, IsFirstVolume, IsNextVolume, AreLines, TookUnder, BegunUnder, IsRefusedBare, IsRefusedLast, IsLast, why_last, IsConversion, volume_refused, trace_refused, IsSystemFault, IsUnderFault}
 
 -- ---- digests
 

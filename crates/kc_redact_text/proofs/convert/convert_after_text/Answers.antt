@@ -1,5 +1,4 @@
-use Rattle.std.proofs.Common.{◌≡◌, ◌∙◌, Err, sym, ap, refl}
-use Rattle.kc_faults.specs.declared.fault.TextFault.TheVariants as texts
+use Rattle.std.proofs.Common.{Err, ap, refl}
 use Rattle.kc_redact_text.proofs.Converts.{writes_next, volume_told, trace_told}
 use Rattle.kc_redact_text.proofs.convert.convert_after_text.Goals as goal
 

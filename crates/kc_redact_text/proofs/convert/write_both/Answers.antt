@@ -1,7 +1,6 @@
 use Rattle.std.proofs.Common.{Result, Ok, Err}
 use Rattle.std.specs.Prelude.{OnErr}
-use Rattle.std.proofs.lemmas.Result.{on_ok_weaker, on_err_weaker}
-use Rattle.std.proofs.KnownBytes.{Appends-trans}
+use Rattle.std.proofs.lemmas.Result.{on_err_weaker}
 use Rattle.kc_redact_text.proofs.Converts.{first_cut, second_cut}
 use Rattle.kc_redact_text.proofs.convert.write_both.Goals as goal
 

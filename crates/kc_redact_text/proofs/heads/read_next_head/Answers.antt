@@ -1,11 +1,7 @@
-use Rattle.std.proofs.Common.{◌≡◌, ◌∙◌, Err, sym, ap, subst}
+use Rattle.std.proofs.Common.{◌≡◌, ◌∙◌, Err, sym, ap}
 use Rattle.std.proofs.lemmas.Result.{err_from_is_err_and}
-use Rattle.std.specs.Prelude.{IfSome}
-use Rattle.kc_trace.specs.declared.fault.TraceFault.{TraceFault}
-use Rattle.kc_trace.specs.declared.fault.TraceFault.TheVariants.{Misplaced}
 use Rattle.kc_faults.specs.declared.fault.TextFault.TheVariants as texts
-use Rattle.kc_redact_text.specs.Converts.{IsRefusedLast}
-use Rattle.kc_redact_text.proofs.Converts.{next_is, last_is, all_refused_last}
+use Rattle.kc_redact_text.proofs.Converts.{next_is, all_refused_last}
 use Rattle.kc_redact_text.proofs.heads.read_next_head.Goals as goal
 
 pub returns-in_err-header-clause-trace : goal.returns-in_err-header-clause-trace
