@@ -180,19 +180,22 @@ class Chain:
     def converted_differs(self, rng, _):
         """What differs if the volumes come without heads and are given them, or None."""
         machine, position = self.core.config, rng.choice([heads.Position(1, None), heads.some_position(rng)])
-        before = None
+        before, is_known = None, True
         for number, new in enumerate(heads.chain_of(rng, machine, position, self.volumes), 1):
             is_bare = rng.random() < 0.9
             old = heads.Headed(machine, None, new.lines, rng.choice([None, True])) if is_bare else new
             start = ["--config", self.path] if before is None else ["--after", before]
-            wanted = 0, new.text(), ""
-            if not is_bare:
+            # (what is converted has all that the host wrote)
+            wanted = 0, heads.Headed(machine, new.position, new.lines).text(), ""
+            if not is_known:
+                wanted = 2, "", "kcore: volume 1: volume of the trace differs: digest\n"
+            elif not is_bare:
                 name = "" if before is None else "volume 2: "
                 wanted = 2, "", f"kcore: {name}trace has a head, and none is expected\n"
             # (a chain may begin with a later volume, which nothing is known of before it)
             if (before or position.number == 1) and run(["convert", *start], old.text()) != wanted:
                 return f"volume {number} of {len(self.volumes)}, given a head"
-            before = self.file("converted", new.text())
+            before, is_known = self.file("converted", new.text()), not new.is_host_redacted
         return None
 
     def order_differs(self, rng, _):

@@ -1,10 +1,10 @@
-use Rattle.std.proofs.Common.{◌<◌, ◌+◌, ◌^◌, ◌++◌, [], List, length, length-append, refl, ap, sym, ◌∙◌, subst, rules, arith}
+use Rattle.std.proofs.Common.{◌<◌, ◌+◌, ◌^◌, ◌++◌, [], List, length, length-append, refl, ap, sym, ◌∙◌, subst, Bool, rules, arith}
 use Rattle.std.proofs.lemmas.List.{append-nil}
 use Rattle.kc_types.specs.declared.call.Call.{Call}
 use Rattle.kc_model.specs.State.{State}
 use Rattle.kc_model.proofs.States.Sizes.{config-after}
 use Rattle.kc_cli.specs.Ledgers.{HasKept}
-use Rattle.kc_cli.specs.Traced.{Traced}
+use Rattle.kc_cli.specs.Traced.{Traced, IsDigested}
 use Rattle.kc_cli.proofs.Witnessed.{none_last, none_witnessed, digest_needed}
 use Rattle.kc_cli.proofs.Told.{kept_after}
 use Rattle.kc_cli.proofs.telling.Kept.tell.Goals as goal
@@ -56,7 +56,7 @@ loop-stream-preserved g c =
     let long = length-append before.1 calls in
     let at = before.3 in
     let few = before.4 in
-    let same = ap length c.deref.ensures.value in
+    let same = ap length c.deref-in-loop-stream.ensures.value in
     let noted = c.in-Ok.ensures.few in
     let short : c.loop-stream.self.line + c.len.result < 2 ^ 32 = let some = more.1.few in let room = c.requires.lines in omega (arith, some, long, at, room) in
     let seen = (rw c.deref.ensures.value at c.in_ok-witness.ensures.seen) c.loop-stream.stream.reader.progress.header before.1 (λ found is. c.header.ensures ∙ c.in_ok-part.ensures.header found is)
@@ -69,12 +69,12 @@ loop-stream-preserved g c =
         omega (arith, long, at),
         omega (arith, long, few, same, noted),
         rw c.header.ensures at seen,
-        λ form start first is h. kept_after form start first before.1 calls c.loop-stream.core _ c.loop-stream.self _ is (before.6 form start first is h) ((rw c.deref.ensures.value at c.in-Ok.ensures.kept) form start)
-            (rw c.deref.ensures.value at c.in-Ok.ensures.state) (rw c.deref.ensures.value at c.in-Ok.ensures.denied) (omega (arith, same, noted)) (rw c.deref.ensures.value at c.in-Ok.ensures.counted) (omega arith) short,
+        λ form start first is h. kept_after form start first before.1 calls c.loop-stream.core _ c.loop-stream.self _ is (before.6 form start first is h) ((rw c.deref-in-loop-stream.ensures.value at c.in-Ok.ensures.kept) form start)
+            (rw c.deref-in-loop-stream.ensures.value at c.in-Ok.ensures.state) (rw c.deref-in-loop-stream.ensures.value at c.in-Ok.ensures.denied) (omega (arith, same, noted)) (rw c.deref-in-loop-stream.ensures.value at c.in-Ok.ensures.counted) (omega arith) short,
       );
       few = c.in_ok-part.ensures.few;
       mark = c.in_ok-part.ensures.mark;
-      config = ap (λ (m : State). m.config) (rw c.deref.ensures.value at c.in-Ok.ensures.state) ∙ config-after c.loop-stream.core c.in_ok-part.part.calls.items ∙ c.loop-stream.invariant.config;
+      config = ap (λ (m : State). m.config) (rw c.deref-in-loop-stream.ensures.value at c.in-Ok.ensures.state) ∙ config-after c.loop-stream.core c.in_ok-part.part.calls.items ∙ c.loop-stream.invariant.config;
     }
 
 pub returns-in-Ok-finish-clause-ok : goal.returns-in-Ok-finish-clause-ok
@@ -84,7 +84,7 @@ returns-in-Ok-finish-clause-ok g c =
     let calls = c.in_ok-part.part.calls.items in
     let long = length-append before.1 calls in
     let at = before.3 in
-    let same = ap length c.deref.ensures.value in
+    let same = ap length c.deref-in-loop-stream.ensures.value in
     let noted = c.in-Ok.ensures.few in
     let short : c.loop-stream.self.line + c.len.result < 2 ^ 32 = let some = more.1.few in let room = c.requires.lines in omega (arith, some, long, at, room) in
     let seen = (rw c.deref.ensures.value at c.in_ok-witness.ensures.seen) c.loop-stream.stream.reader.progress.header before.1 (λ found is. c.header.ensures ∙ c.in_ok-part.ensures.header found is)
@@ -94,10 +94,11 @@ returns-in-Ok-finish-clause-ok g c =
       c.in-Ok-finish.ensures.ok _ _ _ _ more.1 (c.in_ok-part.ensures.last c.if-part.true),
       more.1.few,
       omega (arith, long, at),
-      digest_needed _ c.args.is_named _ volume _ (c.digest_of.ensures c.args.is_named volume) (rw (c.header.ensures, c.in-Ok-finish.ensures.header) at seen),
-      λ form start first is h. kept_after form start first before.1 calls c.loop-stream.core _ c.loop-stream.self _ is (before.6 form start first is h) ((rw c.deref.ensures.value at c.in-Ok.ensures.kept) form start)
-          (rw c.deref.ensures.value at c.in-Ok.ensures.state) (rw c.deref.ensures.value at c.in-Ok.ensures.denied) (omega (arith, same, noted)) (rw c.deref.ensures.value at c.in-Ok.ensures.counted) (omega arith) short,
+      subst (λ (needed : Bool). IsDigested needed c.args.is_named volume c.digest_of.result) c.is_needed-is_needed.ensures
+      (digest_needed c.is_needed-is_needed.result c.args.is_named _ volume _ (c.digest_of.ensures c.args.is_named volume) (rw (c.header.ensures, c.in-Ok-finish.ensures.header) at seen)),
+      λ form start first is h. kept_after form start first before.1 calls c.loop-stream.core _ c.loop-stream.self _ is (before.6 form start first is h) ((rw c.deref-in-loop-stream.ensures.value at c.in-Ok.ensures.kept) form start)
+          (rw c.deref-in-loop-stream.ensures.value at c.in-Ok.ensures.state) (rw c.deref-in-loop-stream.ensures.value at c.in-Ok.ensures.denied) (omega (arith, same, noted)) (rw c.deref-in-loop-stream.ensures.value at c.in-Ok.ensures.counted) (omega arith) short,
     )
 
 pub returns-in-Ok-finish-clause-config : goal.returns-in-Ok-finish-clause-config
-returns-in-Ok-finish-clause-config g c = ap (λ (m : State). m.config) (rw c.deref.ensures.value at c.in-Ok.ensures.state) ∙ config-after c.loop-stream.core c.in_ok-part.part.calls.items ∙ c.loop-stream.invariant.config
+returns-in-Ok-finish-clause-config g c = ap (λ (m : State). m.config) (rw c.deref-in-loop-stream.ensures.value at c.in-Ok.ensures.state) ∙ config-after c.loop-stream.core c.in_ok-part.part.calls.items ∙ c.loop-stream.invariant.config
