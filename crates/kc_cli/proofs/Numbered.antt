@@ -1,5 +1,5 @@
 -- The numbers of volumes that follow one another rise by one.
-use Rattle.std.proofs.Common.{◌≡◌, ◌+◌, ℕ, Bool, true, false, cond, List, [], ◌∷◌, length, Option, Some, None, refl, ap, sym, ◌∙◌, arith}
+use Rattle.std.proofs.Common.{◌≡◌, ◌+◌, ℕ, suc, Bool, true, false, cond, List, [], ◌∷◌, length, Option, Some, None, refl, ap, sym, ◌∙◌, arith}
 use Rattle.std.specs.Prelude.{IfSome}
 use Rattle.kc_types.specs.Configuration.{Configuration}
 use Rattle.kc_trace.specs.declared.header.Header.{Header}
@@ -10,7 +10,7 @@ use Rattle.kc_trace.specs.declared.expected.Expected.{Expected}
 use Rattle.kc_trace.specs.declared.expected.Expected.TheVariants.{After, AfterNumber}
 use Rattle.kc_trace.specs.declared.volume_writer.VolumeEntry.{VolumeEntry}
 use Rattle.kc_trace.specs.Expected.{MayHave, number_of, head_number}
-use Rattle.kc_cli.specs.Traced.{Traced, expected_next, trace_digest_of}
+use Rattle.kc_cli.specs.Traced.{Traced, expected_next}
 use Rattle.kc_cli.specs.Custody.{AreVolumes, AreNumbered, entries_of, first_number, last_number, numbers_between, numbers_in}
 
 -- a header that may come after a head has the next number
@@ -30,11 +30,11 @@ next_number config volume header number is may = by_header volume.header refl is
     by_header Two own is may = absurd (let none : None ≡ Some number = sym (ap head_number own) ∙ is in cc)
     by_header (Three head) own is may =
         let same : number_of head.position ≡ number = let both : Some (number_of head.position) ≡ Some number = sym (ap head_number own) ∙ is in cc in
-        after_number config (number_of head.position) (trace_digest_of volume) head.is_host_redacted header (rw own at may) ∙ ap (λ n. Some (n + 1)) same
+        after_number config (number_of head.position) _ head.is_host_redacted header (rw own at may) ∙ ap (λ n. Some (n + 1)) same
 
 -- the number before that of the first of some volumes
 one_before : (first : ℕ) (entries : List VolumeEntry) (last : Option ℕ) → IfSome (numbers_between (Some (first + 1)) last) (λ numbers. numbers.last + 1 ≡ numbers.first + length entries)
-    → IfSome (numbers_between (Some first) last) (λ numbers. numbers.last + 1 ≡ numbers.first + (length entries + 1))
+    → IfSome (numbers_between (Some first) last) (λ numbers. numbers.last + 1 ≡ numbers.first + suc (length entries))
 one_before first entries None is = tt
 one_before first entries (Some last) is = omega (arith, is)
 
@@ -42,21 +42,21 @@ alone : (number : Option ℕ) → IfSome (numbers_between number number) (λ num
 alone None = tt
 alone (Some number) = refl
 
+numbered_more : (config : Configuration) (volume next : Traced) (volumes : List Traced) (named : Bool) (line : ℕ) → MayHave config (expected_next volume) next.header → AreNumbered (entries_of named (line + length volume.calls) (next ∷ volumes))
+    → AreNumbered (entries_of named line (volume ∷ next ∷ volumes))
+numbered_more config volume next volumes named line may others = by_number (head_number volume.header) refl
+  where
+    rest : List VolumeEntry
+    rest = entries_of named (line + length volume.calls) (next ∷ volumes)
+
+    by_number : (number : Option ℕ) → head_number volume.header ≡ number → AreNumbered (entries_of named line (volume ∷ next ∷ volumes))
+    by_number None none = rw none tt
+    by_number (Some number) some = let after = next_number config volume next.header number some may in rw some (one_before number rest (last_number rest) (rw after at others))
+
 pub numbered : (config : Configuration) (expected : Expected) (sources : List (Option (List ℕ))) (volumes : List Traced) (named : Bool) (line : ℕ) → AreVolumes config expected sources volumes → AreNumbered (entries_of named line volumes)
 numbered config expected sources [] named line are = tt
 numbered config expected [] (volume ∷ volumes) named line are = absurd are
 numbered config expected (source ∷ sources) (volume ∷ []) named line are = alone (head_number volume.header)
 numbered config expected (source ∷ []) (volume ∷ next ∷ volumes) named line are = absurd are.3
-numbered config expected (source ∷ other ∷ sources) (volume ∷ next ∷ volumes) named line are = by_number (head_number volume.header) refl
-  where
-    rest : List VolumeEntry
-    rest = entries_of named (line + length volume.calls) (next ∷ volumes)
-
-    others : AreNumbered rest
-    others = numbered config (expected_next volume) (other ∷ sources) (next ∷ volumes) named (line + length volume.calls) are.3
-
-    by_number : (number : Option ℕ) → head_number volume.header ≡ number → AreNumbered (entries_of named line (volume ∷ next ∷ volumes))
-    by_number None none = rw none tt
-    by_number (Some number) some =
-        let after = next_number config volume next.header number some are.3.0 in
-        rw some (one_before number rest (last_number rest) (rw after at others))
+numbered config expected (source ∷ other ∷ sources) (volume ∷ next ∷ volumes) named line are =
+    numbered_more config volume next volumes named line are.3.0 (numbered config (expected_next volume) (other ∷ sources) (next ∷ volumes) named (line + length volume.calls) are.3)

@@ -95,7 +95,7 @@ returns-in-Ok-finish-clause-ok g c =
       more.1.few,
       omega (arith, long, at),
       subst (λ (needed : Bool). IsDigested needed c.args.is_named volume c.digest_of.result) c.is_needed-is_needed.ensures
-      (digest_needed c.is_needed-is_needed.result c.args.is_named _ volume _ (c.digest_of.ensures c.args.is_named volume) (rw (c.header.ensures, c.in-Ok-finish.ensures.header) at seen)),
+          (digest_needed c.is_needed-is_needed.result c.args.is_named _ volume _ (c.digest_of.ensures c.args.is_named volume) (rw (c.header.ensures, c.in-Ok-finish.ensures.header) at seen)),
       λ form start first is h. kept_after form start first before.1 calls c.loop-stream.core _ c.loop-stream.self _ is (before.6 form start first is h) ((rw c.deref-in-loop-stream.ensures.value at c.in-Ok.ensures.kept) form start)
           (rw c.deref-in-loop-stream.ensures.value at c.in-Ok.ensures.state) (rw c.deref-in-loop-stream.ensures.value at c.in-Ok.ensures.denied) (omega (arith, same, noted)) (rw c.deref-in-loop-stream.ensures.value at c.in-Ok.ensures.counted) (omega arith) short,
     )
