@@ -28,7 +28,8 @@ use Rattle.kc_trace.specs.declared.expected.HeaderFault.TheVariants.{Unexpected}
 use Rattle.kc_trace.specs.declared.fault.TraceFault.{TraceFault}
 use Rattle.kc_trace.specs.declared.fault.TraceFault.TheVariants.{NoHeader, BadLine, NoNewline, TooManyCalls, Misplaced, Memory}
 use Rattle.kc_trace.specs.Header.{IsHead, IsHeader, IsPosition, has_head, trace_header}
-use Rattle.kc_trace.specs.Expected.{number_of, position_after}
+use Rattle.kc_trace.specs.declared.expected.Expected.TheVariants.{After, AfterNumber}
+use Rattle.kc_trace.specs.Expected.{MayHave, number_of, position_after}
 use Rattle.kc_trace.specs.Spelling.{line_of, lines_of, text_of}
 use Rattle.kc_trace.specs.Trace.{AreCalls, IsTrace, IsTraceUnder, IsRefused}
 use Rattle.kc_texts.specs.Ends.{Seen, ReadFailed, HasFailedRead, HasFailed}
@@ -112,6 +113,11 @@ valid_after last head message is machine place = record {
 digest_named : (text : List ℕ) (last : Head) (kept : List Call) (denials : Denials) (digest : List ℕ) (read : IsHeaderAndCalls None text (Three last) kept denials) → digest ≡ sha256 (text_of (Three last) kept) → digest ≡ trace_digest_of (volume_of last read.calls)
 digest_named text last kept denials digest read is = is ∙ ap (λ (calls : List Call). sha256 (text_of (Three last) calls)) read.redacted
 
+-- it is the one that is expected there
+may_follow : (config : Configuration) (number : ℕ) (digest : List ℕ) (head : Head) (flag : Bool) → flag ≡ false → config ≡ head.config → head.position ≡ Later (number + 1) digest → MayHave config (if flag then AfterNumber number else After number digest) (Three head)
+may_follow config number digest head false is machine place = (machine, place)
+may_follow config number digest head true is machine place = absurd cc
+
 after_is : (text : List ℕ) (header : Header) (kept : List Call) (denials : Denials) (digest : List ℕ) (head : Head) → IsHeaderAndCalls None text header kept denials → digest ≡ sha256 (text_of header kept) → IsNextOf header digest head → IsHeadAfter text head
 after_is text One kept denials digest head read is next = absurd next
 after_is text Two kept denials digest head read is next = absurd next
@@ -127,7 +133,7 @@ after_is text (Three last) kept denials digest head read is next =
       place = place;
       whole = next.2;
       valid = valid_after last head _ read.read.valid next.0 (there.0, there.1);
-      follows = rw there.2 (sym next.0, there.0);
+      follows = may_follow last.config (number_of last.position) (trace_digest_of (volume_of last read.calls)) head last.is_host_redacted there.2 (sym next.0) there.0;
     }
 
 pub next_is : (source : Option (List ℕ)) (header : Header) (kept : List Call) (denials : Denials) (digest : List ℕ) (head : Head) → IfSome source (λ text. IsHeaderAndCalls None text header kept denials) → digest ≡ sha256 (text_of header kept) → IsNextOf header digest head

@@ -24,4 +24,4 @@ returns-clause-ok g c = writes_host _ _ _ _ _ c.in_ok-header.header c.in_ok-head
 pub returns-in_err-give_redacted-clause-sink : goal.returns-in_err-give_redacted-clause-sink
 returns-in_err-give_redacted-clause-sink g c =
     let made = err_from_is_err_and c.from_residual-in_err-give_redacted.result c.from_residual-in_err-give_redacted.ensures.1 in
-    rw (made.1, made.2) (sink_err _ _ _ _ c.in_err-give_redacted.field-0.0 (λ begun. begins_host _ _ _ _ _ c.in_ok-header.header c.in_ok-header.calls.items _ c.in_ok-header.ensures.ok begun) c.in_err-give_redacted.ensures.sink)
+    rw (made.1, made.2) (sink_err _ _ _ _ c.in_err-give_redacted.field-0.0 (λ begun. begins_host _ _ _ _ _ c.in_ok-header.header c.in_ok-header.calls.items _ c.in_ok-header.ensures.ok begun) (rw c.host_redacted.ensures at c.in_err-give_redacted.ensures.sink))
