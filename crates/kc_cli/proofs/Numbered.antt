@@ -4,14 +4,12 @@ use Rattle.std.specs.Prelude.{IfSome}
 use Rattle.kc_types.specs.Configuration.{Configuration}
 use Rattle.kc_trace.specs.declared.header.Header.{Header}
 use Rattle.kc_trace.specs.declared.header.Header.TheVariants.{One, Two, Three}
-use Rattle.kc_trace.specs.declared.header.Position.{Position}
-use Rattle.kc_trace.specs.declared.header.Position.TheVariants.{First, Later}
 use Rattle.kc_trace.specs.declared.expected.Expected.{Expected}
 use Rattle.kc_trace.specs.declared.expected.Expected.TheVariants.{After, AfterNumber}
 use Rattle.kc_trace.specs.declared.volume_writer.VolumeEntry.{VolumeEntry}
 use Rattle.kc_trace.specs.Expected.{MayHave, number_of, head_number}
 use Rattle.kc_cli.specs.Traced.{Traced, expected_next}
-use Rattle.kc_cli.specs.Custody.{AreVolumes, AreNumbered, entries_of, first_number, last_number, numbers_between, numbers_in}
+use Rattle.kc_cli.specs.Custody.{AreVolumes, AreNumbered, entries_of, last_number, numbers_between}
 
 -- a header that may come after a head has the next number
 after_number : (config : Configuration) (number : ℕ) (digest : List ℕ) (flag : Bool) (header : Header) → MayHave config (cond flag (AfterNumber number) (After number digest)) header → head_number header ≡ Some (number + 1)

@@ -52,12 +52,7 @@ pub digest_needed : (needed asked : Bool) (witness : Option Sha256) (volume : Tr
 digest_needed false asked witness volume digest step h = tt
 digest_needed true asked witness volume digest step h = step h
 
--- a digest that was needed
-pub was_needed : (needed asked : Bool) (volume : Traced) (digest : Option (List ℕ)) → needed ≡ true → IsDigested needed asked volume digest → digest ≡ digest_if asked volume
-was_needed true asked volume digest is digested = digested
-was_needed false asked volume digest is digested = absurd cc
-
--- it is, if the trace is named
+-- the digest of a trace that is named, or that another volume follows
 pub named_needed : (asked followed : Bool) (volume : Traced) (digest : Option (List ℕ)) → IsDigested (asked || followed) asked volume digest → asked ≡ true → digest ≡ digest_if true volume
 named_needed true followed volume digest digested is = digested
 named_needed false followed volume digest digested is = absurd cc
