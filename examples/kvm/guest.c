@@ -88,6 +88,31 @@ static void *serve_faults(void *of) {
     return NULL;
 }
 
+/* Interrupt controllers and a timer, which are KVM's. Virtual processors halt without an exit; otherwise KVM would have
+ * one that waits for a page go on with an interrupt, so that it could miss a second page. */
+static void add_interrupts(struct guest *guest) {
+    struct kvm_pit_config timer = {.flags = KVM_PIT_SPEAKER_DUMMY};
+    struct kvm_enable_cap halts = {.cap = KVM_CAP_X86_DISABLE_EXITS, .args = {KVM_X86_DISABLE_EXITS_HLT}};
+    if (ioctl(guest->vm, KVM_SET_TSS_ADDR, 0xfffbd000ul) || ioctl(guest->vm, KVM_CREATE_IRQCHIP) ||
+        ioctl(guest->vm, KVM_CREATE_PIT2, &timer) || ioctl(guest->vm, KVM_ENABLE_CAP, &halts))
+        fail("interrupts");
+    guest->devices.has_interrupts = true;
+}
+
+/* Has the serial line's interrupt follow the line, after anything that was done to it. */
+static void follow_line(struct guest *guest) {
+    struct kvm_irq_level line = {.irq = 4, .level = device_interrupts(&guest->devices)};
+    if (!guest->devices.has_interrupts || line.level == guest->devices.level) return;
+    guest->devices.level = line.level;
+    if (ioctl(guest->vm, KVM_IRQ_LINE, &line)) fail("an interrupt");
+}
+
+bool guest_type(struct guest *guest, char character) {
+    bool has_room = device_type(&guest->devices, character);
+    follow_line(guest);
+    return has_room;
+}
+
 void guest_open(struct monitor *monitor, unsigned slot) {
     struct guest *guest = calloc(1, sizeof *guest);
     pthread_t thread;
@@ -110,9 +135,12 @@ void guest_open(struct monitor *monitor, unsigned slot) {
                                               .userspace_addr = (uintptr_t)guest->memory.seen};
     if (guest->ends < 0 || guest->vm < 0 || ioctl(guest->vm, KVM_SET_USER_MEMORY_REGION, &all))
         fail("a virtual machine");
+    if (guest->mode == LINUX) add_interrupts(guest);
+    guest->devices.is_shown = monitor->is_shown && slot == linux_slot(monitor);
     monitor->guests[slot] = guest;
     monitor->mmu.of[slot] = &guest->memory;
     monitor->lives++;
+    pthread_cond_broadcast(&monitor->moved);
     start(&thread, serve_faults, guest, guest);
 }
 
@@ -136,69 +164,12 @@ void guest_close(struct guest *guest) {
     leave(guest);
 }
 
-/* 64 bits in user mode, with ports: what every KVM runs natively. Descriptors, task and tables are in the image. */
-static void begin_bare(const struct vcpu *vcpu, struct kvm_sregs *s, struct kvm_regs *r) {
-    const struct kvm_segment data = {
-        .limit = UINT32_MAX, .selector = 0x23, .type = 3, .present = 1, .dpl = 3, .s = 1, .db = 1, .g = 1};
-    s->ds = s->es = s->fs = s->gs = s->ss = data;
-    s->cs = data;
-    s->cs.selector = 0x1b;
-    s->cs.type = 11;
-    s->cs.l = 1;
-    s->cs.db = 0;
-    s->tr = (struct kvm_segment){.base = 0x400, .limit = 0x3ff, .selector = 0x28, .type = 11, .present = 1};
-    s->gdt = (struct kvm_dtable){.base = 0, .limit = 0x37};
-    s->idt = (struct kvm_dtable){.base = 0x800, .limit = 0};
-    s->cr0 = 0x80050033;
-    s->cr3 = 0x1000;
-    s->cr4 = 0x620;
-    s->efer = 0x500;
-    *r = (struct kvm_regs){.rip = 0x4000, .rsp = 0x40000 - vcpu->number * PAGE, .rflags = 0x3002,
-                           .rdi = vcpu->number, .rsi = vcpu->guest->slot};
-}
-
-/* Real mode at the reset vector, in its copy below 1 MiB. */
-static void begin_bios(struct kvm_sregs *s, struct kvm_regs *r) {
-    s->cs.selector = 0xf000;
-    s->cs.base = 0xf0000;
-    *r = (struct kvm_regs){.rip = 0xfff0, .rflags = 2};
-}
-
-/* Protected mode, flat, at guest frame 0x10: there the image has what loads the registers that a kernel wants. */
-static void begin_multiboot(struct kvm_sregs *s, struct kvm_regs *r) {
-    const struct kvm_segment data = {
-        .limit = UINT32_MAX, .selector = 16, .type = 3, .present = 1, .s = 1, .db = 1, .g = 1};
-    s->ds = s->es = s->fs = s->gs = s->ss = s->cs = data;
-    s->cs.selector = 8;
-    s->cs.type = 11;
-    s->cr0 = 0x11;
-    *r = (struct kvm_regs){.rip = 0x10000, .rflags = 2};
-}
-
-/* Sets how a virtual processor begins: its registers are no less the guest's than its memory. */
-static void set_registers(const struct vcpu *vcpu) {
-    struct kvm_sregs s;
-    struct kvm_regs r;
-    if (ioctl(vcpu->file, KVM_GET_SREGS, &s)) fail("registers");
-    if (vcpu->guest->mode == BARE) begin_bare(vcpu, &s, &r);
-    else if (vcpu->guest->mode == BIOS) begin_bios(&s, &r);
-    else begin_multiboot(&s, &r);
-    if (ioctl(vcpu->file, KVM_SET_SREGS, &s) || ioctl(vcpu->file, KVM_SET_REGS, &r)) fail("registers");
-}
-
 static void create_vcpu(struct vcpu *vcpu) {
-    struct monitor *monitor = vcpu->guest->monitor;
-    struct {
-        struct kvm_cpuid2 head;
-        struct kvm_cpuid_entry2 entries[256];
-    } features = {.head.nent = 256};
     vcpu->file = ioctl(vcpu->guest->vm, KVM_CREATE_VCPU, (unsigned long)vcpu->number);
     if (vcpu->file < 0) fail("a virtual processor");
-    vcpu->run = mmap(NULL, monitor->run_size, PROT_READ | PROT_WRITE, MAP_SHARED, vcpu->file, 0);
-    if (vcpu->run == MAP_FAILED || ioctl(monitor->kvm, KVM_GET_SUPPORTED_CPUID, &features) ||
-        ioctl(vcpu->file, KVM_SET_CPUID2, &features))
-        fail("a virtual processor");
-    set_registers(vcpu);
+    vcpu->run = mmap(NULL, vcpu->guest->monitor->run_size, PROT_READ | PROT_WRITE, MAP_SHARED, vcpu->file, 0);
+    if (vcpu->run == MAP_FAILED) fail("a virtual processor");
+    set_beginning(vcpu);
 }
 
 /* Whether its private pages from a guest frame on have these bytes of a file. */
@@ -216,7 +187,7 @@ static bool has_bytes(const struct guest *guest, uint32_t gfn, int file, off_t f
  * approval is of the bytes of an image; where it is, and which others are there, decides what they mean. */
 static bool has_named_images(const struct guest *guest) {
     unsigned image = 0;
-    for (unsigned part = 0; guest->boot && part < guest->boot->count; part++) {
+    for (unsigned part = 0; guest->boot && part < guest->boot->images; part++) {
         int file = guest->boot->parts[part].file;
         struct stat about;
         if (fstat(file, &about)) fail("an image");
@@ -300,6 +271,7 @@ static bool out(struct vcpu *vcpu, uint16_t port, uint32_t value) {
     else {
         pthread_mutex_lock(&vcpu->guest->monitor->lock);
         device_out(&vcpu->guest->devices, vcpu->guest->slot, port, value);
+        follow_line(vcpu->guest);
         pthread_mutex_unlock(&vcpu->guest->monitor->lock);
     }
     return true;
@@ -308,7 +280,10 @@ static bool out(struct vcpu *vcpu, uint16_t port, uint32_t value) {
 static uint32_t in(struct vcpu *vcpu, uint16_t port) {
     if (port == GRANT) return vcpu->answer;
     pthread_mutex_lock(&vcpu->guest->monitor->lock);
+    bool was_full = vcpu->guest->devices.count == sizeof vcpu->guest->devices.typed;
     uint32_t value = device_in(&vcpu->guest->devices, port);
+    follow_line(vcpu->guest);
+    if (was_full) pthread_cond_broadcast(&vcpu->guest->monitor->moved);
     pthread_mutex_unlock(&vcpu->guest->monitor->lock);
     return value;
 }

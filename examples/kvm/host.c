@@ -13,9 +13,13 @@
 #include <sys/uio.h>
 #include <unistd.h>
 
-enum { PAGE = 4096, IMAGE = 1048576, REMEMBERED = 1024, ANSWER = 64, REPLY = 8300 };
-/* What guests/talk.c has at which guest frame. */
-enum { CODE = 4, SECRET = 512, LETTER = 513, THROWN = 514 };
+enum { PAGE = 4096, IMAGE = 1048576, REMEMBERED = 32768, ANSWER = 64, REPLY = 8300 };
+/* The first page of a guest's code, and what guests/talk.c has at which guest frame. A Linux guest (guests/share.c) says
+ * where it has these, by notices of PLACE and more. */
+enum { CODE = 4, AT_SECRET = 512, PLACE = 1 << 20 };
+enum { SECRET, LETTER, THROWN, PLACES };
+/* What a Linux guest has in a file of its own, and in its letter. */
+static const char text_of_a_file[] = "95ba2c4dd62ccc0aa99ab858329f7f878205fd6e0635b70129c1d0465eab5004";
 static const uint64_t SECRET_TAG = 0x5ec4e7;
 
 /* Lines that come through a pipe, and what has come of the next. */
@@ -32,6 +36,8 @@ struct host {
     const char *reply; /* the last one */
     uint32_t next;     /* frames of the host at boot from here on are unused */
     uint32_t frame_of[MOST_GUESTS][REMEMBERED]; /* what was supplied at the first guest frames */
+    uint32_t places[MOST_GUESTS][PLACES];       /* guest frames */
+    bool has_come[MOST_GUESTS];                 /* a guest that has notified: no Linux guest measures after that */
     bool runs[MOST_GUESTS];                     /* a guest whose first virtual processor has not ended */
     bool has_offered;
     unsigned storm, leaks;
@@ -97,6 +103,15 @@ static uint32_t take(struct host *host) { return number_in(ask(host, "take"), "f
 
 static uint32_t any_frame(struct host *host) { return host->next < host->plan->last ? host->next++ : take(host); }
 
+static bool is_linux(const struct host *host, uint32_t vm) {
+    return host->plan->boots[vm].images < host->plan->boots[vm].count;
+}
+
+/* The frame that was supplied for a page of those that attacks are about. */
+static uint32_t frame_at(const struct host *host, uint32_t vm, unsigned place) {
+    return host->frame_of[vm][host->places[vm][place]];
+}
+
 static void remember(struct host *host, uint32_t vm, uint32_t gfn, uint32_t frame) {
     if (vm < MOST_GUESTS && gfn < REMEMBERED) host->frame_of[vm][gfn] = frame;
 }
@@ -141,15 +156,27 @@ static bool load_file(struct host *host, uint32_t vm, int file, uint32_t gfn, bo
 static bool boot(struct host *host, uint32_t vm, const struct boot *boot, bool is_altered) {
     ask(host, "regvm %u", vm);
     for (unsigned vcpu = 0; vcpu < boot->vcpus; vcpu++) ask(host, "regvcpu %u %u", vm, vcpu);
-    for (unsigned part = 0; part < boot->count; part++)
+    for (unsigned part = 0; part < boot->images; part++)
         if (!load_file(host, vm, boot->parts[part].file, boot->parts[part].base, is_altered)) return false;
     return is_done(ask(host, "verify %u", vm));
+}
+
+/* Puts into a frame what a guest's files have for a guest frame. */
+static void fill(struct host *host, uint32_t vm, uint32_t gfn, uint32_t frame) {
+    const struct boot *boot = &host->plan->boots[vm];
+    uint8_t bytes[PAGE] = {0};
+    for (unsigned part = boot->images; part < boot->count; part++) {
+        off_t from = ((off_t)gfn - boot->parts[part].base) * PAGE;
+        if (from >= 0 && pread(boot->parts[part].file, bytes, PAGE, from) > 0 && is_done(ask(host, "hfault %u", frame)))
+            memcpy(at(host, frame), bytes, PAGE);
+    }
 }
 
 /* A virtual processor waits for a page. */
 static void supply(struct host *host, uint32_t vm, uint32_t vcpu, uint32_t gfn) {
     for (;;) {
         uint32_t frame = any_frame(host);
+        if (vm < host->plan->count && frame != UINT32_MAX) fill(host, vm, gfn, frame);
         const char *reply = frame == UINT32_MAX ? host->reply : ask(host, "map %u %u %u", vm, vcpu, frame);
         if (is_done(reply)) remember(host, vm, gfn, frame);
         else if (!strcmp(reply, "refused not-host")) continue; /* given away in the storm */
@@ -180,6 +207,14 @@ static const char *text_at(const struct host *host, uint32_t frame) {
 static void look(struct host *host, const char *what, uint32_t frame) {
     const char *reply = ask(host, "hfault %u", frame);
     printf("looks at %s: %s, its memory has \"%s\"\n", what, reply, text_at(host, frame));
+}
+
+/* Looks in all of its memory for what a Linux guest has written to a file. */
+static void look_for_file(const struct host *host, const char *when) {
+    unsigned count = 0;
+    for (off_t from = 0; (from = lseek(MEMORY, from, SEEK_DATA)) >= 0; from += PAGE)
+        count += memmem(host->memory + from, PAGE, text_of_a_file, sizeof text_of_a_file - 1) != NULL;
+    printf("looks for the text of a guest's file, %s: in %u of its frames\n", when, count);
 }
 
 /* Has a pipe keep a page, as no mapping does. */
@@ -231,7 +266,7 @@ static void attack_at_boot(struct host *host) {
     ask(host, "clear %u", vm);
     memset(at(host, code), 0x90, PAGE);
     printf("alters a page of an image after its remap: %s\n", ask(host, "hfault %u", code));
-    printf("speaks for a guest: %s\n", ask(host, "grant 0 0 %u", SECRET));
+    printf("speaks for a guest: %s\n", ask(host, "grant 0 0 %u", AT_SECRET));
     printf("gives a frame to a virtual processor that waits for none: %s\n", ask(host, "map 0 0 %u", host->next));
     send_rubbish(host);
     try_doors(host);
@@ -246,16 +281,16 @@ static void attack_by_frames(struct host *host, uint32_t vm, uint32_t vcpu) {
 }
 
 static void attack_before_sharing(struct host *host, uint32_t vm) {
-    uint32_t secret = host->frame_of[vm][SECRET];
+    uint32_t secret = frame_at(host, vm, SECRET);
     look(host, "the secret", secret);
-    look(host, "the letter, not shared yet", host->frame_of[vm][LETTER]);
+    look(host, "the letter, not shared yet", frame_at(host, vm, LETTER));
     strcpy((char *)at(host, secret), "a forged secret");
     printf("takes the secret's frame back: %s\n", ask(host, "give %u", secret));
 }
 
 /* Takes free frames until it has the one that was dropped, and looks at that. The others go back. */
 static void attack_dropped(struct host *host, uint32_t vm) {
-    uint32_t dropped = host->frame_of[vm][THROWN], frame = UINT32_MAX;
+    uint32_t dropped = frame_at(host, vm, THROWN), frame = UINT32_MAX;
     look(host, "what was dropped", dropped);
     for (uint32_t count = 0; count < host->plan->frames && (frame = take(host)) != dropped; count++)
         ask(host, "give %u", frame);
@@ -264,7 +299,7 @@ static void attack_dropped(struct host *host, uint32_t vm) {
 
 /* Reads a letter that a guest shares, and answers in it. */
 static void read_letter(struct host *host, uint32_t vm, bool is_first) {
-    uint32_t letter = host->frame_of[vm][LETTER];
+    uint32_t letter = frame_at(host, vm, LETTER);
     if (is_first)
         printf("the letter, shared but not asked for: its memory has \"%s\"\n", text_at(host, letter));
     if (!is_done(ask(host, "hfault %u", letter))) printf("may not read the letter: %s\n", host->reply);
@@ -274,19 +309,26 @@ static void read_letter(struct host *host, uint32_t vm, bool is_first) {
 }
 
 static void attack_while_shared(struct host *host, uint32_t vm) {
-    pin(host, vm, host->frame_of[vm][LETTER]);
-    look(host, "the secret again", host->frame_of[vm][SECRET]);
+    pin(host, vm, frame_at(host, vm, LETTER));
+    look(host, "the secret again", frame_at(host, vm, SECRET));
 }
 
 static void attack_revoked(struct host *host, uint32_t vm) {
-    look(host, "the letter, revoked", host->frame_of[vm][LETTER]);
+    look(host, "the letter, revoked", frame_at(host, vm, LETTER));
     read_pin(host, vm);
 }
 
 /* A guest says how far it has come, and waits. */
 static void serve_notice(struct host *host, uint32_t vm, uint32_t number) {
+    uint32_t place = number / PLACE - 1, gfn = number % PLACE;
+    host->has_come[vm] = true;
+    if (number >= PLACE) {
+        if (place < PLACES && gfn < REMEMBERED) host->places[vm][place] = gfn;
+        return;
+    }
     if (number == 2 || number == 5) read_letter(host, vm, number == 2);
     if (!host->plan->is_hostile) return;
+    if (number <= 3 && is_linux(host, vm)) look_for_file(host, number == 2 ? "which its letter has too" : "private");
     if (number == 1) attack_before_sharing(host, vm);
     if (number == 2) attack_while_shared(host, vm);
     if (number == 3) attack_revoked(host, vm);
@@ -394,8 +436,16 @@ static bool any_runs(const struct host *host) {
     return false;
 }
 
+/* Whether a Linux guest still measures what it gets. In a storm it would get pages that it refuses, and end. */
+static bool any_measures(const struct host *host) {
+    for (unsigned vm = 0; vm < host->plan->count; vm++)
+        if (host->runs[vm] && !host->has_come[vm] && is_linux(host, vm)) return true;
+    return false;
+}
+
 static void boot_all(struct host *host) {
     for (unsigned vm = 0; vm < host->plan->count; vm++) {
+        for (unsigned place = 0; place < PLACES; place++) host->places[vm][place] = AT_SECRET + place;
         host->runs[vm] = boot(host, vm, &host->plan->boots[vm], false);
         if (!host->runs[vm]) printf("guest %u is not booted: %s\n", vm, host->reply);
     }
@@ -414,8 +464,9 @@ _Noreturn void host_main(const struct plan *plan) {
     if (host.memory == MAP_FAILED) stop("memory");
     boot_all(&host);
     while (any_runs(&host) || host.storm) {
-        serve_events(&host, !host.storm);
-        if (host.storm) storm(&host);
+        bool storms = host.storm && !any_measures(&host);
+        serve_events(&host, !storms);
+        if (storms) storm(&host);
     }
     if (plan->is_hostile) end_one(&host);
     exit(0);

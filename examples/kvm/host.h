@@ -11,13 +11,14 @@ enum { MOST_GUESTS = 8, PARTS = 4 };
  * it writes calls, and that from which it reads the replies; the pipe of events; the images; its program. */
 enum { MEMORY = 3, CALLS, REPLIES, EVENTS, IMAGE_FILES };
 
-/* Files that a guest boots from, open, each at its guest frame. */
+/* Files that a guest boots from, open, each at its guest frame. The first ones are its images; of the others it gets
+ * the pages as it misses them. */
 struct boot {
     struct {
         int file;
         uint32_t base;
     } parts[PARTS];
-    unsigned count, vcpus;
+    unsigned count, images, vcpus;
 };
 
 struct plan {

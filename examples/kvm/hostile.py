@@ -48,8 +48,10 @@ class Host:
         self.replies, self.events = os.fdopen(REPLIES, "rb"), b""
         self.guests = []
         for guest in guests:
-            vcpus, *parts = guest.split(":")
-            self.guests.append((int(vcpus), [tuple(map(int, part.split("@"))) for part in parts]))
+            vcpus, *parts = guest.replace("+", ":+").split(":")
+            images = [part for part in parts if part[0] != "+"]
+            self.guests.append((int(vcpus), *([tuple(map(int, part.split("@"))) for part in files]
+                                              for files in (images, parts[len(images) :]))))
         self.frame_of = {}
 
     def send(self, line):
@@ -115,6 +117,13 @@ class Host:
             for at in range(0, len(data), IMAGE):
                 yield data[at : at + IMAGE], base + at // PAGE
 
+    def page_of_file(self, vm, gfn):
+        """What the files that are no images have for a page of a guest's, or None."""
+        for file, base in self.guests[vm][2]:
+            if gfn >= base and (data := os.pread(file, PAGE, (gfn - base) * PAGE)):
+                return data.ljust(PAGE, b"\0")
+        return None
+
     def supply(self, vm, vcpu, gfn, data=None):
         frame = self.frame()
         if data:
@@ -125,21 +134,22 @@ class Host:
         return reply
 
     def boot_all(self):
-        for vm, (vcpus, _) in enumerate(self.guests):
+        for vm, (vcpus, *_) in enumerate(self.guests):
             self.boot(vm, vcpus, self.images(vm))
 
     def run_all(self):
-        for vm, (vcpus, _) in enumerate(self.guests):
+        for vm, (vcpus, *_) in enumerate(self.guests):
             for vcpu in range(vcpus):
                 self.ask(f"run {vm} {vcpu}")
 
-    def serve(self, until=None, data_of=lambda gfn: None):
+    def serve(self, until=None, data_of=None):
         """Serves guests until the first processor of each has ended, or for some seconds."""
+        data_of = data_of or self.page_of_file
         running, end = set(range(len(self.guests))), time.monotonic() + (until or 3600)
         while running and time.monotonic() < end:
             name, vm, vcpu, number = self.event(until or 60) or ("", 0, 0, 0)
             if name == "fault":
-                self.supply(vm, vcpu, number, data_of(number))
+                self.supply(vm, vcpu, number, data_of(vm, number))
             elif name == "notified":
                 if number in (2, 5):
                     self.ask(f"hfault {self.frame_of[vm, 513]}")
@@ -161,7 +171,7 @@ def runs_forged(host, images, vcpus=1):
     forged = first.replace(b"hello from guest ", FORGED)
     say("verify:", host.boot(0, vcpus, images))
     say("run:", host.ask("run 0 0"))
-    host.serve(2, lambda gfn: forged[(gfn - base) * PAGE :][:PAGE].ljust(PAGE, b"\0"))
+    host.serve(2, lambda _, gfn: forged[(gfn - base) * PAGE :][:PAGE].ljust(PAGE, b"\0"))
 
 
 def elsewhere(host):
@@ -182,6 +192,15 @@ def added(host):
 def exchanged(host):
     """The image of another guest, which is as long."""
     runs_forged(host, list(host.images(1)))
+
+
+def swapping(host):
+    """Answers the faults for two pages of a Linux kernel with the other one."""
+    _, base = host.guests[0][2][0]
+    swapped = {base + 20: base + 21, base + 21: base + 20}
+    host.boot_all()
+    host.run_all()
+    host.serve(data_of=lambda vm, gfn: host.page_of_file(vm, swapped.get(gfn, gfn)))
 
 
 def unnamed(host):
@@ -358,7 +377,7 @@ def main(name, *words):
     {it.__name__: it for it in HOSTS}[name](host)
 
 
-HOSTS = [good, elsewhere, omitted, added, exchanged, unnamed, processors, knowing, lingering, forking, staying,
+HOSTS = [good, elsewhere, omitted, added, exchanged, swapping, unnamed, processors, knowing, lingering, forking, staying,
          separating, stopping, unread, deaf, talking, forging, typing, pieces, holding]
 if __name__ == "__main__":
     main(*sys.argv[1:])

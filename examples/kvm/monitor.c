@@ -1,5 +1,6 @@
 /* The monitor: its command line, and the run from start to end. */
 #include "monitor.h"
+#include "guests/loader.h"
 #include <errno.h>
 #include <fcntl.h>
 #include <poll.h>
@@ -17,7 +18,7 @@ static const char usage[] =
     "usage: monitor [--config PATH] [--trace PATH] [--redacted] [--states] [--calls N] [--published PATH] "
     "[--record PATH] [--seconds N] [--attack] [--storm N] [GUEST..] [-- HOST [WORD..]]\n"
     "       monitor --resume PATH [--trace PATH] [--redacted] [--states]\n"
-    "       GUEST: bare:PATH@GFN[*VCPUS], bios:PATH@GFN or multiboot:PATH@GFN,PATH@GFN\n";
+    "       GUEST: bare:PATH@GFN[*VCPUS], bios:PATH@GFN, multiboot:PATH@GFN,PATH@GFN or linux:IMAGE,KERNEL,INITRAMFS\n";
 
 struct options {
     const char *configuration, *resumed, *trace, *record, *published;
@@ -48,27 +49,39 @@ static unsigned number_of(const char *word) {
     return number;
 }
 
-/* Reads MODE:PATH@GFN[,PATH@GFN..][*VCPUS], and opens the files. */
+/* Kernel and initramfs of a Linux guest are where its image measures them, and it says how many processors there are. */
+static void read_plan(struct boot *boot, const char *word) {
+    struct linux_plan plan;
+    if (boot->count != 1 + MEASURED || pread(boot->parts[0].file, &plan, sizeof plan, PLAN) != sizeof plan) refuse(word);
+    for (unsigned file = 0; file < MEASURED; file++) boot->parts[1 + file].base = plan.files[file].address / PAGE;
+    if (!plan.vcpus || plan.vcpus > VCPUS) refuse(word);
+    boot->images = 1;
+    boot->vcpus = plan.vcpus;
+}
+
+/* Reads MODE:PATH@GFN[,PATH@GFN..][*VCPUS] or linux:PATH,PATH,PATH, and opens the files. */
 static void read_guest(struct options *options, const char *word) {
-    static const char *const modes[] = {[BARE] = "bare", [BIOS] = "bios", [MULTIBOOT] = "multiboot"};
+    static const char *const modes[] = {[BARE] = "bare", [BIOS] = "bios", [MULTIBOOT] = "multiboot", [LINUX] = "linux"};
     char text[4096], *rest = text, *part;
     unsigned slot = options->plan.count++, mode = BARE;
     struct boot *boot = slot < MOST_GUESTS ? &options->plan.boots[slot] : NULL;
     if (!boot || snprintf(text, sizeof text, "%s", word) >= (int)sizeof text) refuse(word);
     char *kind = strsep(&rest, ":"), *vcpus = rest ? strchr(rest, '*') : NULL;
     if (vcpus) *vcpus++ = 0;
-    while (mode <= MULTIBOOT && strcmp(kind, modes[mode])) mode++;
+    while (mode <= LINUX && strcmp(kind, modes[mode])) mode++;
     boot->vcpus = vcpus ? number_of(vcpus) : 1;
-    if (mode > MULTIBOOT || !rest || !boot->vcpus || boot->vcpus > VCPUS) refuse(word);
+    if (mode > LINUX || (mode == LINUX && vcpus) || !rest || !boot->vcpus || boot->vcpus > VCPUS) refuse(word);
     options->modes[slot] = mode;
     while ((part = strsep(&rest, ","))) {
-        char *path = strsep(&part, "@");
+        char *path = mode == LINUX ? part : strsep(&part, "@");
         if (!part || boot->count == PARTS) refuse(word);
         int file = open(path, O_RDONLY | O_CLOEXEC);
         if (file < 0) fail(path);
         boot->parts[boot->count].file = file;
-        boot->parts[boot->count++].base = number_of(part);
+        boot->parts[boot->count++].base = mode == LINUX ? 0 : number_of(part);
     }
+    boot->images = boot->count;
+    if (mode == LINUX) read_plan(boot, word);
 }
 
 /* A host other than the monitor's own: a program and its words. */
@@ -127,6 +140,31 @@ static bool compare(struct monitor *monitor) {
                (unsigned long long)monitor->core.calls, monitor->faults, monitor->exits, monitor->mmu.frames,
                found.private_pages, found.shared_pages, found.wrong);
     return !found.wrong;
+}
+
+unsigned linux_slot(const struct monitor *monitor) {
+    for (unsigned slot = 0; slot < monitor->plan->count; slot++)
+        if (monitor->modes[slot] == LINUX) return slot;
+    return SLOTS;
+}
+
+/* Sends a character to the first Linux guest, when it is there and has room. */
+static void type(struct monitor *monitor, char character) {
+    unsigned slot = linux_slot(monitor);
+    pthread_mutex_lock(&monitor->lock);
+    while (!monitor->guests[slot] || !guest_type(monitor->guests[slot], character))
+        pthread_cond_wait(&monitor->moved, &monitor->lock);
+    pthread_mutex_unlock(&monitor->lock);
+}
+
+/* Sends what is typed, and at its end what ends a shell, until one does: a thread, which ends with the program. */
+static void *read_input(void *of) {
+    char text[256];
+    ssize_t length;
+    while ((length = read(STDIN_FILENO, text, sizeof text)) > 0)
+        for (ssize_t at = 0; at < length; at++) type(of, text[at]);
+    for (;; sleep(1)) type(of, 4);
+    return NULL;
 }
 
 /* Reads a signal. SIGUSR1 only compares; returns whether it was that one. */
@@ -247,6 +285,11 @@ static int start(struct monitor *monitor, struct options *options, pthread_t *se
     int signals = open_signals();
     output_open();
     open_kvm(monitor);
+    if (linux_slot(monitor) < SLOTS) {
+        pthread_t reading;
+        monitor->is_shown = terminal_open();
+        if (pthread_create(&reading, NULL, read_input, monitor) || pthread_detach(reading)) fail("a thread");
+    }
     monitor->served = eventfd(0, EFD_CLOEXEC);
     monitor->stop = eventfd(0, EFD_CLOEXEC);
     if (monitor->served < 0 || monitor->stop < 0) fail("an event");
@@ -285,5 +328,6 @@ int main(int count, char **words) {
     is_well &= end_guests(&monitor, options.record);
     close_all(&monitor, signals);
     output_close();
+    terminal_close();
     return is_well ? 0 : 1;
 }

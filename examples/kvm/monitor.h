@@ -30,7 +30,19 @@ void output_open(void);
 __attribute__((format(printf, 2, 3))) void print_line(enum source source, const char *format, ...);
 /* Adds a character, which is printed with the line that it belongs to. That begins with a name. */
 void print_character(struct line *line, enum source source, const char *name, char character);
+/* Prints a guest's text as it is. */
+void print_text(const char *text, size_t length);
 void output_close(void);
+
+/* The terminal (terminal.c) of whoever started the monitor: the serial line of the first Linux guest. */
+
+/* Has each character that comes go to the guest as it is typed, if the terminal is this program's to use. Returns
+ * whether it is. */
+bool terminal_open(void);
+/* Prints a character of the guest's, if a terminal may get it. */
+void terminal_print(char character);
+/* Leaves the terminal as it was. */
+void terminal_close(void);
 
 /* Ends the program with status 3 and a line on standard error: what was decided cannot be done. */
 _Noreturn __attribute__((format(printf, 1, 2))) void end_with(const char *format, ...);
@@ -130,15 +142,26 @@ struct comparison mmu_compare(struct mmu *mmu, struct core *core);
 struct devices {
     struct line line;
     uint8_t serial[8], speed[2], cmos, keyboard;
+    char typed[256]; /* a ring: what the guest has not read yet */
+    unsigned first, count;
+    bool has_interrupts; /* as Linux wants it, and no firmware */
+    bool was_sent;       /* a character, of which the guest was not informed yet */
+    bool level;          /* of the serial line's interrupt */
+    bool is_shown;       /* a terminal is its other end */
 };
 
 void device_out(struct devices *devices, unsigned vm, uint16_t port, uint32_t value);
 uint32_t device_in(struct devices *devices, uint16_t port);
+/* Whether the serial line asks for an interrupt. */
+bool device_interrupts(const struct devices *devices);
+/* Sends the guest a character. Returns whether there was room for it. */
+bool device_type(struct devices *devices, char character);
 
-/* Guests (guest.c): the life of a VM, from its registration until it is cleared and its threads are gone. */
+/* Guests (guest.c): the life of a VM, from its registration until it is cleared and its threads are gone; how its virtual
+ * processors begin (begin.c). */
 
 /* How its virtual processors begin. The host has no say in it. */
-enum mode { BARE, BIOS, MULTIBOOT };
+enum mode { BARE, BIOS, MULTIBOOT, LINUX };
 
 struct guest;
 
@@ -186,12 +209,20 @@ struct monitor {
     atomic_uint faults, exits;
     unsigned lives; /* of guests whose threads are not all gone */
     bool is_over;   /* nothing is asked any more */
+    bool is_shown;  /* the first Linux guest, at a terminal */
 };
+
+/* The slot of the first Linux guest, or SLOTS. */
+unsigned linux_slot(const struct monitor *monitor);
 
 /* These are called with the lock held. */
 void guest_open(struct monitor *monitor, unsigned slot);
+/* Sends a character by its serial line. Returns whether there was room for it. */
+bool guest_type(struct guest *guest, char character);
 /* Its images were approved. */
 void guest_activate(struct guest *guest);
+/* Sets how a virtual processor begins: its registers and features are no less the guest's than its memory. */
+void set_beginning(const struct vcpu *vcpu);
 /* Has a virtual processor begin, or go on. Returns the reply to the host. */
 const char *guest_run(struct monitor *monitor, uint32_t slot, uint32_t vcpu);
 /* It sees no page from now on, and its threads end. */

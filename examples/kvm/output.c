@@ -78,6 +78,8 @@ void print_line(enum source source, const char *format, ...) {
     print(source, text, used);
 }
 
+void print_text(const char *text, size_t length) { print(OF_GUEST, text, length); }
+
 void print_character(struct line *line, enum source source, const char *name, char character) {
     if (character == '\r') return;
     if (character != '\n') line->text[line->length++] = character >= ' ' && character < 127 ? character : '.';
@@ -108,6 +110,7 @@ _Noreturn void end_with(const char *format, ...) {
     int length = vsnprintf(text, sizeof text, format, values);
     va_end(values);
     output_close();
+    terminal_close();
     if (poll(&file, 1, PATIENCE * 1000) > 0) dprintf(STDERR_FILENO, "monitor: %.*s\n", length, text);
     _exit(3);
 }

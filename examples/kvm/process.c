@@ -91,7 +91,8 @@ static _Noreturn void execute(const struct beginning *it) {
         const struct boot *boot = &plan->boots[vm];
         int length = sprintf(guests[vm], "%u", boot->vcpus);
         for (unsigned part = 0; part < boot->count; part++)
-            length += sprintf(guests[vm] + length, ":%u@%u", file++, (unsigned)boot->parts[part].base);
+            length += sprintf(guests[vm] + length, "%c%u@%u", part < boot->images ? ':' : '+', file++,
+                              (unsigned)boot->parts[part].base);
         words[count++] = guests[vm];
     }
     words[count] = NULL;
