@@ -60,6 +60,7 @@ static const char *answer(struct monitor *monitor, const char *line, size_t leng
     uint32_t n[3];
     uint8_t copy[PAGE];
     if (is_call(line, "run", 2, n)) return guest_run(monitor, n[0], n[1]);
+    if (is_call(line, "interrupt", 1, n)) return guest_interrupt(monitor, n[0]);
     bool has_copy = is_call(line, "remap", 3, n) && copy_page(monitor, n[2], copy);
     const char *reply = core_ask(&monitor->core, line, length);
     struct guest *cleared = is_call(line, "clear", 1, n) && !strcmp(reply, "done") ? monitor->guests[n[0]] : NULL;

@@ -15,7 +15,7 @@
 
 /* The ports of 32 bits by which a guest calls. A write to one of the first five is a call: bits 0 to 17 are the guest
  * frame and, for the two on ranges, those from 18 on the count. A read of the first is 0 if the last call was done. */
-enum { GRANT = 0x1000, REVOKE, DROP, GRANTR, REVOKER, NOTIFY = 0x1008, END = 0x1009, CLOCK = 0x100a };
+enum { GRANT = 0x1000, REVOKE, DROP, GRANTR, REVOKER, NOTIFY = 0x1008, END = 0x1009, CLOCK = 0x100a, RING = 0x100b };
 
 static void start(pthread_t *thread, void *(*body)(void *), void *of, struct guest *guest) {
     pthread_attr_t attributes;
@@ -99,12 +99,25 @@ static void add_interrupts(struct guest *guest) {
     guest->devices.has_interrupts = true;
 }
 
+static void set_interrupt(struct guest *guest, uint32_t number, bool level) {
+    struct kvm_irq_level line = {.irq = number, .level = level};
+    if (ioctl(guest->vm, KVM_IRQ_LINE, &line)) fail("an interrupt");
+}
+
 /* Has the serial line's interrupt follow the line, after anything that was done to it. */
 static void follow_line(struct guest *guest) {
-    struct kvm_irq_level line = {.irq = 4, .level = device_interrupts(&guest->devices)};
-    if (!guest->devices.has_interrupts || line.level == guest->devices.level) return;
-    guest->devices.level = line.level;
-    if (ioctl(guest->vm, KVM_IRQ_LINE, &line)) fail("an interrupt");
+    bool level = device_interrupts(&guest->devices);
+    if (!guest->devices.has_interrupts || level == guest->devices.level) return;
+    guest->devices.level = level;
+    set_interrupt(guest, SERIAL_LINE, level);
+}
+
+const char *guest_interrupt(struct monitor *monitor, uint32_t slot) {
+    struct guest *guest = slot < SLOTS ? monitor->guests[slot] : NULL;
+    if (!guest || !guest->disk.is_ready) return "refused no-disk";
+    guest->disk.interrupts = true;
+    set_interrupt(guest, DISK_LINE, true);
+    return "done";
 }
 
 bool guest_type(struct guest *guest, char character) {
@@ -260,6 +273,40 @@ static void measure(struct vcpu *vcpu, uint32_t times) {
     vcpu->asked = asking;
 }
 
+/* The guest frame of the ring of its disk, or 0 if there is none. */
+static uint32_t ring_of(struct guest *guest) {
+    pthread_mutex_lock(&guest->monitor->lock);
+    uint32_t ring = guest->disk.is_ready ? guest->disk.ring : 0;
+    pthread_mutex_unlock(&guest->monitor->lock);
+    return ring;
+}
+
+/* Has the host look into the ring. */
+static void kicks(struct vcpu *vcpu) { monitor_event(vcpu->guest->monitor, "kicked", vcpu, ring_of(vcpu->guest)); }
+
+/* Reads or writes a register of the disk. */
+static void reach_disk(struct vcpu *vcpu) {
+    struct guest *guest = vcpu->guest;
+    struct kvm_run *run = vcpu->run;
+    uint32_t at = run->mmio.phys_addr - DISK, value = 0, size = run->mmio.len < 4 ? run->mmio.len : 4;
+    bool is_kicked = false;
+    pthread_mutex_lock(&guest->monitor->lock);
+    if (run->mmio.is_write) memcpy(&value, run->mmio.data, size);
+    else value = disk_read(&guest->disk, at, size);
+    if (run->mmio.is_write) is_kicked = disk_write(&guest->disk, at, value);
+    else memcpy(run->mmio.data, &value, size);
+    if (!guest->disk.interrupts) set_interrupt(guest, DISK_LINE, false);
+    pthread_mutex_unlock(&guest->monitor->lock);
+    if (is_kicked) kicks(vcpu);
+}
+
+static void exits_by_memory(struct vcpu *vcpu) {
+    struct kvm_run *run = vcpu->run;
+    bool is_disk = run->mmio.phys_addr >= DISK && run->mmio.phys_addr < DISK_END;
+    if (vcpu->guest->mode == LINUX && is_disk) reach_disk(vcpu);
+    else if (!run->mmio.is_write) memset(run->mmio.data, 0xff, sizeof run->mmio.data);
+}
+
 /* Writes a port. Returns whether the virtual processor goes on. */
 static bool out(struct vcpu *vcpu, uint16_t port, uint32_t value) {
     static const uint32_t calls[] = {KCORE_GRANT, KCORE_REVOKE, KCORE_DROP, KCORE_GRANTR, KCORE_REVOKER};
@@ -268,6 +315,7 @@ static bool out(struct vcpu *vcpu, uint16_t port, uint32_t value) {
     else if (port == NOTIFY) return notifies(vcpu, value);
     else if (port == END) return false;
     else if (port == CLOCK) measure(vcpu, value);
+    else if (port == RING) kicks(vcpu);
     else {
         pthread_mutex_lock(&vcpu->guest->monitor->lock);
         device_out(&vcpu->guest->devices, vcpu->guest->slot, port, value);
@@ -279,6 +327,7 @@ static bool out(struct vcpu *vcpu, uint16_t port, uint32_t value) {
 
 static uint32_t in(struct vcpu *vcpu, uint16_t port) {
     if (port == GRANT) return vcpu->answer;
+    if (port == RING) return ring_of(vcpu->guest);
     pthread_mutex_lock(&vcpu->guest->monitor->lock);
     bool was_full = vcpu->guest->devices.count == sizeof vcpu->guest->devices.typed;
     uint32_t value = device_in(&vcpu->guest->devices, port);
@@ -318,9 +367,7 @@ static bool answers(struct vcpu *vcpu) {
     struct kvm_run *run = vcpu->run;
     switch (run->exit_reason) {
     case KVM_EXIT_IO: return exits_by_port(vcpu);
-    case KVM_EXIT_MMIO: /* past the memory there is no device */
-        if (!run->mmio.is_write) memset(run->mmio.data, 0xff, sizeof run->mmio.data);
-        return true;
+    case KVM_EXIT_MMIO: exits_by_memory(vcpu); return true;
     case KVM_EXIT_HLT: /* no interrupt comes: one that takes interrupts is woken without any, another one has ended */
         if (run->if_flag) usleep(1000);
         return run->if_flag;

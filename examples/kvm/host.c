@@ -1,6 +1,6 @@
 /* The host: it loads images, supplies frames and, if it is hostile, tries what it may not do. It does everything
  * through its three pipes and its own memory. */
-#include "host.h"
+#include "disk.h"
 #include <errno.h>
 #include <fcntl.h>
 #include <poll.h>
@@ -43,6 +43,13 @@ struct host {
     unsigned storm, leaks;
     uint64_t chance;
     int pipes[MOST_GUESTS][2];
+    struct host_disk disks[MOST_GUESTS];
+};
+
+/* One guest's pages, as the host reaches them. */
+struct reached {
+    struct host *host;
+    uint32_t vm;
 };
 
 static _Noreturn void stop(const char *what) {
@@ -185,6 +192,20 @@ static void supply(struct host *host, uint32_t vm, uint32_t vcpu, uint32_t gfn) 
         else ask(host, "give %u", frame); /* it no longer waits, or was cleared */
         return;
     }
+}
+
+static uint8_t *reach(void *of, uint32_t gfn) {
+    struct reached *it = of;
+    if (gfn >= REMEMBERED) return NULL;
+    uint32_t frame = it->host->frame_of[it->vm][gfn];
+    return is_done(ask(it->host, "hfault %u", frame)) ? at(it->host, frame) : NULL;
+}
+
+/* A guest has put something into the ring of its disk. Until it lends the ring, that stays there. */
+static void serve_disk(struct host *host, uint32_t vm, uint32_t ring) {
+    struct reached reached = {host, vm};
+    const struct lent lent = {reach, &reached};
+    if (vm < host->plan->count && disk_answer(&host->disks[vm], &lent, ring)) ask(host, "interrupt %u", vm);
 }
 
 static void clear(struct host *host, uint32_t vm) {
@@ -415,6 +436,8 @@ static void serve_event(struct host *host, const char *line) {
     } else if (!strcmp(name, "notified")) {
         serve_notice(host, vm, number);
         ask(host, "run %u %u", vm, vcpu);
+    } else if (!strcmp(name, "kicked")) {
+        serve_disk(host, vm, number);
     } else if (!strcmp(name, "ended") && !vcpu) {
         printf("guest %u has ended\n", vm);
         host->runs[vm] = false;
@@ -446,6 +469,7 @@ static bool any_measures(const struct host *host) {
 static void boot_all(struct host *host) {
     for (unsigned vm = 0; vm < host->plan->count; vm++) {
         for (unsigned place = 0; place < PLACES; place++) host->places[vm][place] = AT_SECRET + place;
+        strcpy((char *)host->disks[vm].bytes, "a disk of the host's\n");
         host->runs[vm] = boot(host, vm, &host->plan->boots[vm], false);
         if (!host->runs[vm]) printf("guest %u is not booted: %s\n", vm, host->reply);
     }

@@ -6,6 +6,7 @@
 #include <sys/types.h>
 
 enum { MOST_GUESTS = 8, PARTS = 4 };
+enum { DISK_SECTORS = 256 }; /* of 512 bytes: what the host has for the disk of each Linux guest */
 
 /* The numbers of its files: after the standard streams its memory, in which frame f is at f * 4,096; the pipe to which
  * it writes calls, and that from which it reads the replies; the pipe of events; the images; its program. */

@@ -7,7 +7,7 @@ import pathlib
 import stat
 import sys
 
-FOLDERS = "bin", "dev", "proc", "sys", "tmp"
+FOLDERS = "bin", "dev", "drivers", "proc", "sys", "tmp"
 CONSOLE = 5, 1
 
 

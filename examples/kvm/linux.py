@@ -18,6 +18,7 @@ HEADER, VERSION, LONG_MODE_ENTRY = 0x1F1, 0x20E, 0x200
 USABLE, ACPI = 1, 3
 LOCAL_CONTROLLERS, CONTROLLER = 0xFEE00000, 0xFEC00000
 EVENTS, CONTROL = 0x600, 0x604  # ports of the ACPI hardware, which has nothing to report
+DISK, DISK_SIZE, DISK_LINE = 0x40000000, 0x1000, 5
 
 
 def table(name, revision, body):
@@ -26,6 +27,21 @@ def table(name, revision, body):
     data = bytearray(head + body)
     data[9] = -sum(data) & 0xFF
     return bytes(data)
+
+
+def package(operation, body):
+    """An operation of AML with its length, which counts its own two bytes."""
+    length = len(body) + 2
+    return operation + bytes([0x40 | length & 0xF, length >> 4]) + body
+
+
+def disk():
+    """The device of virtio by MMIO: in the scope _SB, a device with a name, a number, registers and a level interrupt."""
+    resources = struct.pack("<BHBII", 0x86, 9, 1, DISK, DISK_SIZE) + struct.pack("<BHBBI", 0x89, 6, 1, 1, DISK_LINE)
+    resources += b"\x79\0"
+    body = b"DISK" + b"\x08_HID\x0dLNRO0005\0" + b"\x08_UID\0"
+    body += b"\x08_CRS" + package(b"\x11", b"\x0a" + bytes([len(resources)]) + resources)
+    return table(b"DSDT", 2, package(b"\x10", b"\\_SB_" + package(b"\x5b\x82", body)))
 
 
 def hardware(description):
@@ -58,7 +74,7 @@ def tables(at, vcpus):
         page[end : end + len(data)] = data
         return end + len(data) + -len(data) % 16
 
-    end = put("description", table(b"DSDT", 2, b""), 64)
+    end = put("description", disk(), 64)
     end = put("hardware", hardware(place["description"]), end)
     end = put("processors", processors(vcpus), end)
     put("all", table(b"XSDT", 1, struct.pack("<QQ", place["hardware"], place["processors"])), end)

@@ -157,6 +157,19 @@ bool device_interrupts(const struct devices *devices);
 /* Sends the guest a character. Returns whether there was room for it. */
 bool device_type(struct devices *devices, char character);
 
+/* The disk of a Linux guest (virtio.c): its registers. */
+
+enum { DISK = 0x40000000, DISK_END = 0x40001000, DISK_LINE = 5, SERIAL_LINE = 4 };
+
+struct disk {
+    uint32_t half, status, ring; /* which features are asked for; the guest frame of the ring */
+    bool is_ready, interrupts;
+};
+
+uint32_t disk_read(const struct disk *disk, uint32_t at, uint32_t size);
+/* Returns whether the guest has put something into the ring. */
+bool disk_write(struct disk *disk, uint32_t at, uint32_t value);
+
 /* Guests (guest.c): the life of a VM, from its registration until it is cleared and its threads are gone; how its virtual
  * processors begin (begin.c). */
 
@@ -188,6 +201,7 @@ struct guest {
     int vm, ends;   /* KVM's, and what wakes the thread of its faults */
     struct memory memory;
     struct devices devices;
+    struct disk disk;
     struct {
         uint32_t base, length;
     } images[IMAGES];
@@ -217,6 +231,8 @@ unsigned linux_slot(const struct monitor *monitor);
 
 /* These are called with the lock held. */
 void guest_open(struct monitor *monitor, unsigned slot);
+/* The host has answered what was in the ring of its disk. Returns the reply to the host. */
+const char *guest_interrupt(struct monitor *monitor, uint32_t slot);
 /* Sends a character by its serial line. Returns whether there was room for it. */
 bool guest_type(struct guest *guest, char character);
 /* Its images were approved. */
@@ -232,7 +248,7 @@ void guest_close(struct guest *guest);
 
 /* Serves the host's calls, and prints what it prints, until it is stopped: a thread. */
 void *serve_host(void *monitor);
-/* Sends the host a line: what happened (fault, notified or ended), slot, virtual processor, a number. It waits for room
+/* Sends the host a line: what happened (fault, notified, kicked or ended), slot, virtual processor, a number. It waits for room
  * as long as the guest does not end, so it is called without the lock. */
 void monitor_event(struct monitor *monitor, const char *name, const struct vcpu *vcpu, uint32_t number);
 
