@@ -19,12 +19,46 @@ COMPARED = re.compile(
     r"(\d+) otherwise than the record")
 OVER = "monitor: the time is over"
 
+# What the hostile host prints once, or for each guest with a letter.
+ONCE = (
+    "host: an altered image is rejected; has it run: refused not-active",
+    "host: alters a page of an image after its remap: refused protected",
+    "host: speaks for a guest: not yours",
+    "host: gives a frame to a virtual processor that waits for none: refused no-fault",
+    "host: sends 16 lines that are not calls of its own: 0 done",
+    "host: opens the monitor's memory: Permission denied",
+    "host: traces the monitor: No such process",
+    "host: opens the monitor's terminal: No such device or address",
+    "host: offers guest 1 a frame of guest 0: refused not-host",
+    "host: offers guest 1 a frame of the core: refused not-host",
+    "host: ends guest 1, which runs: done",
+    "host: has it run: refused not-active",
+    "host: takes all free frames: 0 bytes in them",
+)
+EACH = (
+    'host: looks at the secret: refused protected, its memory has ""',
+    'host: looks at the letter, not shared yet: refused protected, its memory has ""',
+    "host: takes the secret's frame back: refused not-host",
+    'host: the letter, shared but not asked for: its memory has ""',
+    'host: looks at the secret again: refused protected, its memory has "a forged secret"',
+    'host: looks at the letter, revoked: refused protected, its memory has ""',
+    'host: looks at what was dropped: refused protected, its memory has ""',
+    'host: looks at what was dropped, taken: done, its memory has ""',
+)
+GUESTS = (
+    'host: the letter, shared and asked for: its memory has "a letter of guest {}"',
+    'host: the page that a pipe has kept: "a letter of guest {}"',
+    "guest {}: the host wrote: thank you, guest {}",
+    "guest {}: 0 counts lost",
+    'guest {}: the secret is still "the secret of guest {}"',
+)
+
 
 def is_made(results, folder, made_by=None, sources=EXAMPLE):
     """Makes the monitor and its guests in a folder, over a library that is named or the one that make finds."""
     include = os.environ.get("INCLUDE", TOP / "include")
     library = [f"LIBRARY={made_by}", f"INCLUDE={include}"] if made_by else []
-    words = ["make", "-s", "-C", sources, f"OUT={folder}", *library, "BIOS=", "KERNEL="]
+    words = ["make", "-s", "-C", sources, f"OUT={folder}", *library, "BIOS=", "KERNEL=", "LINUX="]
     environment = {name: value for name, value in os.environ.items() if name not in ("LIBRARY", "INCLUDE", "OUT")}
     ran = subprocess.run(words, stdout=subprocess.PIPE, stderr=subprocess.STDOUT, text=True, env=environment)
     is_quiet = results.count(not ran.returncode and not ran.stdout, "it compiles without a word", ran.stdout)
@@ -33,7 +67,19 @@ def is_made(results, folder, made_by=None, sources=EXAMPLE):
         (folder / "other").write_bytes(talk.replace(b"hello from guest ", b"hallo from guest "))
         shutil.copy(EXAMPLE / "hostile.py", folder)
         (folder / "hostile.py").chmod(0o755)
+        make_small(folder, sources)
     return is_quiet
+
+
+def make_small(folder, sources):
+    """Makes the image of a guest that boots as Linux does, with a small kernel, which does not read its initramfs."""
+    linked = "-Wl,--oformat=binary,-Ttext=0,-e,0,--build-id=none"
+    words = ["cc", "-nostdlib", "-static", linked, "-o", folder / "small", TOP / "tests" / "kernel.S"]
+    subprocess.run(words, check=True)
+    (folder / "initial").write_bytes(b"initial files" * 8)
+    files = [folder / name for name in ("loader", "small", "initial", "linux")]
+    words = [sys.executable, "-B", sources / "linux.py", *files, "96", "1", "no words"]
+    subprocess.run(words, stdout=subprocess.DEVNULL, check=True)
 
 
 def boot_record(frame, sizes):
@@ -80,7 +126,8 @@ class Trial:
 
     def machine(self, frames, host):
         name = f"machine-{frames}.json"
-        files = [self.folder / image for image in ("talk", "other", "storm", "bios") if (self.folder / image).exists()]
+        images = "talk", "other", "storm", "linux", "bios"
+        files = [self.folder / image for image in images if (self.folder / image).exists()]
         words = [sys.executable, "-B", EXAMPLE / "machine.py", str(frames), str(host), *files]
         (self.folder / name).write_bytes(subprocess.run(words, stdout=subprocess.PIPE, check=True).stdout)
         return self.folder / name
@@ -289,6 +336,27 @@ MISTAKES = [
     Mistake("a guest may have more processors", "guest.c",
             "guest->is_as_named && number < guest->boot->vcpus; number++)\n",
             "guest->is_as_named && number < VCPUS; number++)\n"),
+    Mistake("Linux begins, whatever its kernel is", "guests/loader.c",
+            "        if (!is_right) return 0;\n",
+            ""),
+    Mistake("only the kernel is measured", "guests/loader.c",
+            "    for (int n = 0; n < MEASURED; n++) {\n        int is_right",
+            "    for (int n = 0; n < 1; n++) {\n        int is_right"),
+    Mistake("what firmware left stays", "guests/loader.c",
+            '    __asm__ volatile("rep stosq"',
+            '    if (!at) __asm__ volatile("rep stosq"'),
+    Mistake("a terminal gets what a guest prints", "terminal.c",
+            "    if (character == ESCAPE) ",
+            "    if (character == ESCAPE && !terminal.is_open) "),
+    Mistake("a terminal is left as a guest had it", "terminal.c",
+            "    if (terminal.is_open) tcsetattr(",
+            "    if (!terminal.is_open) tcsetattr("),
+    Mistake("what is typed comes to no guest", "guest.c",
+            "    device_type(&guest->devices, character);\n",
+            "    if (!character) device_type(&guest->devices, character);\n"),
+    Mistake("what is typed is lost before a guest is ready", "devices.c",
+            "    return devices->serial[MODEM_CONTROL] & READY && devices->count <",
+            "    return devices->count <"),
     Mistake("names of volumes do not sort", "core.c",
             '"%s.%05u%s"',
             '"%s.%u%s"'),

@@ -7,6 +7,7 @@ enum { SERIAL = 0x3f8, DEBUG = 0xe9, FIRMWARE_DEBUG = 0x402, CMOS = 0x70, KEYBOA
 enum { DATA, INTERRUPTS, IDENTITY, LINE_CONTROL, MODEM_CONTROL, LINE_STATUS, MODEM_STATUS };
 /* Bits of INTERRUPTS, which is what the guest wants to be interrupted for, and what IDENTITY then is. */
 enum { RECEIVED = 1, SENT = 2, IS_SENT = 2, IS_RECEIVED = 4, IS_NONE = 1 };
+enum { READY = 2 }; /* of MODEM_CONTROL: the guest is ready to receive */
 
 static void print(struct devices *devices, unsigned vm, char character) {
     char name[20];
@@ -46,10 +47,12 @@ static uint32_t identify(struct devices *devices) {
 
 bool device_interrupts(const struct devices *devices) { return identity(devices) != IS_NONE; }
 
-bool device_type(struct devices *devices, char character) {
-    if (devices->count == sizeof devices->typed) return false;
+bool device_has_room(const struct devices *devices) {
+    return devices->serial[MODEM_CONTROL] & READY && devices->count < sizeof devices->typed;
+}
+
+void device_type(struct devices *devices, char character) {
     devices->typed[(devices->first + devices->count++) % sizeof devices->typed] = character;
-    return true;
 }
 
 static uint8_t receive(struct devices *devices) {

@@ -57,7 +57,8 @@ static uint32_t answer(struct host_disk *disk, const struct lent *lent, const st
     const struct descriptor *next = &asked->descriptors[head % RING];
     struct request request;
     uint8_t status = OK;
-    if (next->length < sizeof request || !copy(lent, next->address, (uint8_t *)&request, sizeof request, false)) return 0;
+    if (next->length < sizeof request) return 0;
+    if (!copy(lent, next->address, (uint8_t *)&request, sizeof request, false)) return 0;
     uint64_t begin = request.sector < DISK_SECTORS ? request.sector * SECTOR : UINT64_MAX, at = begin;
     for (unsigned count = 0; count < RING && next->flags & HAS_NEXT; count++) {
         next = &asked->descriptors[next->next % RING];

@@ -121,9 +121,10 @@ const char *guest_interrupt(struct monitor *monitor, uint32_t slot) {
 }
 
 bool guest_type(struct guest *guest, char character) {
-    bool has_room = device_type(&guest->devices, character);
+    if (!device_has_room(&guest->devices)) return false;
+    device_type(&guest->devices, character);
     follow_line(guest);
-    return has_room;
+    return true;
 }
 
 void guest_open(struct monitor *monitor, unsigned slot) {
@@ -307,6 +308,17 @@ static void exits_by_memory(struct vcpu *vcpu) {
     else if (!run->mmio.is_write) memset(run->mmio.data, 0xff, sizeof run->mmio.data);
 }
 
+/* Reads or writes a port of a device. */
+static void reach_device(struct guest *guest, uint16_t port, uint32_t *value, bool is_out) {
+    pthread_mutex_lock(&guest->monitor->lock);
+    bool had_room = device_has_room(&guest->devices);
+    if (is_out) device_out(&guest->devices, guest->slot, port, *value);
+    else *value = device_in(&guest->devices, port);
+    follow_line(guest);
+    if (!had_room && device_has_room(&guest->devices)) pthread_cond_broadcast(&guest->monitor->moved);
+    pthread_mutex_unlock(&guest->monitor->lock);
+}
+
 /* Writes a port. Returns whether the virtual processor goes on. */
 static bool out(struct vcpu *vcpu, uint16_t port, uint32_t value) {
     static const uint32_t calls[] = {KCORE_GRANT, KCORE_REVOKE, KCORE_DROP, KCORE_GRANTR, KCORE_REVOKER};
@@ -316,24 +328,15 @@ static bool out(struct vcpu *vcpu, uint16_t port, uint32_t value) {
     else if (port == END) return false;
     else if (port == CLOCK) measure(vcpu, value);
     else if (port == RING) kicks(vcpu);
-    else {
-        pthread_mutex_lock(&vcpu->guest->monitor->lock);
-        device_out(&vcpu->guest->devices, vcpu->guest->slot, port, value);
-        follow_line(vcpu->guest);
-        pthread_mutex_unlock(&vcpu->guest->monitor->lock);
-    }
+    else reach_device(vcpu->guest, port, &value, true);
     return true;
 }
 
 static uint32_t in(struct vcpu *vcpu, uint16_t port) {
     if (port == GRANT) return vcpu->answer;
     if (port == RING) return ring_of(vcpu->guest);
-    pthread_mutex_lock(&vcpu->guest->monitor->lock);
-    bool was_full = vcpu->guest->devices.count == sizeof vcpu->guest->devices.typed;
-    uint32_t value = device_in(&vcpu->guest->devices, port);
-    follow_line(vcpu->guest);
-    if (was_full) pthread_cond_broadcast(&vcpu->guest->monitor->moved);
-    pthread_mutex_unlock(&vcpu->guest->monitor->lock);
+    uint32_t value;
+    reach_device(vcpu->guest, port, &value, false);
     return value;
 }
 
@@ -356,7 +359,9 @@ static void report(struct vcpu *vcpu) {
     struct kvm_run *run = vcpu->run;
     struct kvm_regs at;
     if (ioctl(vcpu->file, KVM_GET_REGS, &at)) fail("registers");
-    if (run->exit_reason == KVM_EXIT_INTERNAL_ERROR && run->internal.suberror == KVM_INTERNAL_ERROR_EMULATION)
+    if (run->exit_reason == KVM_EXIT_SHUTDOWN)
+        print_line(OF_MONITOR, "monitor: guest %u ends at %llx: it is reset", vcpu->guest->slot, at.rip);
+    else if (run->exit_reason == KVM_EXIT_INTERNAL_ERROR && run->internal.suberror == KVM_INTERNAL_ERROR_EMULATION)
         print_line(OF_MONITOR, "monitor: guest %u ends at %llx: KVM does not emulate this instruction",
                    vcpu->guest->slot, at.rip);
     else print_line(OF_MONITOR, "monitor: guest %u ends at %llx: exit %u", vcpu->guest->slot, at.rip, run->exit_reason);

@@ -14,8 +14,8 @@
 #include <unistd.h>
 
 enum { PAGE = 4096, IMAGE = 1048576, REMEMBERED = 32768, ANSWER = 64, REPLY = 8300 };
-/* The first page of a guest's code, and what guests/talk.c has at which guest frame. A Linux guest (guests/share.c) says
- * where it has these, by notices of PLACE and more. */
+/* A page of a guest's code, and the guest frame from which on guests/talk.c has the pages that attacks are about. Linux
+ * (guests/share.c) says by notices of PLACE and more where it has these. */
 enum { CODE = 4, AT_SECRET = 512, PLACE = 1 << 20 };
 enum { SECRET, LETTER, THROWN, PLACES };
 /* What a Linux guest has in a file of its own, and in its letter. */

@@ -197,10 +197,17 @@ def exchanged(host):
 def swapping(host):
     """Answers the faults for two pages of a Linux kernel with the other one."""
     _, base = host.guests[0][2][0]
-    swapped = {base + 20: base + 21, base + 21: base + 20}
+    swapped = {base: base + 1, base + 1: base}
     host.boot_all()
     host.run_all()
     host.serve(data_of=lambda vm, gfn: host.page_of_file(vm, swapped.get(gfn, gfn)))
+
+
+def planting(host):
+    """Has a table of firmware's begin in each page that it supplies, but for those of files."""
+    host.boot_all()
+    host.run_all()
+    host.serve(data_of=lambda vm, gfn: host.page_of_file(vm, gfn) or b"RSD PTR " * (PAGE // 8))
 
 
 def unnamed(host):
@@ -377,7 +384,7 @@ def main(name, *words):
     {it.__name__: it for it in HOSTS}[name](host)
 
 
-HOSTS = [good, elsewhere, omitted, added, exchanged, swapping, unnamed, processors, knowing, lingering, forking, staying,
-         separating, stopping, unread, deaf, talking, forging, typing, pieces, holding]
+HOSTS = [good, elsewhere, omitted, added, exchanged, swapping, planting, unnamed, processors, knowing, lingering,
+         forking, staying, separating, stopping, unread, deaf, talking, forging, typing, pieces, holding]
 if __name__ == "__main__":
     main(*sys.argv[1:])

@@ -36,7 +36,7 @@ def package(operation, body):
 
 
 def disk():
-    """The device of virtio by MMIO: in the scope _SB, a device with a name, a number, registers and a level interrupt."""
+    """The disk, by virtio's MMIO transport: a device in scope _SB with a name, a number, registers and an interrupt."""
     resources = struct.pack("<BHBII", 0x86, 9, 1, DISK, DISK_SIZE) + struct.pack("<BHBBI", 0x89, 6, 1, 1, DISK_LINE)
     resources += b"\x79\0"
     body = b"DISK" + b"\x08_HID\x0dLNRO0005\0" + b"\x08_UID\0"

@@ -49,10 +49,11 @@ static unsigned number_of(const char *word) {
     return number;
 }
 
-/* Kernel and initramfs of a Linux guest are where its image measures them, and it says how many processors there are. */
+/* The image of a Linux guest says where its kernel and its initramfs are, and how many processors it has. */
 static void read_plan(struct boot *boot, const char *word) {
     struct linux_plan plan;
-    if (boot->count != 1 + MEASURED || pread(boot->parts[0].file, &plan, sizeof plan, PLAN) != sizeof plan) refuse(word);
+    ssize_t length = pread(boot->parts[0].file, &plan, sizeof plan, PLAN);
+    if (boot->count != 1 + MEASURED || length != sizeof plan) refuse(word);
     for (unsigned file = 0; file < MEASURED; file++) boot->parts[1 + file].base = plan.files[file].address / PAGE;
     if (!plan.vcpus || plan.vcpus > VCPUS) refuse(word);
     boot->images = 1;
@@ -165,6 +166,12 @@ static void *read_input(void *of) {
         for (ssize_t at = 0; at < length; at++) type(of, text[at]);
     for (;; sleep(1)) type(of, 4);
     return NULL;
+}
+
+static void open_terminal(struct monitor *monitor) {
+    pthread_t reading;
+    monitor->is_shown = terminal_open();
+    if (pthread_create(&reading, NULL, read_input, monitor) || pthread_detach(reading)) fail("a thread");
 }
 
 /* Reads a signal. SIGUSR1 only compares; returns whether it was that one. */
@@ -285,11 +292,7 @@ static int start(struct monitor *monitor, struct options *options, pthread_t *se
     int signals = open_signals();
     output_open();
     open_kvm(monitor);
-    if (linux_slot(monitor) < SLOTS) {
-        pthread_t reading;
-        monitor->is_shown = terminal_open();
-        if (pthread_create(&reading, NULL, read_input, monitor) || pthread_detach(reading)) fail("a thread");
-    }
+    if (linux_slot(monitor) < SLOTS && terminal_may_read()) open_terminal(monitor);
     monitor->served = eventfd(0, EFD_CLOEXEC);
     monitor->stop = eventfd(0, EFD_CLOEXEC);
     if (monitor->served < 0 || monitor->stop < 0) fail("an event");

@@ -36,8 +36,9 @@ void output_close(void);
 
 /* The terminal (terminal.c) of whoever started the monitor: the serial line of the first Linux guest. */
 
-/* Has each character that comes go to the guest as it is typed, if the terminal is this program's to use. Returns
- * whether it is. */
+/* Whether this program may read its input: not from a terminal of which another has the use. */
+bool terminal_may_read(void);
+/* Has each character come as it is typed, if input and output are a terminal. Returns whether they are. */
 bool terminal_open(void);
 /* Prints a character of the guest's, if a terminal may get it. */
 void terminal_print(char character);
@@ -154,8 +155,9 @@ void device_out(struct devices *devices, unsigned vm, uint16_t port, uint32_t va
 uint32_t device_in(struct devices *devices, uint16_t port);
 /* Whether the serial line asks for an interrupt. */
 bool device_interrupts(const struct devices *devices);
-/* Sends the guest a character. Returns whether there was room for it. */
-bool device_type(struct devices *devices, char character);
+/* Whether the guest can be sent a character now. */
+bool device_has_room(const struct devices *devices);
+void device_type(struct devices *devices, char character);
 
 /* The disk of a Linux guest (virtio.c): its registers. */
 
@@ -170,8 +172,8 @@ uint32_t disk_read(const struct disk *disk, uint32_t at, uint32_t size);
 /* Returns whether the guest has put something into the ring. */
 bool disk_write(struct disk *disk, uint32_t at, uint32_t value);
 
-/* Guests (guest.c): the life of a VM, from its registration until it is cleared and its threads are gone; how its virtual
- * processors begin (begin.c). */
+/* Guests (guest.c): the life of a VM, from its registration until it is cleared and its threads are gone; and how its
+ * virtual processors begin (begin.c). */
 
 /* How its virtual processors begin. The host has no say in it. */
 enum mode { BARE, BIOS, MULTIBOOT, LINUX };
@@ -248,8 +250,8 @@ void guest_close(struct guest *guest);
 
 /* Serves the host's calls, and prints what it prints, until it is stopped: a thread. */
 void *serve_host(void *monitor);
-/* Sends the host a line: what happened (fault, notified, kicked or ended), slot, virtual processor, a number. It waits for room
- * as long as the guest does not end, so it is called without the lock. */
+/* Sends the host a line: what happened (fault, notified, kicked or ended), slot, virtual processor, a number. It waits
+ * for room as long as the guest does not end, so it is called without the lock. */
 void monitor_event(struct monitor *monitor, const char *name, const struct vcpu *vcpu, uint32_t number);
 
 /* Microseconds of the clock. */

@@ -14,12 +14,15 @@ static struct {
     size_t length;
 } terminal;
 
+bool terminal_may_read(void) { return !isatty(STDIN_FILENO) || tcgetpgrp(STDIN_FILENO) == getpgrp(); }
+
 bool terminal_open(void) {
-    if (!isatty(STDIN_FILENO) || !isatty(STDOUT_FILENO) || tcgetpgrp(STDIN_FILENO) != getpgrp()) return false;
+    if (!isatty(STDIN_FILENO) || !isatty(STDOUT_FILENO)) return false;
     if (tcgetattr(STDIN_FILENO, &terminal.before)) fail("the terminal");
     struct termios raw = terminal.before;
     raw.c_lflag &= ~(ICANON | ECHO);
     raw.c_iflag &= ~ICRNL;
+    raw.c_cc[VSUSP] = _POSIX_VDISABLE;
     if (tcsetattr(STDIN_FILENO, TCSANOW, &raw)) fail("the terminal");
     return terminal.is_open = true;
 }
@@ -29,18 +32,20 @@ void terminal_close(void) {
     terminal.is_open = false;
 }
 
+static bool is_one_of(const char *characters, char character) { return character && strchr(characters, character); }
+
 /* A sequence goes on until a letter. */
 static void print_sequence(char character) {
-    bool is_second = terminal.length == 1, goes_on = is_second ? character == '[' : strchr("0123456789;", character) != NULL;
+    bool is_second = terminal.length == 1;
     terminal.sequence[terminal.length++] = character;
-    if (goes_on && character && terminal.length < LONGEST) return;
-    if (!is_second && character && strchr("ABCDGHJKm", character)) print_text(terminal.sequence, terminal.length);
+    if (is_one_of(is_second ? "[" : "0123456789;", character) && terminal.length < LONGEST) return;
+    if (!is_second && is_one_of("ABCDGHJKm", character)) print_text(terminal.sequence, terminal.length);
     terminal.length = 0;
 }
 
 void terminal_print(char character) {
     if (character == ESCAPE) terminal.sequence[0] = ESCAPE, terminal.length = 1;
     else if (terminal.length) print_sequence(character);
-    else if ((character >= ' ' && character < 127) || (character && strchr("\n\r\b\t\a", character)))
+    else if ((character >= ' ' && character < 127) || is_one_of("\n\r\b\t\a", character))
         print_text(&character, 1);
 }

@@ -18,7 +18,7 @@ static int lend(uint32_t gfn, uint32_t count) {
 }
 
 int main(int count, char **words) {
-    if (count != 3 || iopl(3)) return 1;
+    if (count != 3 || iopl(3)) return fprintf(stderr, "lend: there is no buffer, or no right to ports\n"), 1;
     uint64_t first = strtoull(words[1], NULL, 16), last = strtoull(words[2], NULL, 16);
     uint32_t ring, pages = (last + 1 - first) / PAGE;
     while (!(ring = in(DISK))) continue;

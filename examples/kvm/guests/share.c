@@ -1,5 +1,5 @@
-/* A program for a Linux guest, run by root: what talk.c does, as a process. It has a secret, a page that it shares for a
- * while, and one that it drops. Its pages are locked, so each stays at its guest frame, of which it notifies the host. */
+/* A program for a Linux guest, run by root, that does what talk.c does: it has a secret, a page that it shares for a
+ * while, and one that it drops. They are locked, so each stays at its guest frame, of which it notifies the host. */
 #include "guest.h"
 #include <fcntl.h>
 #include <stdio.h>
