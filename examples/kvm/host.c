@@ -168,7 +168,7 @@ static bool boot(struct host *host, uint32_t vm, const struct boot *boot, bool i
     return is_done(ask(host, "verify %u", vm));
 }
 
-/* Puts into a frame what a guest's files have for a guest frame. */
+/* Puts into a frame what a guest's files have for a guest frame. Once it has notified, the guest has these files. */
 static void fill(struct host *host, uint32_t vm, uint32_t gfn, uint32_t frame) {
     const struct boot *boot = &host->plan->boots[vm];
     uint8_t bytes[PAGE] = {0};
@@ -183,7 +183,7 @@ static void fill(struct host *host, uint32_t vm, uint32_t gfn, uint32_t frame) {
 static void supply(struct host *host, uint32_t vm, uint32_t vcpu, uint32_t gfn) {
     for (;;) {
         uint32_t frame = any_frame(host);
-        if (vm < host->plan->count && frame != UINT32_MAX) fill(host, vm, gfn, frame);
+        if (frame != UINT32_MAX && vm < host->plan->count && !host->has_come[vm]) fill(host, vm, gfn, frame);
         const char *reply = frame == UINT32_MAX ? host->reply : ask(host, "map %u %u %u", vm, vcpu, frame);
         if (is_done(reply)) remember(host, vm, gfn, frame);
         else if (!strcmp(reply, "refused not-host")) continue; /* given away in the storm */
