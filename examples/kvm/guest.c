@@ -292,10 +292,14 @@ static void reach_disk(struct vcpu *vcpu) {
     uint32_t at = run->mmio.phys_addr - DISK, value = 0, size = run->mmio.len < 4 ? run->mmio.len : 4;
     bool is_kicked = false;
     pthread_mutex_lock(&guest->monitor->lock);
-    if (run->mmio.is_write) memcpy(&value, run->mmio.data, size);
-    else value = disk_read(&guest->disk, at, size);
-    if (run->mmio.is_write) is_kicked = disk_write(&guest->disk, at, value);
-    else memcpy(run->mmio.data, &value, size);
+    if (run->mmio.is_write) {
+        memcpy(&value, run->mmio.data, size);
+        is_kicked = disk_write(&guest->disk, at, value);
+    } else {
+        value = disk_read(&guest->disk, at, size);
+        memset(run->mmio.data, 0, sizeof run->mmio.data);
+        memcpy(run->mmio.data, &value, size);
+    }
     if (!guest->disk.interrupts) set_interrupt(guest, DISK_LINE, false);
     pthread_mutex_unlock(&guest->monitor->lock);
     if (is_kicked) kicks(vcpu);
