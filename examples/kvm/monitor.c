@@ -158,13 +158,23 @@ static void type(struct monitor *monitor, char character) {
     pthread_mutex_unlock(&monitor->lock);
 }
 
-/* Sends what is typed, and at its end what ends a shell, until one does: a thread, which ends with the program. */
+/* Sends each Linux guest what ends a shell, if it has room. */
+static void end_input(struct monitor *monitor) {
+    const char end_of_transmission = 4;
+    pthread_mutex_lock(&monitor->lock);
+    for (unsigned slot = 0; slot < monitor->plan->count; slot++)
+        if (monitor->guests[slot] && monitor->modes[slot] == LINUX)
+            guest_type(monitor->guests[slot], end_of_transmission);
+    pthread_mutex_unlock(&monitor->lock);
+}
+
+/* Sends what is typed, and at its end what ends shells, until they do: a thread, which ends with the program. */
 static void *read_input(void *of) {
     char text[256];
     ssize_t length;
     while ((length = read(STDIN_FILENO, text, sizeof text)) > 0)
         for (ssize_t at = 0; at < length; at++) type(of, text[at]);
-    for (;; sleep(1)) type(of, 4);
+    for (;; sleep(1)) end_input(of);
     return NULL;
 }
 
