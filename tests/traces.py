@@ -205,12 +205,17 @@ def has_actors(config, lines):
     return all(int(v) < SLOTS[config["version"]] and int(c) < 8 for v, c in actors)
 
 
+# Of how many lines an example is at most that the rules in Python follow line by line.
+LONGEST = 4096
+
+
 def of_examples():
-    """The traces in examples/, without heads: a name, the configuration and the lines of the calls of each."""
+    """The traces in examples/, without heads: a name, the configuration and the lines of the calls of each. A longer one
+    is left out: `linux-boot`, which tests/examples compares with its summary by the rules."""
     folder = TOP / "examples"
     for path in sorted(folder.iterdir()):
         text = path.read_text() if path.is_file() and "." not in path.name else ""
-        if text.startswith("kcore-trace"):
+        if text.startswith("kcore-trace") and text.count("\n") <= LONGEST:
             words = path.with_suffix(".args")
             named = [it for it in words.read_text().split() if it.endswith(".json")] if words.exists() else []
             config = json.loads((folder / "configurations" / named[0]).read_text()) if named else DEFAULT
