@@ -229,21 +229,3 @@ pub record IsCustodyText (origin : Origin) (form : CustodyForm) (scope : Scope) 
   pub custody : IsCustodyTold first (joined volumes) count refused told
   pub account : IsMadeOf origin form scope start first expected volumes count refused text
   pub blind : IsMadeBlind origin form scope start first expected volumes count refused text
-
--- the machine that calls begin on has the slot of this number, or has not
-abbrev pub HasSlot : Origin → List ℕ → ℕ → Type 0
-HasSlot origin text number = (m : State) × (expected : Expected) × BeginsIn origin text m expected × (number < slot_count m.config)
-
-abbrev pub LacksSlot : Origin → List ℕ → ℕ → Type 0
-LacksSlot origin text number = (m : State) × (expected : Expected) × BeginsIn origin text m expected × (slot_count m.config ≤ number)
-
--- what an account of custody, of one slot if it is named, may be refused for after this start
-pub record TellsCustody {A : Type 0} (slot : Option ℕ) (origin : Origin) (start : Option (List ℕ)) (unread : Type 0) (result : Result A TextFault) : Type 0 where
-  -- a slot that the machine lacks is refused before the trace is read, and no other slot is
-  pub named : OnOk result (IfSome slot (λ number. IfSome start (λ text. HasSlot origin text number)))
-  pub lacking : (number : ℕ) → result ≡ Err (texts.NoSlot number) → (slot ≡ Some number) × IfSome start (λ text. LacksSlot origin text number) × unread
-  -- no fault of workers or of a live run comes
-  pub workers : result ≢ Err texts.Workers
-  pub started : result ≢ Err texts.Start
-  pub settled : result ≢ Err texts.Unsettled
-  pub actor : (program : ℕ) → result ≢ Err (texts.BadActor program)

@@ -1,11 +1,9 @@
-//! The engine of custody, over an input and the files of the volumes after it.
-ghost use Rattle.std.specs.Prelude.{◌≡◌, ◌≢◌, ◌+◌, ◌∷◌, [], ℕ, List, Option, Some, None, false, length};
+//! What is reported of the volume that an input holds, or of that and of those in the files after it.
+ghost use Rattle.std.specs.Prelude.{◌≡◌, ◌∷◌, [], ℕ, Bool, List, Option, Some, None, Ok, false, true, length};
 ghost use Rattle.kc_model.specs.State.{State};
 ghost use Rattle.kc_texts.specs.Ends.{Seen, seen};
-ghost use Rattle.kc_cli.specs.declared.custody.CustodyOrder.{CustodyOrder};
-ghost use Rattle.kc_cli.specs.Volumes.{HasTold};
 ghost use Rattle.kc_args.specs.Jobs.{path_of};
-ghost use Rattle.kc_run.specs.Custody.{AreOpened, HasBegun, ReadsOn, ReadsFiles, ReportsTrace, ReportsVolumes, ReportsCustody};
+ghost use Rattle.kc_run.specs.Reports.{AreOpened, HasStarted, ReadsOn, ReadsFiles, ReportsTrace, ReportsVolumes, Reports, report_of};
 ghost use Rattle.kc_run.specs.Opening.{Held};
 ghost use Rattle.kc_run.specs.Endings.{took};
 ghost use Rattle.kc_run.specs.Ends.{ends_of};
@@ -16,24 +14,25 @@ use crate::ending::Ending;
 use crate::engines::{System, counted};
 use crate::files::Files;
 use kc_args::Start;
-use kc_cli::{CustodyAccount, CustodyOrder, Headed, Sink, Source, TextFault};
-use std::alloc::Global;
+use kc_cli::{Account, Headed, Sink, Source, TextFault};
 use std::sync::Wait;
 use std::thread::Threads;
 
 /// Reads the volume of this number into an account; returns the ending if it is refused.
-fn read_volume<T: Source>(
-    alloc: Global,
-    account: &mut CustodyAccount,
+fn read_volume<A: Account, T: Source, R: Threads + Wait + Sync>(
+    system: &System<'_, R>,
+    account: &mut A,
     number: usize,
     trace: &mut T,
+    is_followed: bool,
 ) -> Result<Option<Ending>, TextFault>
     requires trace { T.failed trace.old ≡ false }
-    requires told { (order : CustodyOrder) × (m : State) × (sources : List (Option (List ℕ)))
-        × HasTold order account.old m sources }
-    ensures { ReadsOn account.old account.new None (seen T.failed T.left trace.old trace.new ∷ []) number result }
+    requires told { (order : A.Order) × (m : State) × (sources : List (Option (List ℕ)))
+        × A.kind.told order account.old m sources }
+    ensures { ReadsOn A.kind account.old account.new None (seen T.failed T.left trace.old trace.new ∷ []) number
+        is_followed result }
 {
-    match account.read(alloc, trace, true) {
+    match account.read(system.threads, system.alloc, trace, is_followed) {
         Ok(()) => Ok(None),
         Err(TextFault::Trace(fault)) => Ok(Some(Ending::Refused {
             volume: number,
@@ -44,24 +43,25 @@ fn read_volume<T: Source>(
 }
 
 /// Reads the files of the volumes after the input into an account, up to the first that is refused.
-fn read_files<F: Files>(
-    alloc: Global,
+fn read_files<A: Account, F: Files, R: Threads + Wait + Sync>(
+    system: &System<'_, R>,
     files: &mut F,
-    account: &mut CustodyAccount,
+    account: &mut A,
     after: &[&str],
 ) -> Result<Option<Ending>, TextFault>
     requires files { F.refused files.old ≡ None }
-    requires told { (order : CustodyOrder) × (m : State) × (sources : List (Option (List ℕ)))
-        × HasTold order account.old m sources }
-    ensures read { ReadsFiles F.File.left F.File.failed account.old account.new (F.held files.old) (F.refused files.new)
-        2 after.now result }
+    requires told { (order : A.Order) × (m : State) × (sources : List (Option (List ℕ)))
+        × A.kind.told order account.old m sources }
+    ensures read { ReadsFiles F.File.left F.File.failed A.kind account.old account.new (F.held files.old)
+        (F.refused files.new) 2 after.now result }
     ensures same { F.held files.new ≡ F.held files.old }
 {
     let mut number = 1;
     for path in after {
         number += 1;
         let mut volume = open(files, path)?;
-        let read = read_volume(alloc, account, number, &mut volume);
+        let is_followed = number <= after.len();
+        let read = read_volume(system, account, number, &mut volume, is_followed);
         files.close(volume);
         let refusal = read?;
         match refusal {
@@ -73,47 +73,47 @@ fn read_files<F: Files>(
 }
 
 /// Reads the volume of the input, and then the files.
-fn read_all<F: Files, T: Source>(
-    alloc: Global,
+fn read_all<A: Account, F: Files, T: Source, R: Threads + Wait + Sync>(
+    system: &System<'_, R>,
     files: &mut F,
-    account: &mut CustodyAccount,
+    account: &mut A,
     input: &mut T,
     after: &[&str],
 ) -> Result<Option<Ending>, TextFault>
     requires files { F.refused files.old ≡ None }
     requires input { T.failed input.old ≡ false }
-    requires told { (order : CustodyOrder) × (m : State) × HasTold order account.old m [] }
+    requires told { (order : A.Order) × (m : State) × A.kind.told order account.old m [] }
     ensures read { (sources : List Seen)
         × AreOpened F.File.left F.File.failed (F.held files.old) (F.refused files.new) after.now sources
         × (result ≡ Ok None → length sources ≡ length after.now)
-        × ReadsOn account.old account.new (F.refused files.new)
-        (seen T.failed T.left input.old input.new ∷ sources) 1 result }
+        × ReadsOn A.kind account.old account.new (F.refused files.new)
+        (seen T.failed T.left input.old input.new ∷ sources) 1 false result }
     ensures same { F.held files.new ≡ F.held files.old }
 {
-    let refusal = read_volume(alloc, account, 1, input)?;
+    let refusal = read_volume(system, account, 1, input, true)?;
     match refusal {
         Some(ending) => Ok(Some(ending)),
-        None => read_files(alloc, files, account, after),
+        None => read_files(system, files, account, after),
     }
 }
 
-/// Reads the one trace into an account, and writes what happened.
-fn report_trace<T: Source, K: Sink, R: Threads + Wait + Sync>(
+/// Reads the one trace into an account, and writes what is wanted.
+fn report_trace<A: Account + Drop, T: Source, K: Sink, R: Threads + Wait + Sync>(
     system: &System<'_, R>,
-    account: CustodyAccount,
+    account: A,
     input: &mut T,
     out: &mut K,
 ) -> Result<Ending, TextFault>
     requires input { T.failed input.old ≡ false }
     requires out { K.failed out.old ≡ false }
-    requires begun { (order : CustodyOrder) × (m : State) × (start : Seen) × HasBegun order account m start }
-    ensures { (order : CustodyOrder) (m : State) (start : Seen) (held : Held) → HasBegun order account m start
-        → ReportsTrace order.origin order.form order.scope start
+    requires begun { (order : A.Order) × (m : State) × (start : Seen) × HasStarted A.kind order account m start }
+    ensures { (order : A.Order) (m : State) (start : Seen) (held : Held) → HasStarted A.kind order account m start
+        → ReportsTrace (report_of A.kind order) start
         (ends_of held None (seen T.failed T.left input.old input.new) (input.new ≡ input.old)
         (took K.failed K.taken out.old out.new) (out.new ≡ out.old)) result }
 {
     let mut account = account;
-    match account.read(system.alloc, input, false) {
+    match account.read(system.threads, system.alloc, input, false) {
         Ok(()) => counted(account.give(system.threads, system.alloc, out)),
         Err(fault) => {
             account.end(system.threads);
@@ -122,11 +122,11 @@ fn report_trace<T: Source, K: Sink, R: Threads + Wait + Sync>(
     }
 }
 
-/// Reads all volumes into an account, and writes what happened, unless one of them is refused.
-fn report_volumes<F: Files, T: Source, K: Sink, R: Threads + Wait + Sync>(
+/// Reads all volumes into an account, and writes what is wanted, unless one of them is refused.
+fn report_volumes<A: Account + Drop, F: Files, T: Source, K: Sink, R: Threads + Wait + Sync>(
     system: &System<'_, R>,
     files: &mut F,
-    account: CustodyAccount,
+    account: A,
     input: &mut T,
     after: &[&str],
     out: &mut K,
@@ -134,14 +134,14 @@ fn report_volumes<F: Files, T: Source, K: Sink, R: Threads + Wait + Sync>(
     requires files { F.refused files.old ≡ None }
     requires input { T.failed input.old ≡ false }
     requires out { K.failed out.old ≡ false }
-    requires begun { (order : CustodyOrder) × (m : State) × (start : Seen) × HasBegun order account m start }
-    ensures { (order : CustodyOrder) (m : State) (start : Seen) → HasBegun order account m start
-        → ReportsVolumes F.File.left F.File.failed order.origin order.form order.scope after.entry.now start
+    requires begun { (order : A.Order) × (m : State) × (start : Seen) × HasStarted A.kind order account m start }
+    ensures { (order : A.Order) (m : State) (start : Seen) → HasStarted A.kind order account m start
+        → ReportsVolumes F.File.left F.File.failed (report_of A.kind order) after.entry.now start
         (ends_of (F.held files.old) (F.refused files.new) (seen T.failed T.left input.old input.new)
         (input.new ≡ input.old) (took K.failed K.taken out.old out.new) (out.new ≡ out.old)) result }
 {
     let mut account = account;
-    match read_all(system.alloc, files, &mut account, input, after) {
+    match read_all(system, files, &mut account, input, after) {
         Ok(refusal) => match refusal {
             None => counted(account.give(system.threads, system.alloc, out)),
             Some(ending) => {
@@ -156,28 +156,28 @@ fn report_volumes<F: Files, T: Source, K: Sink, R: Threads + Wait + Sync>(
     }
 }
 
-/// Reports the custody of the trace that the input holds, or of this and of the volumes that the files hold, from an open
-/// start.
+/// Reports what is ordered of the trace that the input holds, or of this and of the volumes that the files hold, from an
+/// open start.
 #[inline(never)]
-fn custody_from<F: Files, C: Source, T: Source, K: Sink, R: Threads + Wait + Sync>(
+fn report_from<A: Account + Drop, F: Files, C: Source, T: Source, K: Sink, R: Threads + Wait + Sync>(
     system: &System<'_, R>,
     files: &mut F,
     start: &mut C,
     input: &mut T,
     after: &[&str],
     out: &mut K,
-    order: CustodyOrder,
+    order: A::Order,
 ) -> Result<Ending, TextFault>
     requires files { F.refused files.old ≡ None }
     requires start { C.failed start.old ≡ false }
     requires input { T.failed input.old ≡ false }
     requires out { K.failed out.old ≡ false }
-    ensures { ReportsCustody F.File.left F.File.failed order.origin order.form order.scope after.entry.now
+    ensures { Reports F.File.left F.File.failed (report_of A.kind order) after.entry.now
         (seen C.failed C.left start.old start.new)
         (ends_of (F.held files.old) (F.refused files.new) (seen T.failed T.left input.old input.new)
         (input.new ≡ input.old) (took K.failed K.taken out.old out.new) (out.new ≡ out.old)) result }
 {
-    let account = CustodyAccount::begin(system.threads, system.alloc, start, order)?;
+    let account = A::begin(system.threads, system.alloc, start, order)?;
     if after.is_empty() {
         report_trace(system, account, input, out)
     } else {
@@ -186,30 +186,30 @@ fn custody_from<F: Files, C: Source, T: Source, K: Sink, R: Threads + Wait + Syn
 }
 
 /// Does the same from where calls begin.
-pub(crate) fn custody<F: Files, T: Headed, K: Sink, R: Threads + Wait + Sync>(
+pub(crate) fn report<A: Account + Drop, F: Files, T: Headed, K: Sink, R: Threads + Wait + Sync>(
     system: &System<'_, R>,
     files: &mut F,
     start: Start<'_>,
     input: &mut T,
     after: &[&str],
     out: &mut K,
-    order: CustodyOrder,
+    order: A::Order,
 ) -> Result<Ending, TextFault>
     requires files { F.refused files.old ≡ None }
     requires input { T.failed input.old ≡ false }
     requires out { K.failed out.old ≡ false }
     ensures { BeginsAt F.File.left F.File.failed (path_of start.entry)
-        (ReportsCustody F.File.left F.File.failed order.origin order.form order.scope after.entry.now)
+        (Reports F.File.left F.File.failed (report_of A.kind order) after.entry.now)
         (ends_of (F.held files.old) (F.refused files.new) (seen T.failed T.left input.old input.new)
         (input.new ≡ input.old) (took K.failed K.taken out.old out.new) (out.new ≡ out.old)) result }
 {
     let Some(path) = start.path() else {
         let text = unnamed_text(system.alloc, input)?;
         let mut start = StartText::new(&text);
-        return custody_from(system, files, &mut start, input, after, out, order);
+        return report_from::<A, F, StartText<'_>, T, K, R>(system, files, &mut start, input, after, out, order);
     };
     let mut file = open(files, path)?;
-    let ended = custody_from(system, files, &mut file, input, after, out, order);
+    let ended = report_from::<A, F, F::File, T, K, R>(system, files, &mut file, input, after, out, order);
     files.close(file);
     ended
 }
