@@ -27,7 +27,6 @@ known (Some text ∷ sources) = option_map (λ texts. text ∷ texts) (known sou
 pub record IsAdded (named : Bool) (config : Configuration) (old new : Sequence) (header : Header) (digest : Option (List ℕ)) (line calls : ℕ) : Type 0 where
   pub may : MayHave config old.next header
   pub next : new.next ≡ expected_after header digest
-  pub first : new.first ≡ old.first
   pub entry : VolumeEntry
   pub pushed : new.entries.items ≡ old.entries.items ++ entry ∷ []
   pub room : length old.entries.items + 1 < 2 ^ 32

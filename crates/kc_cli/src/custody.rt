@@ -218,7 +218,8 @@ impl Account for CustodyAccount {
             .tell(alloc, &mut self.core, trace, is_named, is_followed)?;
         let calls = self.kept.line - line;
         self.sequence
-            .add(self.core.config(), volume, line, calls, is_named)
+            .add(self.core.config(), volume, line, calls, is_named)?;
+        Ok(())
     }
 
     fn end<R: Threads + Wait + Sync>(self, rt: &R) {

@@ -1,10 +1,11 @@
 //! The volumes that were read one after another: which ones they are, and which header the next one may have.
-ghost use Rattle.std.specs.Prelude.{◌≡◌, ◌<◌, ◌≤◌, ◌+◌, ◌^◌, ◌⊎◌, ◌↔◌, [], length, true, Err, IfErr, IfOk, OnOk};
+ghost use Rattle.std.specs.Prelude.{◌≡◌, ◌≢◌, ◌<◌, ◌≤◌, ◌+◌, ◌^◌, [], length, true, Err, IfErr, OnOk};
 ghost use Rattle.kc_model.specs.Custody.{first_line};
 ghost use Rattle.kc_trace.specs.declared.expected.HeaderFault.{HeaderFault as AFault};
 ghost use Rattle.kc_trace.specs.declared.fault.TraceFault.{TraceFault as Fault};
 ghost use Rattle.kc_trace.specs.Expected.{IsHeaderFault};
 ghost use Rattle.kc_cli.specs.Traced.{Traced, trace_named, digest_if};
+ghost use Rattle.kc_cli.specs.Engine.{IsReplayFault};
 ghost use Rattle.kc_cli.specs.Custody.{listed, numbers_in, lacks_digest, order_by, chain_of};
 ghost use Rattle.kc_cli.specs.Volumes.{IsAdded};
 
@@ -122,7 +123,9 @@ impl Sequence {
         ensures ok { OnOk result ((line ≤ first_line + CALLS_BEFORE) × (length self.now.entries.items + 1 < 2 ^ 32)) }
         ensures full { (fault : Fault) → result ≡ Err (TextFault.Trace fault)
             → (fault ≡ TraceFault.TooManyCalls) × (first_line + CALLS_BEFORE < line) }
-        ensures fault { IfErr result (λ fault. (fault ≡ TextFault.Memory) ⊎ (fault ≡ TextFault.Trace TraceFault.TooManyCalls)) }
+        ensures read { result ≢ Err TextFault.Read }
+        ensures started { result ≢ Err TextFault.Start }
+        ensures fault { IfErr result IsReplayFault }
     {
         if line > FIRST_LINE + CALLS_BEFORE {
             return Err(TextFault::Trace(TraceFault::TooManyCalls));
@@ -150,8 +153,10 @@ impl Sequence {
         ensures trace { (fault : Fault) → result ≡ Err (TextFault.Trace fault)
             → (wrong : AFault) × (fault ≡ TraceFault.Misplaced wrong)
             × IsHeaderFault config.now self.old.next volume.header wrong }
-        ensures fault { IfErr result (λ fault. (fault ≡ TextFault.Memory)
-            ⊎ ((said : Fault) × (fault ≡ TextFault.Trace said))) }
+        ensures first { self.new.first ≡ self.old.first }
+        ensures read { result ≢ Err TextFault.Read }
+        ensures started { result ≢ Err TextFault.Start }
+        ensures fault { IfErr result IsReplayFault }
     {
         let Volume { header, digest } = volume;
         if let Some(wrong) = self.next.fault(config, &header) {

@@ -1,9 +1,10 @@
--- What a report of custody leaves, by how its volumes were read and what was given.
-use Rattle.std.proofs.Common.{ℕ, ◌≡◌, ◌≢◌, ◌++◌, ◌∷◌, Bool, List, [], length, Option, Some, None, Result, Ok, Err, true, false, inl, inr, refl, ap, sym, ◌∙◌, subst, arith}
-use Rattle.std.specs.Prelude.{IfOk, IfErr, IfSome, OnOk, is_some}
+-- What a report leaves, by how its volumes were read and what was given.
+use Rattle.std.proofs.Common.{ℕ, ◌≡◌, ◌≢◌, ◌<◌, ◌⊎◌, ◌↔◌, ◌++◌, ◌∷◌, Bool, List, [], length, Option, Some, None, Result, Ok, Err, true, false, inl, inr, refl, ap, sym, ◌∙◌, subst, arith}
+use Rattle.std.specs.Prelude.{IfOk, IfErr, IfSome, IsErrOf, OnOk, is_some}
 use Rattle.std.proofs.lemmas.List.{take_all}
 use Rattle.std.specs.Io.KnownBytes.{IsAtEnd}
 use Rattle.kc_model.specs.State.{State}
+use Rattle.kc_types.specs.Limits.{worker_limit}
 use Rattle.kc_remarks.specs.declared.denials.Answered.{Answered}
 use Rattle.kc_trace.specs.declared.fault.TraceFault.{TraceFault}
 use Rattle.kc_trace.specs.declared.expected.Expected.{Expected}
@@ -16,30 +17,25 @@ use Rattle.kc_faults.specs.declared.origin.Origin.{Origin}
 use Rattle.kc_faults.specs.Origins.{BeginsIn}
 use Rattle.kc_faults.specs.Outcomes.{TellsSources, TellsTexts, TellsSink}
 use Rattle.kc_faults.proofs.Told.{IsLastFault, texts_ok, texts_after, texts_trace, begun_is}
-use Rattle.kc_cli.specs.declared.custody.CustodyAccount.{CustodyAccount}
-use Rattle.kc_cli.specs.declared.custody.CustodyOrder.{CustodyOrder}
 use Rattle.kc_cli.specs.Answers.{AreAllAnswered}
-use Rattle.kc_cli.specs.Custody.{names_start, NamesStart, IsCustodyText, TellsCustody}
 use Rattle.kc_cli.specs.Engine.{IsReplayFault}
-use Rattle.kc_cli.specs.Volumes.{known, IsAccountOf, HasTold}
+use Rattle.kc_cli.specs.Kinds.{Kind, HasSlot, TellsAccount}
+use Rattle.kc_cli.specs.Volumes.{known}
 use Rattle.kc_cli.proofs.Sources.{sink_ok}
 use Rattle.kc_args.specs.Jobs.{Path}
 use Rattle.kc_run.specs.declared.ending.Ending.{Ending}
 use Rattle.kc_run.specs.declared.ending.Ending.TheVariants as endings
-use Rattle.kc_run.specs.Custody.{had_by, held_by, ReadsOn, AreOpened, HasBegun, ReportsTrace, ReportsVolumes, ReportsCustody}
+use Rattle.kc_run.specs.Reports.{had_by, held_by, ReadsOn, AreOpened, HasStarted, Report, report_of, ReportsTrace, ReportsVolumes, Reports}
 use Rattle.kc_run.specs.Ends.{Ends}
-use Rattle.kc_cli.specs.declared.account.CustodyForm.{CustodyForm}
-use Rattle.kc_cli.specs.declared.account.Scope.{Scope}
 use Rattle.kc_run.specs.Endings.{Ended, answered_as}
 use Rattle.kc_run.proofs.Carried.{sink_err}
 
 -- what is said of a text that is given, if it is given to this sink
-pub record Gives (account : CustodyAccount) (ends : Ends) (r : Result Answered TextFault) : Type 0 where
-  pub answered : (order : CustodyOrder) (m : State) (start : Option (List ℕ)) (sources : List (Option (List ℕ))) → IsAccountOf order account m sources → IfSome start (λ text. BeginsIn order.origin text m account.first) → IfOk r (AreAllAnswered order.origin start (known sources))
-  pub ok : (order : CustodyOrder) (m : State) (start : Option (List ℕ)) (sources : List (Option (List ℕ))) → IsAccountOf order account m sources → IfSome start (λ text. BeginsIn order.origin text m account.first) → NamesStart (names_start order.scope.named) order.origin start m account.first account.start
-      → OnOk r (Writes (IsCustodyText order.origin order.form order.scope) start (known sources) ends.out.had ends.out.has)
-  pub sink : (order : CustodyOrder) (m : State) (start : Option (List ℕ)) (sources : List (Option (List ℕ))) → IsAccountOf order account m sources → IfSome start (λ text. BeginsIn order.origin text m account.first) → NamesStart (names_start order.scope.named) order.origin start m account.first account.start
-      → TellsSink ends.out.failed (Begins (IsCustodyText order.origin order.form order.scope) start (known sources) ends.out.had ends.out.has) ends.untouched r
+pub record Gives {A O : Type 0} (kind : Kind A O) (account : A) (ends : Ends) (r : Result Answered TextFault) : Type 0 where
+  pub answered : (order : O) (m : State) (start : Option (List ℕ)) (sources : List (Option (List ℕ))) → kind.of order account m sources → kind.begun order account m start → IfOk r (AreAllAnswered (kind.origin order) start (known sources))
+  pub ok : (order : O) (m : State) (start : Option (List ℕ)) (sources : List (Option (List ℕ))) → kind.of order account m sources → kind.begun order account m start → OnOk r (Writes (kind.text order) start (known sources) ends.out.had ends.out.has)
+  pub sink : (order : O) (m : State) (start : Option (List ℕ)) (sources : List (Option (List ℕ))) → kind.of order account m sources → kind.begun order account m start
+      → TellsSink ends.out.failed (Begins (kind.text order) start (known sources) ends.out.had ends.out.has) ends.untouched r
   pub fault : IfErr r IsLastFault
 
 -- no source failed
@@ -47,20 +43,29 @@ whole : (start : Seen) (sources : List Seen) → start.failed ≡ false → (Has
 whole start sources mark rest (inl is) = let never : false ≡ true = sym mark ∙ is in cc
 whole start sources mark rest (inr is) = rest is
 
+-- no number of workers is refused, since the account began
+not_judged : {A O : Type 0} {X : Type 0} (kind : Kind A O) (order : O) (account : A) (m : State) (start : Seen) (r : Result X TextFault) → HasStarted kind order account m start → r ≢ Err texts.Workers → IsErrOf r texts.Workers ↔ ((kind.workers order ≡ 0) ⊎ (worker_limit < kind.workers order))
+not_judged kind order account m start (Ok x) begun other = (λ e. absurd cc, λ bad. absurd (begun.workers bad))
+not_judged kind order account m start (Err f) begun other = (λ e. absurd (other (let same : f ≡ texts.Workers = cc in cc)), λ bad. absurd (begun.workers bad))
+
 -- an account that began names a slot that the machine has, and reports no fault
-custody_told : {A : Type 0} (order : CustodyOrder) (account : CustodyAccount) (m : State) (start : Seen) (unread : Type 0) (x : A) → HasBegun order account m start → TellsCustody order.scope.vm order.origin start.had unread (Ok x)
-custody_told order account m start unread x begun = record { named = begun.slot; lacking = λ n e. absurd cc; workers = λ e. cc; started = λ e. cc; settled = λ e. cc; actor = λ p e. cc }
+account_told : {A O : Type 0} {X : Type 0} (kind : Kind A O) (order : O) (account : A) (m : State) (start : Seen) (unread : Type 0) (x : X) → HasStarted kind order account m start → TellsAccount (kind.slot order) (kind.workers order) (kind.origin order) start.had unread (Ok x)
+account_told kind order account m start unread x begun =
+    record { named = begun.slot; lacking = λ n e. absurd cc; judged = not_judged kind order account m start (Ok x) begun (λ e. cc); started = λ e. absurd cc; settled = λ e. cc; actor = λ p e. cc }
 
-custody_last : {A : Type 0} (slot : Option ℕ) (origin : Origin) (start : Option (List ℕ)) (unread : Type 0) (f : TextFault) → IsLastFault f → TellsCustody {A = A} slot origin start unread (Err f)
-custody_last slot origin start unread f (inl same) = record { named = tt; lacking = λ n e. absurd cc; workers = λ e. cc; started = λ e. cc; settled = λ e. cc; actor = λ p e. cc }
-custody_last slot origin start unread f (inr same) = record { named = tt; lacking = λ n e. absurd cc; workers = λ e. cc; started = λ e. cc; settled = λ e. cc; actor = λ p e. cc }
+account_last : {A O : Type 0} {X : Type 0} (kind : Kind A O) (order : O) (account : A) (m : State) (start : Seen) (unread : Type 0) (f : TextFault) → HasStarted kind order account m start → IsLastFault f → TellsAccount {A = X} (kind.slot order) (kind.workers order) (kind.origin order) start.had unread (Err f)
+account_last kind order account m start unread f begun (inl same) =
+    record { named = tt; lacking = λ n e. absurd cc; judged = not_judged kind order account m start (Err f) begun (λ e. cc); started = λ e. absurd cc; settled = λ e. cc; actor = λ p e. cc }
+account_last kind order account m start unread f begun (inr same) =
+    record { named = tt; lacking = λ n e. absurd cc; judged = not_judged kind order account m start (Err f) begun (λ e. cc); started = λ e. absurd cc; settled = λ e. cc; actor = λ p e. cc }
 
-custody_failed : {A : Type 0} (slot : Option ℕ) (origin : Origin) (start : Option (List ℕ)) (unread : Type 0) (f : TextFault) → IsReplayFault f → f ≢ texts.Start → TellsCustody {A = A} slot origin start unread (Err f)
-custody_failed slot origin start unread f is started = record {
+account_failed : {A O : Type 0} {X : Type 0} (kind : Kind A O) (order : O) (account : A) (m : State) (start : Seen) (unread : Type 0) (f : TextFault) → HasStarted kind order account m start → IsReplayFault f → (f ≡ texts.Start → 1 < kind.workers order)
+    → TellsAccount {A = X} (kind.slot order) (kind.workers order) (kind.origin order) start.had unread (Err f)
+account_failed kind order account m start unread f begun is started = record {
   named = tt;
   lacking = λ n e. absurd (is.slot n (let same : f ≡ texts.NoSlot n = cc in same));
-  workers = λ e. is.workers (let same : f ≡ texts.Workers = cc in same);
-  started = λ e. started (let same : f ≡ texts.Start = cc in same);
+  judged = not_judged kind order account m start (Err f) begun (λ e. is.workers (let same : f ≡ texts.Workers = cc in same));
+  started = λ e. (started (let same : f ≡ texts.Start = cc in same), begun_is (kind.origin order) start.had m (kind.first account) begun.begins);
   settled = λ e. is.unsettled (let same : f ≡ texts.Unsettled = cc in same);
   actor = λ p e. is.actor p (let same : f ≡ texts.BadActor p = cc in same);
 }
@@ -81,19 +86,15 @@ all_held : {S : Type 0} {left : S → Option (List ℕ)} {failed : S → Bool} (
 all_held ends after files opened long =
     ap (λ (rest : List (Option (List ℕ))). ends.input.had ∷ rest) (opened.are ∙ ap (held_by ends.held) (take_all (length files) after (omega (arith, long))))
 
-pub volumes_given : {S : Type 0} {left : S → Option (List ℕ)} {failed : S → Bool} (order : CustodyOrder) (old account : CustodyAccount) (m : State) (start : Seen) (after : List Path) (ends : Ends) (files : List Seen) (r : Result Answered TextFault) → HasBegun order old m start → AreOpened left failed ends.held ends.refused after files → length files ≡ length after
-    → ReadsOn old account ends.refused (ends.input ∷ files) 1 (Ok None) → Gives account ends r → ReportsVolumes left failed order.origin order.form order.scope after start ends (answered_as r)
-volumes_given {left = left} {failed = failed} order old account m start after ends files r begun opened long reads gives = by_result r gives
+pub volumes_given : {S : Type 0} {left : S → Option (List ℕ)} {failed : S → Bool} {A O : Type 0} (kind : Kind A O) (order : O) (old account : A) (m : State) (start : Seen) (after : List Path) (ends : Ends) (files : List Seen) (r : Result Answered TextFault) → HasStarted kind order old m start → AreOpened left failed ends.held ends.refused after files → length files ≡ length after
+    → ReadsOn kind old account ends.refused (ends.input ∷ files) 1 false (Ok None) → Gives kind account ends r → ReportsVolumes left failed (report_of kind order) after start ends (answered_as r)
+volumes_given {left = left} {failed = failed} kind order old account m start after ends files r begun opened long reads gives = by_result r gives
   where
-    told : IsAccountOf order account m (ends.input.had ∷ held_by ends.held after)
-    told = subst (λ (held : List (Option (List ℕ))). IsAccountOf order account m held) (all_held ends after files opened long) (reads.told refl order m [] begun.told).of
+    told : kind.of order account m (ends.input.had ∷ held_by ends.held after)
+    told = subst (λ (held : List (Option (List ℕ))). kind.of order account m held) (all_held ends after files opened long) (reads.told refl order m [] begun.told).0
 
-    digest : NamesStart (names_start order.scope.named) order.origin start.had m account.first account.start
-    digest = subst (λ (e : Expected). NamesStart (names_start order.scope.named) order.origin start.had m e account.start) (sym (reads.first refl))
-        (subst (λ (d : Option (List ℕ)). NamesStart (names_start order.scope.named) order.origin start.had m old.first d) (sym (reads.same refl)) begun.digest)
-
-    begins : IfSome start.had (λ text. BeginsIn order.origin text m account.first)
-    begins = subst (λ (expected : Expected). IfSome start.had (λ text. BeginsIn order.origin text m expected)) (sym (reads.first refl)) begun.begins
+    begins : kind.begun order account m start.had
+    begins = reads.begun refl order m start.had begun.begun
 
     unfailed : HasFailed (start ∷ ends.input ∷ files) → ⊥
     unfailed = whole start (ends.input ∷ files) begun.mark (λ bad. let e = reads.failed bad in absurd cc)
@@ -101,18 +102,18 @@ volumes_given {left = left} {failed = failed} order old account m start after en
     shut : is_some ends.refused ≡ true → ⊥
     shut none = let e = reads.unopened none in absurd cc
 
-    by_result : (r : Result Answered TextFault) → Gives account ends r → ReportsVolumes left failed order.origin order.form order.scope after start ends (answered_as r)
+    by_result : (r : Result Answered TextFault) → Gives kind account ends r → ReportsVolumes left failed (report_of kind order) after start ends (answered_as r)
     by_result (Ok answered) gives = record {
       files = files;
       opened = opened;
-      ending = (long, (begun.ended, reads.ended refl), gives.ok order m start.had (ends.input.had ∷ held_by ends.held after) told begins digest, gives.answered order m start.had (ends.input.had ∷ held_by ends.held after) told begins);
+      ending = (long, (begun.ended, reads.ended refl), gives.ok order m start.had (ends.input.had ∷ held_by ends.held after) told begins, gives.answered order m start.had (ends.input.had ∷ held_by ends.held after) told begins);
       read = λ e. absurd cc;
       failed = λ bad. absurd (unfailed bad);
       unopened = λ none. absurd (shut none);
-      told = texts_ok order.origin start ends.input ends.unread m old.first (endings.Answered answered) begun.begins;
+      told = texts_ok (kind.origin order) start ends.input ends.unread m (kind.first old) (endings.Answered answered) begun.begins;
       trace = λ fault e. cc;
-      custody = custody_told order old m start ends.unread (endings.Answered answered) begun;
-      sink = sink_ok _ _ _ answered (endings.Answered answered) (gives.sink order m start.had (ends.input.had ∷ held_by ends.held after) told begins digest);
+      tells = account_told kind order old m start ends.unread (endings.Answered answered) begun;
+      sink = sink_ok _ _ _ answered (endings.Answered answered) (gives.sink order m start.had (ends.input.had ∷ held_by ends.held after) told begins);
     }
     by_result (Err f) gives = record {
       files = files;
@@ -121,10 +122,10 @@ volumes_given {left = left} {failed = failed} order old account m start after en
       read = λ e. absurd (last_read gives.fault e);
       failed = λ bad. absurd (unfailed bad);
       unopened = λ none. absurd (shut none);
-      told = texts_after order.origin start ends.input ends.unread m (Err f) (texts_ok order.origin start ends.input ends.unread m old.first m begun.begins) gives.fault;
+      told = texts_after (kind.origin order) start ends.input ends.unread m (Err f) (texts_ok (kind.origin order) start ends.input ends.unread m (kind.first old) m begun.begins) gives.fault;
       trace = λ fault e. last_trace fault gives.fault e;
-      custody = custody_last order.scope.vm order.origin start.had ends.unread f gives.fault;
-      sink = sink_err _ _ _ f (gives.sink order m start.had (ends.input.had ∷ held_by ends.held after) told begins digest);
+      tells = account_last kind order old m start ends.unread f begun gives.fault;
+      sink = sink_err _ _ _ f (gives.sink order m start.had (ends.input.had ∷ held_by ends.held after) told begins);
     }
       where
         last_read : IsLastFault f → ◌≡◌ {A = Result Ending TextFault} (Err f) (Err texts.Read) → ⊥
@@ -135,28 +136,28 @@ volumes_given {left = left} {failed = failed} order old account m start after en
         last_trace fault (inl same) e = cc
         last_trace fault (inr same) e = cc
 
-pub volumes_refused : {S : Type 0} {left : S → Option (List ℕ)} {failed : S → Bool} (order : CustodyOrder) (old account : CustodyAccount) (m : State) (start : Seen) (after : List Path) (ends : Ends) (files : List Seen) (ending : Ending) → HasBegun order old m start → AreOpened left failed ends.held ends.refused after files
-    → ReadsOn old account ends.refused (ends.input ∷ files) 1 (Ok (Some ending)) → ends.out.failed ≡ false → ends.untouched → ReportsVolumes left failed order.origin order.form order.scope after start ends (Ok ending)
-volumes_refused order old account m start after ends files ending begun opened reads mark untouched = record {
+pub volumes_refused : {S : Type 0} {left : S → Option (List ℕ)} {failed : S → Bool} {A O : Type 0} (kind : Kind A O) (order : O) (old account : A) (m : State) (start : Seen) (after : List Path) (ends : Ends) (files : List Seen) (ending : Ending) → HasStarted kind order old m start → AreOpened left failed ends.held ends.refused after files
+    → ReadsOn kind old account ends.refused (ends.input ∷ files) 1 false (Ok (Some ending)) → ends.out.failed ≡ false → ends.untouched → ReportsVolumes left failed (report_of kind order) after start ends (Ok ending)
+volumes_refused kind order old account m start after ends files ending begun opened reads mark untouched = record {
   files = files;
   opened = opened;
   ending =
       (let is = reads.refuses ending refl order m [] begun.told in
       let last = is.3 in
       let number : is.1 ≡ length (ends.input ∷ files) = omega (arith, last) in
-      rw is.2 (m, old.first, begun.begins, number, is.4, untouched));
+      rw is.2 (m, (kind.first old), begun.begins, number, is.4, untouched));
   read = λ e. absurd cc;
   failed = λ bad. absurd (whole start (ends.input ∷ files) begun.mark (λ bad. let e = reads.failed bad in absurd cc) bad);
   unopened = λ none. (let e = reads.unopened none in absurd cc);
-  told = texts_ok order.origin start ends.input ends.unread m old.first ending begun.begins;
+  told = texts_ok (kind.origin order) start ends.input ends.unread m (kind.first old) ending begun.begins;
   trace = λ fault e. cc;
-  custody = custody_told order old m start ends.unread ending begun;
+  tells = account_told kind order old m start ends.unread ending begun;
   sink = sink_unused _ _ _ ending mark;
 }
 
-pub volumes_failed : {S : Type 0} {left : S → Option (List ℕ)} {failed : S → Bool} (order : CustodyOrder) (old account : CustodyAccount) (m : State) (start : Seen) (after : List Path) (ends : Ends) (files : List Seen) (f : TextFault) → HasBegun order old m start → AreOpened left failed ends.held ends.refused after files
-    → ReadsOn old account ends.refused (ends.input ∷ files) 1 (Err f) → ends.out.failed ≡ false → ends.untouched → ReportsVolumes left failed order.origin order.form order.scope after start ends (Err f)
-volumes_failed order old account m start after ends files f begun opened reads mark untouched = record {
+pub volumes_failed : {S : Type 0} {left : S → Option (List ℕ)} {failed : S → Bool} {A O : Type 0} (kind : Kind A O) (order : O) (old account : A) (m : State) (start : Seen) (after : List Path) (ends : Ends) (files : List Seen) (f : TextFault) → HasStarted kind order old m start → AreOpened left failed ends.held ends.refused after files
+    → ReadsOn kind old account ends.refused (ends.input ∷ files) 1 false (Err f) → ends.out.failed ≡ false → ends.untouched → ReportsVolumes left failed (report_of kind order) after start ends (Err f)
+volumes_failed kind order old account m start after ends files f begun opened reads mark untouched = record {
   files = files;
   opened = opened;
   ending = tt;
@@ -173,31 +174,20 @@ volumes_failed order old account m start after ends files f begun opened reads m
     config_fault = λ said e. absurd (reads.fault.config said (let same : f ≡ texts.Config said = cc in same));
     state_fault = λ said e. absurd (reads.fault.state said (let same : f ≡ texts.State said = cc in same));
     trace_fault = λ said e. absurd (reads.trace said (let same : f ≡ texts.Trace said = cc in ap Err same));
-    after_start = inr (begun_is order.origin start.had m old.first begun.begins);
-    begun = λ said e. begun_is order.origin start.had m old.first begun.begins;
+    after_start = inr (begun_is (kind.origin order) start.had m (kind.first old) begun.begins);
+    begun = λ said e. begun_is (kind.origin order) start.had m (kind.first old) begun.begins;
     told = reads.fault.told;
   };
   trace = λ said e. reads.trace said (let same : f ≡ texts.Trace said = cc in ap Err same);
-  custody = custody_failed order.scope.vm order.origin start.had ends.unread f reads.fault (λ same. reads.started (ap Err same));
+  tells = account_failed kind order old m start ends.unread f begun reads.fault (λ same. reads.started (ap Err same) order m [] begun.told);
   sink = sink_kept _ _ _ f mark untouched reads.fault.write;
 }
 
 -- the one trace is in the account
-pub trace_given : (order : CustodyOrder) (old account : CustodyAccount) (m : State) (start : Seen) (ends : Ends) (r : Result Answered TextFault) → HasBegun order old m start → ends.refused ≡ None
-    → ((order : CustodyOrder) (m : State) (sources : List (Option (List ℕ))) → HasTold order old m sources → IsAccountOf order account m (sources ++ ends.input.had ∷ [])) → account.start ≡ old.start → account.first ≡ old.first → IsAtEnd ends.input.has → (ends.input.failed ≡ true → ⊥)
-    → Gives account ends r → ReportsTrace order.origin order.form order.scope start ends (answered_as r)
-trace_given order old account m start ends r begun opened more same first ended mark gives = by_result r gives
+pub trace_given : {A O : Type 0} (kind : Kind A O) (order : O) (old account : A) (m : State) (start : Seen) (ends : Ends) (r : Result Answered TextFault) → HasStarted kind order old m start → ends.refused ≡ None → kind.of order account m (ends.input.had ∷ []) → kind.begun order account m start.had
+    → IsAtEnd ends.input.has → (ends.input.failed ≡ true → ⊥) → Gives kind account ends r → ReportsTrace (report_of kind order) start ends (answered_as r)
+trace_given kind order old account m start ends r begun opened told begins ended mark gives = by_result r gives
   where
-    told : IsAccountOf order account m (ends.input.had ∷ [])
-    told = more order m [] begun.told
-
-    digest : NamesStart (names_start order.scope.named) order.origin start.had m account.first account.start
-    digest = subst (λ (e : Expected). NamesStart (names_start order.scope.named) order.origin start.had m e account.start) (sym first)
-        (subst (λ (d : Option (List ℕ)). NamesStart (names_start order.scope.named) order.origin start.had m old.first d) (sym same) begun.digest)
-
-    begins : IfSome start.had (λ text. BeginsIn order.origin text m account.first)
-    begins = subst (λ (expected : Expected). IfSome start.had (λ text. BeginsIn order.origin text m expected)) (sym first) begun.begins
-
     unfailed : HasFailed (start ∷ ends.input ∷ []) → ⊥
     unfailed = whole start (ends.input ∷ []) begun.mark only
       where
@@ -205,24 +195,24 @@ trace_given order old account m start ends r begun opened more same first ended 
         only (inl is) = mark is
         only (inr never) = never
 
-    by_result : (r : Result Answered TextFault) → Gives account ends r → ReportsTrace order.origin order.form order.scope start ends (answered_as r)
+    by_result : (r : Result Answered TextFault) → Gives kind account ends r → ReportsTrace (report_of kind order) start ends (answered_as r)
     by_result (Ok answered) gives = record {
       opened = opened;
       ending = (answered, refl, gives.answered order m start.had (ends.input.had ∷ []) told begins);
-      written = gives.ok order m start.had (ends.input.had ∷ []) told begins digest;
+      written = gives.ok order m start.had (ends.input.had ∷ []) told begins;
       sources = record { ended = (begun.ended, (ended, tt)); read = λ e. absurd cc; failed = λ bad. absurd (unfailed bad) };
-      told = texts_ok order.origin start ends.input ends.unread m old.first (endings.Answered answered) begun.begins;
-      custody = custody_told order old m start ends.unread (endings.Answered answered) begun;
-      sink = sink_ok _ _ _ answered (endings.Answered answered) (gives.sink order m start.had (ends.input.had ∷ []) told begins digest);
+      told = texts_ok (kind.origin order) start ends.input ends.unread m (kind.first old) (endings.Answered answered) begun.begins;
+      tells = account_told kind order old m start ends.unread (endings.Answered answered) begun;
+      sink = sink_ok _ _ _ answered (endings.Answered answered) (gives.sink order m start.had (ends.input.had ∷ []) told begins);
     }
     by_result (Err f) gives = record {
       opened = opened;
       ending = tt;
       written = tt;
       sources = record { ended = tt; read = λ e. absurd (last_read gives.fault e); failed = λ bad. absurd (unfailed bad) };
-      told = texts_after order.origin start ends.input ends.unread m (Err f) (texts_ok order.origin start ends.input ends.unread m old.first m begun.begins) gives.fault;
-      custody = custody_last order.scope.vm order.origin start.had ends.unread f gives.fault;
-      sink = sink_err _ _ _ f (gives.sink order m start.had (ends.input.had ∷ []) told begins digest);
+      told = texts_after (kind.origin order) start ends.input ends.unread m (Err f) (texts_ok (kind.origin order) start ends.input ends.unread m (kind.first old) m begun.begins) gives.fault;
+      tells = account_last kind order old m start ends.unread f begun gives.fault;
+      sink = sink_err _ _ _ f (gives.sink order m start.had (ends.input.had ∷ []) told begins);
     }
       where
         last_read : IsLastFault f → ◌≡◌ {A = Result Ending TextFault} (Err f) (Err texts.Read) → ⊥
@@ -230,9 +220,9 @@ trace_given order old account m start ends r begun opened more same first ended 
         last_read (inr same) e = cc
 
 -- the one trace is refused, or could not be read
-pub trace_failed : (order : CustodyOrder) (old : CustodyAccount) (m : State) (start : Seen) (ends : Ends) (f : TextFault) → HasBegun order old m start → ends.refused ≡ None → (f ≡ texts.Read → ReadFailed ends.input.failed ends.input.had ends.input.has) → (ends.input.failed ≡ true → f ≡ texts.Read)
-    → ((said : TraceFault) → f ≡ texts.Trace said → IfSome ends.input.had (λ text. IsRefusedThere m.config old.first text said) × IsAtEnd ends.input.has) → IsReplayFault f → f ≢ texts.Start → ends.out.failed ≡ false → ends.untouched → ReportsTrace order.origin order.form order.scope start ends (Err f)
-trace_failed order old m start ends f begun opened read bad refused is started mark untouched = record {
+pub trace_failed : {A O : Type 0} (kind : Kind A O) (order : O) (old : A) (m : State) (start : Seen) (ends : Ends) (f : TextFault) → HasStarted kind order old m start → ends.refused ≡ None → (f ≡ texts.Read → ReadFailed ends.input.failed ends.input.had ends.input.has) → (ends.input.failed ≡ true → f ≡ texts.Read)
+    → ((said : TraceFault) → f ≡ texts.Trace said → IfSome ends.input.had (λ text. IsRefusedThere m.config (kind.first old) text said) × IsAtEnd ends.input.has) → IsReplayFault f → (f ≡ texts.Start → 1 < kind.workers order) → ends.out.failed ≡ false → ends.untouched → ReportsTrace (report_of kind order) start ends (Err f)
+trace_failed kind order old m start ends f begun opened read bad refused is started mark untouched = record {
   opened = opened;
   ending = tt;
   written = tt;
@@ -245,17 +235,17 @@ trace_failed order old m start ends f begun opened read bad refused is started m
       | inr (inr never) ↦ absurd never
     ];
   };
-  told = texts_trace order.origin start ends.input ends.unread m old.first f begun.begins refused is.config is.state is.told;
-  custody = custody_failed order.scope.vm order.origin start.had ends.unread f is started;
+  told = texts_trace (kind.origin order) start ends.input ends.unread m (kind.first old) f begun.begins refused is.config is.state is.told;
+  tells = account_failed kind order old m start ends.unread f begun is started;
   sink = sink_kept _ _ _ f mark untouched is.write;
 }
 
 -- the account could not begin
-begun_custody : {A : Type 0} (slot : Option ℕ) (origin : Origin) (start : Option (List ℕ)) (unread : Type 0) (f : TextFault) → unread → TellsCustody {A = A} slot origin start (Unit {0}) (Err f) → {B : Type 0} → TellsCustody {A = B} slot origin start unread (Err f)
-begun_custody slot origin start unread f none h = record {
+begun_account : {X : Type 0} (slot : Option ℕ) (workers : ℕ) (origin : Origin) (start : Option (List ℕ)) (unread : Type 0) (f : TextFault) → unread → TellsAccount {A = X} slot workers origin start (Unit {0}) (Err f) → {Y : Type 0} → TellsAccount {A = Y} slot workers origin start unread (Err f)
+begun_account slot workers origin start unread f none h = record {
   named = tt;
   lacking = λ n e. (let is = h.lacking n (let same : f ≡ texts.NoSlot n = cc in cc) in (is.0, is.1, none));
-  workers = λ e. h.workers (let same : f ≡ texts.Workers = cc in cc);
+  judged = (λ e. h.judged.0 (let same : f ≡ texts.Workers = cc in cc), λ bad. let e = h.judged.1 bad in let same : f ≡ texts.Workers = cc in cc);
   started = λ e. h.started (let same : f ≡ texts.Start = cc in cc);
   settled = λ e. h.settled (let same : f ≡ texts.Unsettled = cc in cc);
   actor = λ p e. h.actor p (let same : f ≡ texts.BadActor p = cc in cc);
@@ -271,9 +261,9 @@ begun_texts origin start trace unread f none other h = record {
   told = h.told;
 }
 
-pub not_begun : {A : Type 0} {S : Type 0} (left : S → Option (List ℕ)) (failed : S → Bool) (order : CustodyOrder) (start : Seen) (after : List Path) (ends : Ends) (f : TextFault) → ends.refused ≡ None → ends.unread → ends.input.failed ≡ false → ends.out.failed ≡ false → ends.untouched → TellsSources {A = A} (start ∷ []) (Err f)
-    → ((trace : Seen) → TellsTexts {A = A} order.origin start trace (Unit {0}) (Err f)) → TellsCustody {A = A} order.scope.vm order.origin start.had (Unit {0}) (Err f) → f ≢ texts.Write → ((said : TraceFault) → f ≢ texts.Trace said) → ReportsCustody left failed order.origin order.form order.scope after start ends (Err f)
-not_begun left failed order start [] ends f opened unread mark out untouched sources told custody write trace = record {
+pub not_begun : {A : Type 0} {S : Type 0} (left : S → Option (List ℕ)) (failed : S → Bool) (report : Report) (start : Seen) (after : List Path) (ends : Ends) (f : TextFault) → ends.refused ≡ None → ends.unread → ends.input.failed ≡ false → ends.out.failed ≡ false → ends.untouched → TellsSources {A = A} (start ∷ []) (Err f)
+    → ((trace : Seen) → TellsTexts {A = A} report.origin start trace (Unit {0}) (Err f)) → TellsAccount {A = A} report.slot report.workers report.origin start.had (Unit {0}) (Err f) → f ≢ texts.Write → ((said : TraceFault) → f ≢ texts.Trace said) → Reports left failed report after start ends (Err f)
+not_begun left failed report start [] ends f opened unread mark out untouched sources told tells write trace = record {
   opened = opened;
   ending = tt;
   written = tt;
@@ -289,11 +279,11 @@ not_begun left failed order start [] ends f opened unread mark out untouched sou
       | inr (inr never) ↦ absurd never
     ];
   };
-  told = begun_texts order.origin start ends.input ends.unread f unread trace (told ends.input);
-  custody = begun_custody order.scope.vm order.origin start.had ends.unread f unread custody;
+  told = begun_texts report.origin start ends.input ends.unread f unread trace (told ends.input);
+  tells = begun_account report.slot report.workers report.origin start.had ends.unread f unread tells;
   sink = sink_kept _ _ _ f out untouched write;
 }
-not_begun left failed order start (path ∷ after) ends f opened unread mark out untouched sources told custody write trace = record {
+not_begun left failed report start (path ∷ after) ends f opened unread mark out untouched sources told tells write trace = record {
   files = [];
   opened = record { files = tt; are = refl; next = rw opened tt };
   ending = tt;
@@ -307,24 +297,40 @@ not_begun left failed order start (path ∷ after) ends f opened unread mark out
     | inr (inr never) ↦ absurd never
   ];
   unopened = λ none. (let never = subst (λ (r : Option (List ℕ)). is_some r ≡ true) opened none in absurd cc);
-  told = begun_texts order.origin start ends.input ends.unread f unread trace (told ends.input);
+  told = begun_texts report.origin start ends.input ends.unread f unread trace (told ends.input);
   trace = λ said e. trace said (let same : f ≡ texts.Trace said = cc in same);
-  custody = begun_custody order.scope.vm order.origin start.had ends.unread f unread custody;
+  tells = begun_account report.slot report.workers report.origin start.had ends.unread f unread tells;
   sink = sink_kept _ _ _ f out untouched write;
 }
 
 -- of one trace, or of several volumes
-pub one_reported : {S : Type 0} (left : S → Option (List ℕ)) (failed : S → Bool) (origin : Origin) (form : CustodyForm) (scope : Scope) (after : List Path) (start : Seen) (ends : Ends) (ended : Ended) → length after ≡ 0 → ReportsTrace origin form scope start ends ended → ReportsCustody left failed origin form scope after start ends ended
-one_reported left failed origin form scope [] start ends ended none is = is
-one_reported left failed origin form scope (path ∷ after) start ends ended none is = absurd (omega (arith, none))
+pub one_reported : {S : Type 0} (left : S → Option (List ℕ)) (failed : S → Bool) (report : Report) (after : List Path) (start : Seen) (ends : Ends) (ended : Ended) → length after ≡ 0 → ReportsTrace report start ends ended → Reports left failed report after start ends ended
+one_reported left failed report [] start ends ended none is = is
+one_reported left failed report (path ∷ after) start ends ended none is = absurd (omega (arith, none))
 
-pub all_reported : {S : Type 0} (left : S → Option (List ℕ)) (failed : S → Bool) (origin : Origin) (form : CustodyForm) (scope : Scope) (after : List Path) (start : Seen) (ends : Ends) (ended : Ended) → length after ≢ 0 → ReportsVolumes left failed origin form scope after start ends ended → ReportsCustody left failed origin form scope after start ends ended
-all_reported left failed origin form scope [] start ends ended some is = absurd (some refl)
-all_reported left failed origin form scope (path ∷ after) start ends ended some is = is
+pub all_reported : {S : Type 0} (left : S → Option (List ℕ)) (failed : S → Bool) (report : Report) (after : List Path) (start : Seen) (ends : Ends) (ended : Ended) → length after ≢ 0 → ReportsVolumes left failed report after start ends ended → Reports left failed report after start ends ended
+all_reported left failed report [] start ends ended some is = absurd (some refl)
+all_reported left failed report (path ∷ after) start ends ended some is = is
 
 -- what an account has to be to be reported
-pub some_begun : (order : CustodyOrder) (account : CustodyAccount) (m : State) (start : Seen) → HasBegun order account m start → (o : CustodyOrder) × (n : State) × (source : Seen) × HasBegun o account n source
-some_begun order account m start begun = (order, m, start, begun)
+pub some_begun : {A O : Type 0} (kind : Kind A O) (order : O) (account : A) (m : State) (start : Seen) → HasStarted kind order account m start → (o : O) × (n : State) × (source : Seen) × HasStarted kind o account n source
+some_begun kind order account m start begun = (order, m, start, begun)
+
+-- an account began, and no number of workers is refused
+may_work : {X : Type 0} (slot : Option ℕ) (workers : ℕ) (origin : Origin) (start : Option (List ℕ)) (unread : Type 0) (x : X) → TellsAccount slot workers origin start unread (Ok x) → ((workers ≡ 0) ⊎ (worker_limit < workers)) → ⊥
+may_work slot workers origin start unread x h bad = let e = h.judged.1 bad in cc
+
+pub has_started : {A O : Type 0} {X : Type 0} (kind : Kind A O) (order : O) (account : A) (m : State) (start : Seen) (x : X) → kind.told order account m [] → kind.begun order account m start.had → IfSome start.had (λ text. BeginsIn (kind.origin order) text m (kind.first account))
+    → TellsAccount (kind.slot order) (kind.workers order) (kind.origin order) start.had (Unit {0}) (Ok x) → IsAtEnd start.has → start.failed ≡ false → HasStarted kind order account m start
+has_started kind order account m start x told begun begins tells ended mark = record {
+  told = told;
+  begun = begun;
+  begins = begins;
+  slot = tells.named;
+  workers = may_work (kind.slot order) (kind.workers order) (kind.origin order) start.had (Unit {0}) x tells;
+  ended = ended;
+  mark = mark;
+}
 
 -- what is said of any trace is not said of one
 abbrev unread_trace : Seen

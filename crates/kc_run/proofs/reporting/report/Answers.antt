@@ -1,7 +1,7 @@
 use Rattle.std.proofs.Common.{inl, inr, refl, ap, ◌∙◌, Some}
 use Rattle.std.proofs.lemmas.Result.{err_from_is_err_and}
 use Rattle.kc_run.proofs.Unread.{reports_less}
-use Rattle.kc_run.proofs.custody.custody.Goals as goal
+use Rattle.kc_run.proofs.reporting.report.Goals as goal
 
 pub returns-in_err-text : goal.returns-in_err-text
 returns-in_err-text g c =
@@ -14,9 +14,9 @@ returns-in_default g c = rw (← c.path.ensures, c.in_default.is) (inr record {
   same = c.in_ok-text.ensures.same;
   source = _;
   start = record { text = c.in_ok-text.text.items; had_is = ap Some (c.new-start.ensures ∙ c.deref.ensures.value); ready = refl; spells = c.in_ok-text.ensures.text };
-  runs = reports_less _ _ _ _ _ _ _ _ _ _ (ap g.T.Source.left) c.custody_from.ensures;
+  runs = reports_less _ _ _ _ _ _ _ _ (ap g.T.Source.left) c.report_from.ensures;
 })
 
 pub returns : goal.returns
 returns g c =
-    rw (← c.path.ensures, c.in-Some.is, c.close.ensures.refused) (inr (_, record { old = c.in_ok-file.file; new = c.custody_from-ended.new.start; ready = c.in_ok-file.ensures.ready; seen_is = refl }, c.in_ok-file.ensures.bytes, rw c.in_ok-file.ensures.same at c.custody_from-ended.ensures))
+    rw (← c.path.ensures, c.in-Some.is, c.close.ensures.refused) (inr (_, record { old = c.in_ok-file.file; new = c.report_from-ended.new.start; ready = c.in_ok-file.ensures.ready; seen_is = refl }, c.in_ok-file.ensures.bytes, rw c.in_ok-file.ensures.same at c.report_from-ended.ensures))

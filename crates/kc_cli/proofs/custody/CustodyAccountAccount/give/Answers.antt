@@ -9,7 +9,7 @@ use Rattle.kc_cli.specs.Custody.{joined}
 use Rattle.kc_cli.proofs.Ledgers.{changes_within, kept_in_order}
 use Rattle.kc_cli.proofs.Sources.{sink_err}
 use Rattle.kc_cli.proofs.Volumes.{in_line, listed_in_line, kept_is_within, gives_custody, begins_custody, all_answered}
-use Rattle.kc_cli.proofs.custody.CustodyAccount.give.Goals as goal
+use Rattle.kc_cli.proofs.custody.CustodyAccountAccount.give.Goals as goal
 
 abbrev config_of : State → Configuration
 config_of m = m.config
@@ -18,7 +18,7 @@ pub told_of-told-requires-clause-line : goal.told_of-told-requires-clause-line
 told_of-told-requires-clause-line g c = let line = c.requires.told.3.kept.line in omega (arith, line)
 
 pub told_of-told-requires-clause-few : goal.told_of-told-requires-clause-few
-told_of-told-requires-clause-few g c = let counted = c.requires.told.3.counted in omega (arith, counted)
+told_of-told-requires-clause-few g c = let counted = c.requires.told.3.read.counted in omega (arith, counted)
 
 pub give_told-requires-clause-changes : goal.give_told-requires-clause-changes
 give_told-requires-clause-changes g c =
@@ -34,16 +34,16 @@ give_told-requires-clause-order g c =
     rw c.told_of-told.ensures.ledger (kept_in_order c.requires.told.0.form c.requires.told.1 (notes c.requires.told.1 calls) _ h.kept.ledger (told_in_order first_line c.requires.told.1 calls))
 
 pub give_told-requires-clause-volumes : goal.give_told-requires-clause-volumes
-give_told-requires-clause-volumes g c = rw (c.told_of-told.ensures.volumes, c.requires.told.3.entries) (listed_in_line _ (in_line _ _ _))
+give_told-requires-clause-volumes g c = rw (c.told_of-told.ensures.volumes, c.requires.told.3.read.entries) (listed_in_line _ (in_line _ _ _))
 
 pub returns-in-Ok-clause-answered : goal.returns-in-Ok-clause-answered
-returns-in-Ok-clause-answered g c = λ order m start sources h begins.
+returns-in-Ok-clause-answered g c = λ order m start sources h begun.
     let line = h.kept.line in
     let calls = c.told_of-told.ensures.calls in
-    all_answered order c.args.self m start sources _ h (omega (arith, line, calls)) c.told_of-told.ensures.denials begins
+    all_answered order c.args.self m start sources _ h (omega (arith, line, calls)) c.told_of-told.ensures.denials begun.begins
 
 pub returns-in-Ok-clause-ok : goal.returns-in-Ok-clause-ok
-returns-in-Ok-clause-ok g c = λ order m start sources h begins digest.
+returns-in-Ok-clause-ok g c = λ order m start sources h began.
     let line = h.kept.line in
     let calls = c.told_of-told.ensures.calls in
     gives_custody order c.args.self m start sources
@@ -57,10 +57,10 @@ returns-in-Ok-clause-ok g c = λ order m start sources h begins digest.
       denials = c.told_of-told.ensures.denials;
       ledger = c.told_of-told.ensures.ledger;
     }
-    begins digest c.in-Ok.ensures.ok
+    began.begins began.digest c.in-Ok.ensures.ok
 
 pub returns-in-Err-clause-sink : goal.returns-in-Err-clause-sink
-returns-in-Err-clause-sink g c = λ order m start sources h begins digest.
+returns-in-Err-clause-sink g c = λ order m start sources h began.
     let line = h.kept.line in
     let calls = c.told_of-told.ensures.calls in
     sink_err _ _ _ _ c.in-Err.fault
@@ -75,5 +75,5 @@ returns-in-Err-clause-sink g c = λ order m start sources h begins digest.
       denials = c.told_of-told.ensures.denials;
       ledger = c.told_of-told.ensures.ledger;
     }
-    begins digest begun)
+    began.begins began.digest begun)
     c.in-Err.ensures.sink

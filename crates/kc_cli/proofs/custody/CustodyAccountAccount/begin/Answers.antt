@@ -1,8 +1,8 @@
-use Rattle.std.proofs.Common.{Err, ap, refl}
+use Rattle.std.proofs.Common.{◌∙◌, Err, ap, refl, sym}
 use Rattle.std.proofs.lemmas.Result.{err_from_is_err_and}
 use Rattle.kc_faults.proofs.Told.{texts_start}
-use Rattle.kc_cli.proofs.Volumes.{none_told}
-use Rattle.kc_cli.proofs.custody.CustodyAccount.begin.Goals as goal
+use Rattle.kc_cli.proofs.Volumes.{none_told, begins_there}
+use Rattle.kc_cli.proofs.custody.CustodyAccountAccount.begin.Goals as goal
 
 pub returns-in_err-begun-clause-texts : goal.returns-in_err-begun-clause-texts
 returns-in_err-begun-clause-texts g c =
@@ -12,7 +12,6 @@ returns-in_err-begun-clause-texts g c =
 pub returns-clause-ok : goal.returns-clause-ok
 returns-clause-ok g c = (
   c.in_ok-begun.begun.core,
-  c.in_ok-begun.ensures.ok,
-  rw c.names_start-is_named.ensures at c.in_ok-begun.ensures.digest,
-  none_told c.args.order _ refl c.in_ok-begun.ensures.lawful refl c.new-2.ensures.items c.in-Ok.ensures,
+  begins_there c.args.order _ c.in_ok-begun.begun.core _ c.in_ok-begun.begun.expected c.new-2.ensures.first c.in_ok-begun.ensures.ok (rw c.names_start-is_named.ensures at c.in_ok-begun.ensures.digest),
+  none_told c.args.order _ (c.new-2.ensures.next ∙ sym c.new-2.ensures.first) c.in_ok-begun.ensures.lawful refl c.new-2.ensures.none c.in-Ok.ensures,
 )

@@ -1,6 +1,6 @@
 use Rattle.std.proofs.Common.{◌≡◌, length}
 use Rattle.kc_cli.specs.Custody.{lacks_digest}
-use Rattle.kc_cli.proofs.custody.lacks_digest.Given as goal
+use Rattle.kc_cli.proofs.sequence.lacks_digest.Given as goal
 
 -- no volume so far lacks bytes
 abbrev pub invariant-loop-rest : goal.invariant-loop-rest
