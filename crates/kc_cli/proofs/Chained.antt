@@ -1,6 +1,7 @@
 -- What is kept of replies to traces that are read one after another is of all their calls, and so is what is written.
 use Rattle.std.proofs.Common.{ℕ, ◌≡◌, ◌≤◌, ◌<◌, ◌+◌, ◌^◌, ◌++◌, ◌∷◌, [], true, false, Bool, List, length, length-append, map, take, Option, Some, None, refl, ap, sym, ◌∙◌, subst, arith, inl, inr}
-use Rattle.std.specs.Prelude.{IfSome}
+use Rattle.std.specs.Prelude.{IfSome, option_map}
+use Rattle.std.specs.Borrow.{Bor}
 use Rattle.std.specs.Io.KnownBytes.{Appends, IsAtEnd}
 use Rattle.kc_types.specs.Configuration.{Configuration}
 use Rattle.kc_types.specs.Limits.{call_limit}
@@ -38,6 +39,7 @@ use Rattle.kc_cli.specs.Lines.{lines_text, entries_read, IsLinesText, IsReplayOf
 use Rattle.kc_cli.specs.Traced.{Traced, IsDigested}
 use Rattle.kc_cli.specs.Volumes.{known, IsAdded}
 use Rattle.kc_cli.proofs.Counted.{one_each}
+use Rattle.kc_cli.proofs.Fed.{left_config}
 use Rattle.kc_cli.proofs.Numbered.{numbered}
 use Rattle.kc_cli.proofs.Volumes.{joined_last, known_are, in_line, none_entered, entered_more, next_entered}
 use Rattle.kc_cli.proofs.Witnessed.{followed_needed}
@@ -68,13 +70,25 @@ config_left order account m core sources h is =
     let left : core ≡ state_after m (joined h.volumes) = some_is core (state_after m (joined h.volumes)) (sym is ∙ h.left) in
     ap (λ (n : State). n.config) left ∙ config-after m (joined h.volumes)
 
+-- and so it is after calls that were fed
+pub config_fed : (order : LinesOrder) (account : ReplayAccount) (m : State) (sources : List (Option (List ℕ))) (turned fed : Replaying) (calls : List Call) (given : List Reply) → HasReplayed order account m sources → turned.state ≡ account.replayer.state → IsFed turned fed calls given
+    → (lent : Option (Bor State)) {r : Bor State} → lent ≡ Some r → option_map (λ (it : Bor State). it.now) lent ≡ fed.state → r.now.config ≡ m.config
+config_fed order account m sources turned fed calls given h state is lent {r} some held =
+    let left : fed.state ≡ Some r.now = sym held ∙ ap (option_map (λ (it : Bor State). it.now)) some in
+    left_config (state_after m (joined h.of.volumes)) r.now turned fed calls given (state ∙ h.of.left) left is ∙ config-after m (joined h.of.volumes)
+
+-- as many calls are kept as there are replies
+pub few_kept : (kept calls : List Call) (given : List Reply) (a b : Replaying) → kept ≡ calls → IsFed a b calls given → length given ≤ call_limit → length kept ≤ call_limit
+few_kept kept calls given a b is fed few = let each = ap length fed.given ∙ one_each fed.start calls in let same = ap length is in omega (arith, each, same, few)
+
 -- one volume more, which these workers made the calls of
-pub replay_read : (order : LinesOrder) (old new : ReplayAccount) (m : State) (sources : List (Option (List ℕ))) (source : Option (List ℕ)) (header : Header) (calls : List Call) (given : List Reply) (digest : Option (List ℕ)) (line count : ℕ) (follows : Bool) (turned : Replaying) → (h : HasReplayed order old m sources)
-    → new.sequence.first ≡ old.sequence.first → IsAdded false m.config old.sequence new.sequence header digest line count → IfSome source (λ text. IsTraceUnder header text calls) → line ≡ first_line + length old.calls.items → line ≤ first_line + CALLS_BEFORE → count ≡ length calls
+pub replay_read : (order : LinesOrder) (old new : ReplayAccount) (m : State) (sources : List (Option (List ℕ))) (source : Option (List ℕ)) (header : Header) (calls : List Call) (given : List Reply) (digest : Option (List ℕ)) (line count : ℕ) (follows : Bool) (turned : Replaying) (machine : Configuration) → (h : HasReplayed order old m sources)
+    → new.sequence.first ≡ old.sequence.first → machine ≡ m.config → IsAdded false machine old.sequence new.sequence header digest line count → IfSome source (λ text. IsTraceUnder header text calls) → line ≡ first_line + length old.calls.items → line ≤ first_line + CALLS_BEFORE → count ≡ length calls
     → length given ≤ call_limit → IsDigested follows false (record { header = header; calls = calls }) digest → turned.state ≡ old.replayer.state → turned.workers ≡ old.replayer.workers → IsFed turned new.replayer calls given → new.calls.items ≡ old.calls.items ++ calls → new.replies.items ≡ old.replies.items ++ given
     → IsReplayOf order new m (sources ++ source ∷ []) × (follows ≡ true → HasReplayed order new m (sources ++ source ∷ []))
-replay_read order old new m sources source header calls given digest line count follows turned h first added traced at room long few digested state workers fed kept said =
+replay_read order old new m sources source header calls given digest line count follows turned machine h first config came traced at room long few digested state workers fed kept said =
     let before = h.of.volumes in
+    let added : IsAdded false m.config old.sequence new.sequence header digest line count = subst (λ (x : Configuration). IsAdded false x old.sequence new.sequence header digest line count) config came in
     let volume : Traced = record { header = header; calls = calls } in
     let start : fed.start ≡ state_after m (joined before) = some_is fed.start (state_after m (joined before)) (sym fed.from ∙ state ∙ h.of.left) in
     let answers : given ≡ replies_from (state_after m (joined before)) calls = fed.given ∙ ap (λ (n : State). replies_from n calls) start in

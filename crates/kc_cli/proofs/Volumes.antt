@@ -1,5 +1,5 @@
 -- What is kept of traces that are read one after another is of all their calls, and so is what is written.
-use Rattle.std.proofs.Common.{ℕ, ◌≡◌, ◌≤◌, ◌<◌, ◌+◌, ◌^◌, ◌++◌, ◌||◌, true, inl, inr, All, zero, suc, get_or, Bool, List, [], ◌∷◌, length, length-append, map, Option, Some, None, refl, ap, sym, ◌∙◌, subst, arith, append_assoc}
+use Rattle.std.proofs.Common.{ℕ, ◌≡◌, ◌≤◌, ◌<◌, ◌+◌, ◌-◌, ◌^◌, ◌++◌, ◌||◌, true, inl, inr, All, zero, suc, get_or, Bool, List, [], ◌∷◌, length, length-append, map, Option, Some, None, refl, ap, sym, ◌∙◌, subst, arith, append_assoc}
 use Rattle.std.proofs.lemmas.List.{append-nil}
 use Rattle.std.specs.Prelude.{IfSome, option_map}
 use Rattle.kc_types.specs.Limits.{call_limit}
@@ -107,21 +107,25 @@ next_entered asked named config old new before volume digest line calls added is
     added.next ∙ ap (expected_after volume.header) is ∙ next_is asked volume ∙ sym (next_last new.first before volume)
 
 -- an account of custody that has read one volume more
-pub custody_read : (order : CustodyOrder) (old new : CustodyAccount) (m : State) (sources : List (Option (List ℕ))) (source : Option (List ℕ)) (volume : Traced) (digest : Option (List ℕ)) (calls : ℕ) (follows : Bool) → (h : HasTold order old m sources) → new.order ≡ old.order → new.sequence.first ≡ old.sequence.first
-    → IsAdded (names_trace order.scope.named) m.config old.sequence new.sequence volume.header digest old.kept.line calls → IfSome source (λ text. IsTraceUnder volume.header text volume.calls) → length volume.calls ≤ call_limit → calls ≡ length volume.calls
-    → IsDigested (names_trace order.scope.named || follows) (names_trace order.scope.named) volume digest → ((before : List Call) → HasKept order.form m before old.core old.kept → HasKept order.form m (before ++ volume.calls) new.core new.kept)
+pub custody_read : (order : CustodyOrder) (old new : CustodyAccount) (m : State) (sources : List (Option (List ℕ))) (source : Option (List ℕ)) (volume : Traced) (digest : Option (List ℕ)) (follows : Bool) (machine : Configuration) (named : Bool) → (h : HasTold order old m sources) → new.order ≡ old.order → new.sequence.first ≡ old.sequence.first → machine ≡ m.config → named ≡ names_trace order.scope.named
+    → IsAdded named machine old.sequence new.sequence volume.header digest old.kept.line (new.kept.line - old.kept.line) → IfSome source (λ text. IsTraceUnder volume.header text volume.calls) → length volume.calls ≤ call_limit → new.kept.line ≡ old.kept.line + length volume.calls
+    → IsDigested (named || follows) named volume digest → ((before : List Call) → HasKept order.form m before old.core old.kept → HasKept order.form m (before ++ volume.calls) new.core new.kept)
     → IsAccountOf order new m (sources ++ source ∷ []) × (follows ≡ true → HasTold order new m (sources ++ source ∷ []))
-custody_read order old new m sources source volume digest calls follows h same first added traced few long digested more =
-    let named = names_trace order.scope.named in
+custody_read order old new m sources source volume digest follows machine named h same first config is_named added traced few at digested more =
     let before = h.of.volumes in
+    let line = old.kept.line in
+    let count = new.kept.line - line in
+    let long : count ≡ length volume.calls = omega (arith, at) in
+    let here : IsAdded named m.config old.sequence new.sequence volume.header digest line count = subst (λ (x : Configuration). IsAdded named x old.sequence new.sequence volume.header digest line count) config added in
+    let entered = entered_more named m.config old.sequence new.sequence sources before source volume digest line count (subst (λ (b : Bool). AreEntered b m.config old.sequence sources before) (sym is_named) h.of.read) h.next first here traced few h.of.kept.line long (named_needed named follows volume digest digested) in
     let of : IsAccountOf order new m (sources ++ source ∷ []) = record {
       ordered = same ∙ h.of.ordered;
       lawful = h.of.lawful;
       volumes = before ++ volume ∷ [];
-      read = entered_more named m.config old.sequence new.sequence sources before source volume digest old.kept.line calls h.of.read h.next first added traced few h.of.kept.line long (named_needed named follows volume digest digested);
+      read = subst (λ (b : Bool). AreEntered b m.config new.sequence (sources ++ source ∷ []) (before ++ volume ∷ [])) is_named entered;
       kept = subst (λ (all : List Call). HasKept order.form m all new.core new.kept) (sym (joined_last before volume)) (more (joined before) h.of.kept);
     } in
-    (of, λ is. record { of = of; next = next_entered named named m.config old.sequence new.sequence before volume digest old.kept.line calls added (followed_needed named follows volume digest digested is) })
+    (of, λ is. record { of = of; next = next_entered named named m.config old.sequence new.sequence before volume digest line count here (followed_needed named follows volume digest digested is) })
 
 -- the account began where it did
 pub still_begun : (order : CustodyOrder) (old new : CustodyAccount) (m : State) (start : Option (List ℕ)) → new.sequence.first ≡ old.sequence.first → new.start ≡ old.start → HasBegun order old m start → HasBegun order new m start

@@ -129,9 +129,7 @@ impl Account for ReplayAccount {
         // (its memory is given back before the text is made)
         let (config, _) = core.into_parts();
         let answered = Answered::of(&replies);
-        match give_volumes(alloc, &config, sequence.entries, &calls, &replies, out) {
-            Ok(()) => Ok(answered),
-            Err(fault) => Err(fault),
-        }
+        give_volumes(alloc, &config, sequence.entries, &calls, &replies, out)?;
+        Ok(answered)
     }
 }

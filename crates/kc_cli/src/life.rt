@@ -1,6 +1,7 @@
 //! What is made of a trace, or of the volumes of a life, which are read one after another.
 ghost use Rattle.std.specs.Prelude.{◌≡◌, ◌≢◌, ◌<◌, ◌++◌, ◌∷◌, ◌⊎◌, [], ℕ, List, Option, false, true, IfOk, IfErr, IfSome, OnOk, Err};
 ghost use Rattle.std.specs.Io.KnownBytes.{IsAtEnd};
+ghost use Rattle.std.specs.Thread.{IsSync};
 ghost use Rattle.kc_model.specs.State.{State};
 ghost use Rattle.kc_trace.specs.declared.fault.TraceFault.{TraceFault};
 ghost use Rattle.kc_texts.specs.Ends.{Seen, ReadFailed, seen};
@@ -35,7 +36,8 @@ pub trait Account {
         start: &mut C,
         order: Self::Order,
     ) -> Result<Self, TextFault>
-        requires { C.failed start.old ≡ false }
+        requires sync { IsSync R.row }
+        requires start { C.failed start.old ≡ false }
         ensures ok { IfOk result (λ account. (m : State) × kind.begun order account m (C.left start.old)
             × kind.told order account m []) }
         ensures sources { TellsSources (seen C.failed C.left start.old start.new ∷ []) result }
@@ -58,6 +60,7 @@ pub trait Account {
         trace: &mut T,
         is_followed: bool,
     ) -> Result<(), TextFault>
+        requires sync { IsSync R.row }
         requires trace { T.failed trace.old ≡ false }
         requires told { (order : Self.Order) × (m : State) × (sources : List (Option (List ℕ)))
             × kind.told order self.old m sources }
@@ -79,7 +82,8 @@ pub trait Account {
         ensures fault { IfErr result IsReplayFault };
 
     /// Ends an account of which nothing is written: the core is wiped.
-    fn end<R: Threads + Wait + Sync>(self, rt: &R);
+    fn end<R: Threads + Wait + Sync>(self, rt: &R)
+        requires sync { IsSync R.row };
 
     /// Wipes the core, and writes what is wanted; the result counts the calls, and those that were refused or rejected.
     fn give<K: Sink, R: Threads + Wait + Sync>(
@@ -88,6 +92,7 @@ pub trait Account {
         alloc: Global,
         out: &mut K,
     ) -> Result<Answered, TextFault>
+        requires sync { IsSync R.row }
         requires out { K.failed out.old ≡ false }
         requires told { (order : Self.Order) × (m : State) × (sources : List (Option (List ℕ)))
             × kind.of order self m sources }

@@ -9,6 +9,7 @@ ghost use Rattle.kc_faults.specs.Outcomes.{TellsSink};
 ghost use Rattle.kc_cli.specs.Lines.{replies_line, placed_answers, longest_placed_answer, lines_text};
 
 use crate::account::FIRST_LINE;
+use crate::lined::written;
 use crate::sequence::chain_of;
 use kc_faults::TextFault;
 use kc_texts::{Failed, PIECE, Sink, write_whole};
@@ -132,8 +133,5 @@ pub(crate) fn give_volumes<K: Sink>(
     let Ok(front) = front_of(alloc, chain, config, volumes.as_slice()) else {
         return Err(TextFault::Memory);
     };
-    match give_placed(out, front, calls, replies, volumes.as_slice()) {
-        Ok(()) => Ok(()),
-        Err(_) => Err(TextFault::Write),
-    }
+    written(give_placed(out, front, calls, replies, volumes.as_slice()))
 }

@@ -74,10 +74,10 @@ pub(crate) fn feed_source<T: Source, R: Threads + Wait + Sync>(
     requires trace { T.failed trace.old ≡ false }
     requires start { replayer.old.fed ≡ 0 }
     requires whole { IsSome replayer.old.state }
-    ensures ok { IfOk result (λ fed. IfSome (T.left trace.old) (λ text. (calls : List Call)
-        × IsTraceUnder fed.header text calls × IsFed replayer.old replayer.new calls fed.replies.items
-        × IsKept form fed.calls.items calls
-        × IsDigested is_placed false (record { header = fed.header; calls = calls }) fed.digest)) }
+    ensures ok { IfOk result (λ fed. (calls : List Call)
+        × IfSome (T.left trace.old) (λ text. IsTraceUnder fed.header text calls)
+        × IsFed replayer.old replayer.new calls fed.replies.items × IsKept form fed.calls.items calls
+        × IsDigested is_placed false (record { header = fed.header; calls = calls }) fed.digest) }
     ensures few { IfOk result (λ fed. length fed.replies.items ≤ call_limit) }
     ensures ended { OnOk result (IsAtEnd (T.left trace.new)) }
     ensures trace { (fault : TraceFault) → result ≡ Err (TextFault.Trace fault)

@@ -1,5 +1,5 @@
 use Rattle.std.specs.Prelude.{IfSome}
-use Rattle.std.proofs.Common.{◌≡◌, Err, ap, refl, sym, subst, arith, ◌∙◌}
+use Rattle.std.proofs.Common.{◌≡◌, Err, ap, refl, sym, subst, ◌∙◌}
 use Rattle.std.proofs.lemmas.Result.{err_from_is_err_and}
 use Rattle.kc_types.specs.Configuration.{Configuration}
 use Rattle.kc_trace.specs.declared.fault.TraceFault.{TraceFault}
@@ -9,21 +9,19 @@ use Rattle.kc_faults.specs.declared.fault.TextFault.TheVariants as texts
 use Rattle.kc_faults.proofs.Placed.{misplaced_there, known_refused_there}
 use Rattle.kc_cli.specs.Custody.{names_trace}
 use Rattle.kc_cli.specs.Traced.{Traced}
-use Rattle.kc_cli.specs.Volumes.{IsAdded}
+use Rattle.kc_cli.specs.declared.custody.CustodyOrder.{CustodyOrder}
 use Rattle.kc_cli.proofs.Volumes.{custody_read, still_begun, config_told, full_refused, there_refused}
 use Rattle.kc_cli.proofs.custody.CustodyAccountAccount.read.Goals as goal
 
 pub returns-clause-ok : goal.returns-clause-ok
 returns-clause-ok g c = λ order m sources h.
     let told = c.in_ok-volume.ensures.ok in
-    let at = told.3 in
     let read = c.in_ok-volume.volume in
     let volume : Traced = record { header = read.header; calls = told.0 } in
-    let config = c.config.ensures.value ∙ c.in_ok-volume.ensures.config ∙ config_told order c.args.self.now m sources h in
-    let named = rw (c.names_trace-is_named.ensures, h.of.ordered) at c.in_ok-add.ensures.ok in
-    let added = subst (λ (x : Configuration). IsAdded (names_trace order.scope.named) x c.args.self.now.sequence _ read.header read.digest c.args.self.now.kept.line _) config named in
-    custody_read order c.args.self.now _ m sources (g.T.Source.left c.args.trace.now) volume read.digest _ c.args.is_followed h refl c.in_ok-add.ensures.first added told.1 told.2 (omega (arith, at))
-    (rw (c.names_trace-is_named.ensures, h.of.ordered) at told.4) (λ before kept. told.5 order.form m before h.of.lawful kept)
+    custody_read order c.args.self.now _ m sources (g.T.Source.left c.args.trace.now) volume read.digest c.args.is_followed _ _ h refl c.in_ok-add.ensures.first
+    (c.config.ensures.value ∙ c.in_ok-volume.ensures.config ∙ config_told order c.args.self.now m sources h)
+    (c.names_trace-is_named.ensures ∙ ap (λ (o : CustodyOrder). names_trace o.scope.named) h.of.ordered)
+    c.in_ok-add.ensures.ok told.1 told.2 told.3 told.4 (λ before kept. told.5 order.form m before h.of.lawful kept)
 
 pub returns-clause-begun : goal.returns-clause-begun
 returns-clause-begun g c = λ order m start begun. still_begun order c.args.self.now _ m start c.in_ok-add.ensures.first refl begun
