@@ -1,11 +1,10 @@
 -- The lines of calls with their replies, and what comes before them.
-use Rattle.std.proofs.Common.{ℕ, ◌≡◌, ◌<◌, ◌++◌, ◌∷◌, ◌∙◌, List, codes, length, length-append, take, drop, ap, ap₂, append_assoc, arith}
-use Rattle.std.proofs.lemmas.List.{take_all}
+use Rattle.std.proofs.Common.{ℕ, ◌≡◌, ◌<◌, ◌++◌, ◌∷◌, ◌∙◌, List, codes, length, length-append, drop, None, refl, ap, ap₂, append_assoc, arith}
 use Rattle.kc_types.specs.Configuration.{Configuration}
 use Rattle.kc_types.specs.declared.call.Call.{Call}
 use Rattle.kc_types.specs.declared.reply.Reply.{Reply}
 use Rattle.kc_trace.specs.AnswerText.{answer_line}
-use Rattle.kc_trace.specs.CustodyText.{volumes_text}
+use Rattle.kc_trace.specs.CustodyText.{header_line, volumes_text}
 use Rattle.kc_trace.specs.declared.volume_writer.Chain.{Chain}
 use Rattle.kc_trace.specs.declared.volume_writer.VolumeEntry.{VolumeEntry}
 use Rattle.kc_cli.specs.Custody.{chain_of, listed}
@@ -18,9 +17,9 @@ answer_longer front whole line call reply is =
     let long = length-append front (answer_line line call reply) in
     omega (arith, both, long)
 
--- a text that is named otherwise
-pub renamed : (given items rest : List ℕ) (long : ℕ) → given ≡ codes "{\"replies\":" → items ≡ codes "{\"custody\":" ++ rest → long ≡ length items → take long (given ++ drop (length given) items) ≡ codes "{\"replies\":" ++ rest
-renamed given items rest long other same all = rw (other, all, same) (take_all (length (codes "{\"custody\":" ++ rest)) (codes "{\"replies\":" ++ rest) (omega arith))
+-- a line of custody under another name
+pub renamed : (chain : Chain) (config : Configuration) (line key rest : List ℕ) → line ≡ header_line (record { digests = None; is_unseen = false; chain = chain }) config → key ≡ codes "{\"replies\":" → rest ≡ drop 11 line → key ++ rest ≡ replies_line chain config
+renamed chain config line key rest is other after = rw (other, after, is) refl
 
 -- what comes before the lines, and the lines
 pub lines_so : (chain : Chain) (config : Configuration) (volumes entries : List VolumeEntry) (front : List ℕ) (calls : List Call) (replies : List Reply) → front ≡ replies_line chain config ++ volumes_text volumes → chain ≡ chain_of entries → volumes ≡ listed entries

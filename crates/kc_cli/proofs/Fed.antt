@@ -91,7 +91,7 @@ few_fed a b c xs ys rs ss h k few =
     omega (arith, same, few)
 
 -- the machine of the core that it leaves is that of the start
-left_config : (m core : State) (a b : Replaying) (calls : List Call) (given : List Reply) → a.state ≡ Some m → b.state ≡ Some core → IsFed a b calls given → core.config ≡ m.config
+pub left_config : (m core : State) (a b : Replaying) (calls : List Call) (given : List Reply) → a.state ≡ Some m → b.state ≡ Some core → IsFed a b calls given → core.config ≡ m.config
 left_config m core a b calls given from to fed =
     let same : fed.start ≡ m = some_is fed.start m (sym fed.from ∙ from) in
     let left : core ≡ state_after m calls = some_is core (state_after m calls) (sym to ∙ fed.state ∙ ap (λ (n : State). Some (state_after n calls)) same) in

@@ -88,7 +88,14 @@ impl Account for ReplayAccount {
             calls,
             replies,
             digest,
-        } = feed_source(rt, alloc, &mut self.replayer, trace, ReplayForm::Lines, is_followed)?;
+        } = feed_source(
+            rt,
+            alloc,
+            &mut self.replayer,
+            trace,
+            ReplayForm::Lines,
+            is_followed,
+        )?;
         let Some(core) = self.replayer.core() else {
             return Err(TextFault::Memory);
         };

@@ -1,9 +1,9 @@
 //! The lines of the calls of several volumes with their replies, and what comes before them.
-ghost use Rattle.std.specs.Prelude.{◌≡◌, ◌≤◌, ◌<◌, ◌+◌, ◌^◌, ◌++◌, ◌⊎◌, [], length, false, is_err, vec_len, vec_capacity, IfErr, IfOk, OnOk, OnErr};
+ghost use Rattle.std.specs.Prelude.{◌≡◌, ◌≤◌, ◌<◌, ◌+◌, ◌^◌, ◌++◌, ◌⊎◌, length, false, is_err, vec_len, vec_capacity, IfErr, IfOk, OnOk, OnErr};
 ghost use Rattle.std.specs.Io.KnownBytes.{Appends};
 ghost use Rattle.kc_model.specs.Custody.{first_line};
 ghost use Rattle.kc_trace.specs.AnswerText.{answer_line};
-ghost use Rattle.kc_trace.specs.CustodyText.{AreInLine, placed_text, volumes_text, longest_change};
+ghost use Rattle.kc_trace.specs.CustodyText.{AreInLine, placed_text, volumes_text};
 ghost use Rattle.kc_texts.specs.Written.{AppendsBeginning};
 ghost use Rattle.kc_faults.specs.Outcomes.{TellsSink};
 ghost use Rattle.kc_cli.specs.Lines.{replies_line, placed_answers, longest_placed_answer, lines_text};
@@ -14,7 +14,7 @@ use crate::sequence::chain_of;
 use kc_faults::TextFault;
 use kc_texts::{Failed, PIECE, Sink, write_whole};
 use kc_trace::{
-    Chain, Heading, LONGEST_ANSWER, LONGEST_PLACE, VolumeEntry, push_answer, push_custody_header,
+    Chain, Heading, LONGEST_ANSWER, LONGEST_CHANGE, LONGEST_PLACE, VolumeEntry, push_answer, push_custody_header,
     push_place, push_volumes, volume_of,
 };
 use kc_types::{Call, Config, Memory, Reply};
@@ -25,6 +25,7 @@ const LONGEST_PLACED: usize = LONGEST_ANSWER + LONGEST_PLACE;
 
 /// What the first line of custody begins with, and what that of replies begins with in its place.
 const CUSTODY_KEY: &[u8] = b"{\"custody\":";
+
 const REPLIES_KEY: &[u8] = b"{\"replies\":";
 
 /// Appends the line of a call and its reply, with the number of its volume first, for which there is room: memory does
@@ -72,28 +73,19 @@ fn give_placed<K: Sink>(
             write_whole(out, &piece)?;
             piece.clear();
         }
-        push_placed(&mut piece, FIRST_LINE + i as u32, &calls[i], &replies[i], volumes);
+        push_placed(
+            &mut piece,
+            FIRST_LINE + i as u32,
+            &calls[i],
+            &replies[i],
+            volumes,
+        );
     }
     write_whole(out, &piece)
 }
 
-/// Appends the first line, with its newline: that of custody, which says of what it is.
-fn push_replies_header(text: &mut Vec<u8>, chain: Chain, config: &Config)
-    requires empty { text.old.items ≡ [] }
-    requires room { longest_change ≤ vec_capacity text.old }
-    ensures line { text.new.items ≡ replies_line chain config.now }
-    ensures capacity { vec_capacity text.old ≤ vec_capacity text.new }
-{
-    let heading = Heading {
-        digests: None,
-        is_unseen: false,
-        chain,
-    };
-    push_custody_header(text, &heading, config);
-    text[..CUSTODY_KEY.len()].copy_from_slice(REPLIES_KEY);
-}
-
-/// Makes what comes before the lines of calls, with room for such a line.
+/// Makes what comes before the lines of calls, with room for such a line: the first line is that of custody under
+/// another name.
 fn front_of(
     alloc: Global,
     chain: Chain,
@@ -103,8 +95,16 @@ fn front_of(
     ensures front { IfOk result (λ piece. piece.items ≡ replies_line chain config.now ++ volumes_text volumes.now) }
     ensures room { IfOk result (λ piece. longest_placed_answer ≤ vec_capacity piece) }
 {
+    let heading = Heading {
+        digests: None,
+        is_unseen: false,
+        chain,
+    };
+    let mut line = Vec::with_capacity(alloc, LONGEST_CHANGE)?;
+    push_custody_header(&mut line, &heading, config);
     let mut piece = Vec::with_capacity(alloc, PIECE)?;
-    push_replies_header(&mut piece, chain, config);
+    piece.extend_from_slice(REPLIES_KEY)?;
+    piece.extend_from_slice(&line[CUSTODY_KEY.len()..])?;
     push_volumes(&mut piece, volumes)?;
     Ok(piece)
 }

@@ -159,7 +159,14 @@ fn report_volumes<A: Account + Drop, F: Files, T: Source, K: Sink, R: Threads + 
 /// Reports what is ordered of the trace that the input holds, or of this and of the volumes that the files hold, from an
 /// open start.
 #[inline(never)]
-fn report_from<A: Account + Drop, F: Files, C: Source, T: Source, K: Sink, R: Threads + Wait + Sync>(
+fn report_from<
+    A: Account + Drop,
+    F: Files,
+    C: Source,
+    T: Source,
+    K: Sink,
+    R: Threads + Wait + Sync,
+>(
     system: &System<'_, R>,
     files: &mut F,
     start: &mut C,
@@ -206,10 +213,14 @@ pub(crate) fn report<A: Account + Drop, F: Files, T: Headed, K: Sink, R: Threads
     let Some(path) = start.path() else {
         let text = unnamed_text(system.alloc, input)?;
         let mut start = StartText::new(&text);
-        return report_from::<A, F, StartText<'_>, T, K, R>(system, files, &mut start, input, after, out, order);
+        return report_from::<A, F, StartText<'_>, T, K, R>(
+            system, files, &mut start, input, after, out, order,
+        );
     };
     let mut file = open(files, path)?;
-    let ended = report_from::<A, F, F::File, T, K, R>(system, files, &mut file, input, after, out, order);
+    let ended = report_from::<A, F, F::File, T, K, R>(
+        system, files, &mut file, input, after, out, order,
+    );
     files.close(file);
     ended
 }

@@ -45,8 +45,7 @@ returns-in-Ok-finish-clause-ok g c =
     let seen = (rw c.deref.ensures.value at c.in_ok-witness.ensures.seen) c.loop-witness.stream.reader.progress.header before.1 (λ found is. c.header.ensures ∙ c.in_ok-part.ensures.header found is)
     (λ none. none_last before.1 c.in_ok-part.part.calls.items (more.1.headless (sym c.header.ensures ∙ none))) before.5 in
     let volume : Traced = record { header = c.in-Ok-finish.header; calls = before.1 ++ c.in_ok-part.part.calls.items } in
-    let traced = c.in-Ok-finish.ensures.ok _ _ _ _ more.1 (c.in_ok-part.ensures.last c.if-part.true) in
-    (
+    let traced = c.in-Ok-finish.ensures.ok _ _ _ _ more.1 (c.in_ok-part.ensures.last c.if-part.true) in (
       before.1 ++ c.in_ok-part.part.calls.items,
       traced,
       rw grown (fed_more _ _ _ before.1 c.in_ok-part.part.calls.items _ _ before.3 fed),

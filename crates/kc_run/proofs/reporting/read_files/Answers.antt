@@ -1,4 +1,5 @@
-use Rattle.std.proofs.Common.{◌++◌, ◌∷◌, [], length-append, true, None, Some, Ok, Err, refl, ◌∙◌, arith}
+use Rattle.std.proofs.Common.{rules, ◌++◌, ◌∷◌, [], length-append, true, None, Some, Ok, Err, refl, ◌∙◌, arith}
+use Rattle.std.proofs.lemmas.Bool.{le-leb}
 use Rattle.std.proofs.lemmas.Result.{err_from_is_err_and}
 use Rattle.kc_texts.specs.Ends.{seen}
 use Rattle.kc_run.specs.Opening.{IsOfFile}
@@ -77,7 +78,7 @@ loop-path-preserved g c =
         omega (arith, both, long),
         opened_more (g.F.Files.held c.args.files.now) c.args.after.now so.0 source c.loop-path.path-index _ so.2 so.1 (omega (arith, c.loop-path-test.true)) file (rw c.loop-path.invariant.same at c.in_ok-volume.ensures.bytes),
         _,
-        ?more,
+        λ lt. (let count = c.len.ensures in le-leb _ _ (omega (arith, number, lt, count))),
         reads_then g.A.Account.kind _ _ _ None so.0 (source ∷ []) 2 _ _ (Ok None) read (rw c.in-None.is at c.in_ok-refusal.ensures) (omega (arith, number, long)),
       );
       number = omega (arith, number);
@@ -88,4 +89,5 @@ loop-path-preserved g c =
 pub returns-clause-read : goal.returns-clause-read
 returns-clause-read g c =
     let so = c.loop-path.invariant.read in
-    ?end
+    let reads = reads_last g.A.Account.kind _ _ _ _ _ _ _ so.5 in
+    search rules
