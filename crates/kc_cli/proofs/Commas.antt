@@ -1,10 +1,10 @@
 -- The lines of calls with their replies, and what comes before them.
-use Rattle.std.proofs.Common.{ℕ, ◌≡◌, ◌<◌, ◌++◌, ◌∷◌, ◌∙◌, List, codes, length, length-append, drop, None, refl, ap, ap₂, append_assoc, arith}
+use Rattle.std.proofs.Common.{ℕ, ◌≡◌, ◌<◌, ◌++◌, ◌∙◌, List, length, length-append, ap, ap₂, append_assoc, arith}
 use Rattle.kc_types.specs.Configuration.{Configuration}
 use Rattle.kc_types.specs.declared.call.Call.{Call}
 use Rattle.kc_types.specs.declared.reply.Reply.{Reply}
 use Rattle.kc_trace.specs.AnswerText.{answer_line}
-use Rattle.kc_trace.specs.CustodyText.{header_line, volumes_text}
+use Rattle.kc_trace.specs.CustodyText.{volumes_text}
 use Rattle.kc_trace.specs.declared.volume_writer.Chain.{Chain}
 use Rattle.kc_trace.specs.declared.volume_writer.VolumeEntry.{VolumeEntry}
 use Rattle.kc_cli.specs.Custody.{chain_of, listed}
@@ -16,10 +16,6 @@ answer_longer front whole line call reply is =
     let both = ap length is in
     let long = length-append front (answer_line line call reply) in
     omega (arith, both, long)
-
--- a line of custody under another name
-pub renamed : (chain : Chain) (config : Configuration) (line key rest : List ℕ) → line ≡ header_line (record { digests = None; is_unseen = false; chain = chain }) config → key ≡ codes "{\"replies\":" → rest ≡ drop 11 line → key ++ rest ≡ replies_line chain config
-renamed chain config line key rest is other after = rw (other, after, is) refl
 
 -- what comes before the lines, and the lines
 pub lines_so : (chain : Chain) (config : Configuration) (volumes entries : List VolumeEntry) (front : List ℕ) (calls : List Call) (replies : List Reply) → front ≡ replies_line chain config ++ volumes_text volumes → chain ≡ chain_of entries → volumes ≡ listed entries
