@@ -1,5 +1,5 @@
 -- What is kept of replies to traces that are read one after another is of all their calls, and so is what is written.
-use Rattle.std.proofs.Common.{ℕ, ◌≡◌, ◌≤◌, ◌<◌, ◌+◌, ◌^◌, ◌++◌, ◌∷◌, [], true, false, Bool, List, length, length-append, map, take, Option, Some, None, refl, ap, sym, ◌∙◌, subst, arith, inl, inr}
+use Rattle.std.proofs.Common.{ℕ, ◌≡◌, ◌≤◌, ◌<◌, ◌+◌, ◌++◌, ◌∷◌, [], true, false, Bool, List, length, length-append, map, take, Option, Some, None, refl, ap, sym, ◌∙◌, subst, arith, inl, inr}
 use Rattle.std.specs.Prelude.{IfSome, option_map}
 use Rattle.std.specs.Borrow.{Bor}
 use Rattle.std.specs.Io.KnownBytes.{Appends, IsAtEnd}
@@ -19,7 +19,6 @@ use Rattle.kc_remarks.specs.Denials.{IsAnsweredBy}
 use Rattle.kc_replay.specs.Replayer.{Replaying, IsFed}
 use Rattle.kc_trace.specs.declared.expected.Expected.{Expected}
 use Rattle.kc_trace.specs.declared.header.Header.{Header}
-use Rattle.kc_trace.specs.declared.volume_writer.VolumeEntry.{VolumeEntry}
 use Rattle.kc_trace.specs.CustodyText.{AreInLine}
 use Rattle.kc_trace.specs.Expected.{IsRefusedThere}
 use Rattle.kc_trace.specs.Trace.{IsTraceUnder}
@@ -27,7 +26,6 @@ use Rattle.kc_trace.specs.declared.fault.TraceFault.{TraceFault}
 use Rattle.kc_trace.specs.declared.fault.TraceFault.TheVariants.{TooManyCalls}
 use Rattle.kc_texts.specs.Ends.{Seen}
 use Rattle.kc_texts.specs.Written.{Writes, Begins}
-use Rattle.kc_faults.specs.declared.origin.Origin.{Origin}
 use Rattle.kc_faults.specs.Origins.{BeginsIn}
 use Rattle.kc_cli.specs.declared.answering.LinesOrder.{LinesOrder}
 use Rattle.kc_cli.specs.declared.answering.ReplayAccount.{ReplayAccount}
@@ -35,7 +33,7 @@ use Rattle.kc_cli.specs.declared.sequence.TheConstants.{CALLS_BEFORE}
 use Rattle.kc_cli.specs.Answers.{AreAllAnswered}
 use Rattle.kc_cli.specs.Custody.{joined, AreVolumes}
 use Rattle.kc_cli.specs.Kinds.{IsNextRefused}
-use Rattle.kc_cli.specs.Lines.{lines_text, entries_read, IsLinesText, IsReplayOf, HasReplayed}
+use Rattle.kc_cli.specs.Lines.{lines_text, IsLinesText, IsReplayOf, HasReplayed}
 use Rattle.kc_cli.specs.Traced.{Traced, IsDigested}
 use Rattle.kc_cli.specs.Volumes.{known, IsAdded}
 use Rattle.kc_cli.proofs.Counted.{one_each}

@@ -1,5 +1,5 @@
 -- What is kept of traces that are read one after another is of all their calls, and so is what is written.
-use Rattle.std.proofs.Common.{ℕ, ◌≡◌, ◌≤◌, ◌<◌, ◌+◌, ◌-◌, ◌^◌, ◌++◌, ◌||◌, true, inl, inr, All, zero, suc, get_or, Bool, List, [], ◌∷◌, length, length-append, map, Option, Some, None, refl, ap, sym, ◌∙◌, subst, arith, append_assoc}
+use Rattle.std.proofs.Common.{ℕ, ◌≡◌, ◌≤◌, ◌<◌, ◌+◌, ◌-◌, ◌++◌, ◌||◌, true, inl, inr, All, zero, suc, get_or, Bool, List, [], ◌∷◌, length, length-append, map, Option, Some, None, refl, ap, sym, ◌∙◌, subst, arith, append_assoc}
 use Rattle.std.proofs.lemmas.List.{append-nil}
 use Rattle.std.specs.Prelude.{IfSome, option_map}
 use Rattle.kc_types.specs.Limits.{call_limit}

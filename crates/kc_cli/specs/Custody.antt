@@ -1,9 +1,9 @@
 -- What the engine of custody writes of what its sources held.
-use Rattle.std.specs.Prelude.{◌≡◌, ◌≢◌, ◌<◌, ◌≤◌, ◌+◌, ◌++◌, ◌||◌, ℕ, Bool, not, true, false, List, [], ◌∷◌, length, map, filter, All, Option, Some, None, is_some, Result, Err, IfSome, OnOk}
+use Rattle.std.specs.Prelude.{◌≡◌, ◌≤◌, ◌+◌, ◌++◌, ◌||◌, ℕ, Bool, not, true, false, List, [], ◌∷◌, length, map, filter, All, Option, Some, None, is_some, IfSome}
 use Rattle.std.specs.List.{range_with_len}
 use Rattle.sha2.specs.Sha256.{sha256}
 use Rattle.kc_types.specs.Limits.{call_limit}
-use Rattle.kc_types.specs.Configuration.{Configuration, slot_count}
+use Rattle.kc_types.specs.Configuration.{Configuration}
 use Rattle.kc_types.specs.declared.call.Call.{Call}
 use Rattle.kc_model.specs.State.{State}
 use Rattle.kc_model.specs.Lawful.{IsLawful}
@@ -45,8 +45,6 @@ use Rattle.kc_trace.specs.declared.volume_writer.Order.TheVariants as order
 use Rattle.kc_trace.specs.declared.volume_writer.Chain.{Chain}
 use Rattle.kc_trace.specs.RemarkText.{notes_text_of}
 use Rattle.kc_trace.specs.SummaryText.{summary_text_of}
-use Rattle.kc_faults.specs.declared.fault.TextFault.{TextFault}
-use Rattle.kc_faults.specs.declared.fault.TextFault.TheVariants as texts
 use Rattle.kc_faults.specs.declared.origin.Origin.{Origin}
 use Rattle.kc_faults.specs.declared.origin.Origin.TheVariants as origins
 use Rattle.kc_faults.specs.Origins.{BeginsIn, position_at}

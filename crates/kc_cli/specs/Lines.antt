@@ -11,7 +11,6 @@ use Rattle.kc_model.specs.Next.{replies_from, state_after}
 use Rattle.kc_model.specs.Promises.{KeepsPromises}
 use Rattle.kc_model.specs.Custody.{first_line}
 use Rattle.kc_trace.specs.declared.expected.Expected.{Expected}
-use Rattle.kc_trace.specs.declared.custody_writer.Heading.{Heading}
 use Rattle.kc_trace.specs.declared.volume_writer.VolumeEntry.{VolumeEntry}
 use Rattle.kc_trace.specs.declared.volume_writer.Chain.{Chain}
 use Rattle.kc_trace.specs.AnswerText.{answer_at, longest_answer}

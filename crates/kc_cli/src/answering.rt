@@ -1,5 +1,4 @@
 //! The engine that writes the calls of several volumes with their replies, over any sources and any sink.
-ghost use Rattle.std.specs.Prelude.{◌≡◌, ◌≤◌};
 ghost use Rattle.kc_cli.specs.Lines.{lines_kind};
 
 use crate::account::FIRST_LINE;

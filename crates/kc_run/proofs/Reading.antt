@@ -298,7 +298,14 @@ refused_first config expected source fault is = by_reason is.fault_is
     by_reason (inl there) = (subst (λ (e : Expected). IfSome source.had (λ text. IsRefusedThere config e text fault)) (none_last config expected is.volumes is.traced) there.0, there.1)
     by_reason (inr full) = absurd (let none = no_calls config expected is.volumes is.traced in let many = full.1 in omega (arith, none, many))
 
--- what an account has to be to be given
+-- what an account has to be to be read into
+pub some_next : {A O : Type 0} (kind : Kind A O) (order : O) (account : A) (m : State) (sources : List (Option (List ℕ))) → kind.told order account m sources → (o : O) × (n : State) × (held : List (Option (List ℕ))) × kind.told o account n held
+some_next kind order account m sources told = (order, m, sources, told)
+
+pub some_first : {A O : Type 0} (kind : Kind A O) (order : O) (account : A) (m : State) → kind.told order account m [] → (o : O) × (n : State) × kind.told o account n []
+some_first kind order account m told = (order, m, told)
+
+-- and to be given
 pub some_told : {A O : Type 0} (kind : Kind A O) (order : O) (account : A) (m : State) (sources : List (Option (List ℕ))) → kind.of order account m sources → (o : O) × (n : State) × (held : List (Option (List ℕ))) × kind.of o account n held
 some_told kind order account m sources told = (order, m, sources, told)
 

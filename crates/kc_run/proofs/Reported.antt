@@ -1,5 +1,5 @@
 -- What a report leaves, by how its volumes were read and what was given.
-use Rattle.std.proofs.Common.{ℕ, ◌≡◌, ◌≢◌, ◌<◌, ◌⊎◌, ◌↔◌, ◌++◌, ◌∷◌, Bool, List, [], length, Option, Some, None, Result, Ok, Err, true, false, inl, inr, refl, ap, sym, ◌∙◌, subst, arith}
+use Rattle.std.proofs.Common.{ℕ, ◌≡◌, ◌≢◌, ◌<◌, ◌⊎◌, ◌↔◌, ◌∷◌, Bool, List, [], length, Option, Some, None, Result, Ok, Err, true, false, inl, inr, refl, ap, sym, ◌∙◌, subst, arith}
 use Rattle.std.specs.Prelude.{IfOk, IfErr, IfSome, IsErrOf, OnOk, is_some}
 use Rattle.std.proofs.lemmas.List.{take_all}
 use Rattle.std.specs.Io.KnownBytes.{IsAtEnd}
@@ -19,7 +19,7 @@ use Rattle.kc_faults.specs.Outcomes.{TellsSources, TellsTexts, TellsSink}
 use Rattle.kc_faults.proofs.Told.{IsLastFault, texts_ok, texts_after, texts_trace, begun_is}
 use Rattle.kc_cli.specs.Answers.{AreAllAnswered}
 use Rattle.kc_cli.specs.Engine.{IsReplayFault}
-use Rattle.kc_cli.specs.Kinds.{Kind, HasSlot, TellsAccount}
+use Rattle.kc_cli.specs.Kinds.{Kind, TellsAccount}
 use Rattle.kc_cli.specs.Volumes.{known}
 use Rattle.kc_cli.proofs.Sources.{sink_ok}
 use Rattle.kc_args.specs.Jobs.{Path}

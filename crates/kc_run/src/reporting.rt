@@ -1,5 +1,5 @@
 //! What is reported of the volume that an input holds, or of that and of those in the files after it.
-ghost use Rattle.std.specs.Prelude.{◌≡◌, ◌∷◌, [], ℕ, Bool, List, Option, Some, None, Ok, false, true, length};
+ghost use Rattle.std.specs.Prelude.{◌≡◌, ◌∷◌, [], ℕ, List, Option, Some, None, Ok, false, true, length};
 ghost use Rattle.kc_model.specs.State.{State};
 ghost use Rattle.kc_texts.specs.Ends.{Seen, seen};
 ghost use Rattle.kc_args.specs.Jobs.{path_of};

@@ -1,15 +1,15 @@
 use Rattle.std.proofs.Common.{◌≡◌, ◌<◌, ◌≤◌, ◌+◌, ◌++◌, ◌∙◌, [], Result, Ok, Err, false, length, min, slice_index_or, ap₂, rules, arith}
 use Rattle.std.specs.Prelude.{OnErr}
-use Rattle.std.specs.List.{flat_map, range_with_len}
+use Rattle.std.specs.List.{range_with_len}
 use Rattle.std.specs.Vec.{vec_capacity}
-use Rattle.std.proofs.lemmas.Result.{on_ok_weaker, on_err_weaker}
+use Rattle.std.proofs.lemmas.Result.{on_err_weaker}
 use Rattle.std.proofs.lemmas.List.{append-nil, get_or_default}
 use Rattle.std.proofs.KnownBytes.{Appends-nil}
 use Rattle.kc_types.specs.declared.call.Call.TheVariants.{Take}
 use Rattle.kc_types.specs.declared.reply.Reply.TheVariants.{Done}
 use Rattle.kc_trace.specs.AnswerText.{answer_line}
 use Rattle.kc_trace.specs.CustodyText.{placed_text}
-use Rattle.kc_texts.proofs.Pieces.{IsGiven, text_of, given_whole, given_all, given_more, begun, range-more, range-taken}
+use Rattle.kc_texts.proofs.Pieces.{IsGiven, text_of, given_whole, given_more, begun, range-more, range-taken}
 use Rattle.kc_cli.specs.Lines.{placed_answer_at, longest_placed_answer}
 use Rattle.kc_cli.proofs.placing.give_placed.Goals as goal
 use Rattle.kc_cli.proofs.placing.give_placed.Goals.{then-capacity-len-lt-LONGEST_PLACED+in_ok-write_whole, else-capacity-len-lt-LONGEST_PLACED}

@@ -1,4 +1,4 @@
-use Rattle.std.proofs.Common.{ℕ, List, take, subst, ◌∙◌}
+use Rattle.std.proofs.Common.{ℕ, List, take, subst}
 use Rattle.std.specs.Io.KnownBytes.{Appends}
 use Rattle.kc_cli.proofs.Commas.{lines_so}
 use Rattle.kc_cli.proofs.Told.{gives, gives_to}

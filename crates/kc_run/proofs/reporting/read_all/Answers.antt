@@ -1,7 +1,7 @@
-use Rattle.std.proofs.Common.{◌∷◌, [], refl}
+use Rattle.std.proofs.Common.{rules, ◌∷◌, [], false, refl}
 use Rattle.std.proofs.lemmas.Result.{err_from_is_err_and}
 use Rattle.kc_texts.specs.Ends.{seen}
-use Rattle.kc_run.proofs.Reading.{reads_then, reads_last}
+use Rattle.kc_run.proofs.Reading.{reads_then, reads_last, some_next}
 use Rattle.kc_run.proofs.reporting.read_all.Goals as goal
 
 pub returns-in_err-refusal-clause-read : goal.returns-in_err-refusal-clause-read
@@ -16,7 +16,8 @@ pub read_files-requires-clause-told : goal.read_files-requires-clause-told
 read_files-requires-clause-told g c =
     let told = c.requires.told in
     let first = rw c.in-None.is at c.in_ok-refusal.ensures in
-    (told.0, told.1, _, (first.told refl told.0 told.1 [] told.2).1 refl)
+    let next = some_next g.A.Account.kind told.0 _ told.1 _ ((first.told refl told.0 told.1 [] told.2).1 refl) in
+    search rules
 
 pub returns-in-None-clause-read : goal.returns-in-None-clause-read
 returns-in-None-clause-read g c =

@@ -3,7 +3,7 @@ use Rattle.std.proofs.lemmas.Bool.{le-leb}
 use Rattle.std.proofs.lemmas.Result.{err_from_is_err_and}
 use Rattle.kc_texts.specs.Ends.{seen}
 use Rattle.kc_run.specs.Opening.{IsOfFile}
-use Rattle.kc_run.proofs.Reading.{reads_then, reads_last, so_followed, unopened, open_failed, none_read, opened_more, opened_up_to}
+use Rattle.kc_run.proofs.Reading.{reads_then, reads_last, so_followed, some_next, unopened, open_failed, none_read, opened_more, opened_up_to}
 use Rattle.kc_run.proofs.reporting.read_files.Goals as goal
 
 pub loop-path-init : goal.loop-path-init
@@ -30,7 +30,8 @@ pub read_volume-read-requires-clause-told : goal.read_volume-read-requires-claus
 read_volume-read-requires-clause-told g c =
     let told = c.requires.told in
     let so = c.loop-path.invariant.read in
-    (told.0, told.1, _, (so.5.told refl told.0 told.1 told.2 told.3).1 (so.4 (omega (arith, c.loop-path-test.true))))
+    let next = some_next g.A.Account.kind told.0 _ told.1 _ ((so.5.told refl told.0 told.1 told.2 told.3).1 (so.4 (omega (arith, c.loop-path-test.true)))) in
+    search rules
 
 pub returns-in_err-refusal-clause-read : goal.returns-in_err-refusal-clause-read
 returns-in_err-refusal-clause-read g c =
@@ -78,7 +79,7 @@ loop-path-preserved g c =
         omega (arith, both, long),
         opened_more (g.F.Files.held c.args.files.now) c.args.after.now so.0 source c.loop-path.path-index _ so.2 so.1 (omega (arith, c.loop-path-test.true)) file (rw c.loop-path.invariant.same at c.in_ok-volume.ensures.bytes),
         _,
-        λ lt. (let count = c.len.ensures in le-leb _ _ (omega (arith, number, lt, count))),
+        λ lt. le-leb _ _ (omega (arith, number, lt)),
         reads_then g.A.Account.kind _ _ _ None so.0 (source ∷ []) 2 _ _ (Ok None) read (rw c.in-None.is at c.in_ok-refusal.ensures) (omega (arith, number, long)),
       );
       number = omega (arith, number);

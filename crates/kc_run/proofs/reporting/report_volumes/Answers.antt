@@ -1,10 +1,13 @@
 use Rattle.std.proofs.Common.{rules, refl}
-use Rattle.kc_run.proofs.Reading.{all_told}
+use Rattle.kc_run.proofs.Reading.{some_first, all_told}
 use Rattle.kc_run.proofs.Reported.{volumes_given, volumes_refused, volumes_failed}
 use Rattle.kc_run.proofs.reporting.report_volumes.Goals as goal
 
 pub read_all-requires-clause-told : goal.read_all-requires-clause-told
-read_all-requires-clause-told g c = (c.requires.begun.0, c.requires.begun.1, c.requires.begun.3.told)
+read_all-requires-clause-told g c =
+    let begun = c.requires.begun in
+    let first = some_first g.A.Account.kind begun.0 c.args.account begun.1 begun.3.told in
+    search rules
 
 pub give-requires-clause-told : goal.give-requires-clause-told
 give-requires-clause-told g c =

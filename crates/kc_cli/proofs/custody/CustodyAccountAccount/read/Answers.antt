@@ -3,7 +3,6 @@ use Rattle.std.proofs.Common.{◌≡◌, Err, ap, refl, sym, subst, ◌∙◌}
 use Rattle.std.proofs.lemmas.Result.{err_from_is_err_and}
 use Rattle.kc_types.specs.Configuration.{Configuration}
 use Rattle.kc_trace.specs.declared.fault.TraceFault.{TraceFault}
-use Rattle.kc_trace.specs.declared.fault.TraceFault.TheVariants.{Misplaced}
 use Rattle.kc_trace.specs.Expected.{IsHeaderFault, IsRefusedThere}
 use Rattle.kc_faults.specs.declared.fault.TextFault.TheVariants as texts
 use Rattle.kc_faults.proofs.Placed.{misplaced_there, known_refused_there}
