@@ -1,0 +1,5 @@
+use Rattle.kc_args.proofs.Asking.{several_named}
+use Rattle.kc_args.proofs.options.has_several.Goals as goal
+
+pub returns-in-Some : goal.returns-in-Some
+returns-in-Some c = several_named _ c.in-Some.files.now c.len.result c.in-Some.ensures c.len.ensures
