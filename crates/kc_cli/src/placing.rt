@@ -14,8 +14,8 @@ use crate::sequence::chain_of;
 use kc_faults::TextFault;
 use kc_texts::{Failed, PIECE, Sink, write_whole};
 use kc_trace::{
-    Chain, Heading, LONGEST_ANSWER, LONGEST_CHANGE, LONGEST_PLACE, VolumeEntry, push_answer, push_custody_header,
-    push_place, push_volumes, volume_of,
+    Chain, Heading, LONGEST_ANSWER, LONGEST_CHANGE, LONGEST_PLACE, VolumeEntry, push_answer,
+    push_custody_header, push_place, push_volumes, volume_of,
 };
 use kc_types::{Call, Config, Memory, Reply};
 use std::alloc::Global;
