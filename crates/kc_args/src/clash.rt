@@ -15,14 +15,6 @@ pub enum Clash {
     LinesState,
     /// `replay --blank` with nothing that has a core's pages in it.
     BlankAlone,
-    /// `replay FILE FILE` without `--lines`
-    VolumesAlone,
-    /// `replay --dump FILE FILE`
-    DumpVolumes,
-    /// `replay --state FILE FILE`
-    StateVolumes,
-    /// `replay --lines --to PATH FILE FILE`
-    ToVolumes,
     /// `replay --config PATH --from PATH`
     ReplayConfigFrom,
     /// `custody --config PATH --from PATH`
@@ -60,12 +52,9 @@ impl Clash {
         ensures { result.now ≡ first_option self.now }
     {
         match self {
-            Clash::DumpState | Clash::DumpVolumes => "--dump",
+            Clash::DumpState => "--dump",
             Clash::LinesDump | Clash::LinesState => "--lines",
             Clash::BlankAlone => "--blank",
-            Clash::VolumesAlone => "FILE FILE ..",
-            Clash::StateVolumes => "--state",
-            Clash::ToVolumes => "--to",
             Clash::ReplayConfigFrom
             | Clash::CustodyConfigFrom
             | Clash::RedactConfigFrom
@@ -87,7 +76,7 @@ impl Clash {
     {
         match self {
             Clash::BlankAlone | Clash::ConvertAlone => "' needs one of '",
-            Clash::VolumesAlone | Clash::ConfigAlone | Clash::FromAlone => "' needs '",
+            Clash::ConfigAlone | Clash::FromAlone => "' needs '",
             _ => "' cannot be used with '",
         }
     }
@@ -99,8 +88,6 @@ impl Clash {
             Clash::DumpState | Clash::LinesState => "--state",
             Clash::LinesDump => "--dump",
             Clash::BlankAlone => "--dump', '--state' and '--to",
-            Clash::VolumesAlone => "--lines",
-            Clash::DumpVolumes | Clash::StateVolumes | Clash::ToVolumes => "FILE FILE ..",
             Clash::ReplayConfigFrom | Clash::CustodyConfigFrom | Clash::RedactConfigFrom =>
                 "--from",
             Clash::SummarySvg => "--svg",
@@ -121,11 +108,7 @@ impl Clash {
             | Clash::LinesDump
             | Clash::LinesState
             | Clash::BlankAlone
-            | Clash::VolumesAlone
-            | Clash::DumpVolumes
-            | Clash::StateVolumes
-            | Clash::ToVolumes
-            | Clash::ReplayConfigFrom => "replay [OPTIONS] [FILE]...",
+            | Clash::ReplayConfigFrom => "replay [OPTIONS] [FILE]",
             Clash::RedactConfigFrom | Clash::ConfigAlone | Clash::FromAlone =>
                 "redact [OPTIONS] [FILE]",
             Clash::ConfigAfter | Clash::ConvertAlone => "convert [OPTIONS] [FILE]",

@@ -16,5 +16,3 @@ pub mod Counted
 mod Placed
 mod Numbered
 mod Volumes
-mod Chained
-mod Commas

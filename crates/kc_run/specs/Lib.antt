@@ -1,4 +1,4 @@
-pub mod Reports
+pub mod Custody
 pub mod Opening
 pub mod Endings
 pub mod Ends
