@@ -43,7 +43,7 @@ _kcore() {
         *) return ;;
     esac
     case $words[1] in
-        replay) _arguments $config $from $to $workers $lines $dump $state_text $blank $explain $help $file ;;
+        replay) _arguments $config $from $to $workers $lines $dump $state_text $blank $explain $help $files ;;
         live) _arguments $config $workers $explain $help $file ;;
         custody) _arguments $config $from $vm $summary $svg $html $refused $accesses $unseen $digests $explain $help $files ;;
         audit) _arguments $all $explain $help $file ;;

@@ -1,6 +1,7 @@
-"""Chains for tests/fuzz: a trace is cut at random places, and custody reads the pieces one after another in one run.
+"""Chains for tests/fuzz: a trace is cut at random places, and custody and replay read the pieces one after another in
+one run.
 
-Its report has to be what the rules say of the whole trace, with the volumes named. The picture has to be that of the
+What each reports has to be what the rules say of the whole trace, with the volumes named. The picture has to be that of the
 whole trace, except for its foot. A damaged volume has to be refused by its number, for what is wrong with it. Half of
 the chains have heads; of these a volume that is left out, doubled, exchanged or of another machine is refused. Volumes without heads are given theirs,
 one after another."""
@@ -11,12 +12,15 @@ import re
 import calls
 import heads
 from common import run
-from rules import DEFAULT, REMARKS, VERSION, Core, Lives, denied_in, noted, rows_of_volumes, warning_of
+from rules import DEFAULT, REMARKS, VERSION, Core, Lives, denied_in, lines_text, noted, rows_of_volumes, warning_of
 from states import blanked, state_text
 
 # The most volumes that a trace is cut into.
 MOST = 5
 FORMS = [], ["--refused"], ["--accesses"], list(REMARKS), ["--summary"], ["--html"]
+# With what each call is written with its reply.
+LINES = "replay", "--lines"
+WORKERS = "1", "2", "64"
 # How many of these forms are tried on each trace.
 TRIED = 3
 # If a core has more frames, the text of its state takes long to make.
@@ -48,7 +52,7 @@ class Chain:
         for number, line in enumerate(self.lines, 2):
             answers.append(self.core.answer(line))
             lives.note(number, line, answers[-1])
-        self.lives, self.warning = lives.told(), warning_of(self.lines, answers)
+        self.answers, self.lives, self.warning = answers, lives.told(), warning_of(self.lines, answers)
         places = sorted(rng.randrange(len(self.lines) + 1) for _ in range(rng.randrange(MOST)))
         self.volumes = [self.lines[at:to] for at, to in zip([0, *places], [*places, len(self.lines)])]
         self.expected = heads.FIRST if self.state is None else heads.BARE
@@ -75,11 +79,11 @@ class Chain:
     def files_of(self, traces):
         return [self.file(f"volume.{number}", trace.text()) for number, trace in enumerate(traces, 1)]
 
-    def ran(self, rng, *words):
-        """Runs custody on the volumes, of which the first may be standard input."""
+    def ran(self, rng, command, *words):
+        """Runs a command on the volumes, of which the first may be standard input."""
         is_given = rng.random() < 0.3 and self.paths[0].exists()
         files = ["-", *self.paths[1:]] if is_given else self.paths
-        return run(["custody", *self.start, *words, *files], self.paths[0].read_text() if is_given else "")
+        return run([command, *self.start, *words, *files], self.paths[0].read_text() if is_given else "")
 
     def some(self, rng, vms, form=()):
         """Random options: whether digests are asked for, whether accesses are unseen, and the one VM to report on, if any."""
@@ -117,13 +121,23 @@ class Chain:
         else:
             asked = REMARKS[:1 if is_unseen else 2] if form == ["--html"] else form
             text = self.core.custody_text(made, noted(self.told, self.remarks, asked), vm, **said)
-        status, out, err = self.ran(rng, *form, *options)
+        status, out, err = self.ran(rng, "custody", *form, *options)
         if form == ["--html"] and status == 0:
             out = "".join(PAGE.findall(out))
         wanted = 0, text, self.warning
         if vm is not None and vm >= len(self.core.slots):
             wanted = 2, "", f"kcore: the machine has no slot {vm}\n"
         return None if (status, out, err) == wanted else " ".join(["custody", *form, *options])
+
+    def lines_differ(self, rng, _):
+        """What differs in the calls with their replies, or None."""
+        text = lines_text(self.lines, self.answers)
+        if len(self.volumes) > 1:
+            rows = rows_of_volumes(map(len, self.volumes), None, self.number())
+            text = self.core.replies_text(self.lines, self.answers, rows, first=self.number(), is_by_numbers=self.is_by_numbers())
+        workers = rng.choice(WORKERS)
+        same = self.ran(rng, *LINES, "--workers", workers) == (0, text, self.warning)
+        return None if same else f"{' '.join(LINES)} with {workers} workers"
 
     def foot(self, is_named, is_unseen):
         """The foot of a picture of several volumes."""
@@ -147,7 +161,7 @@ class Chain:
         # (the whole trace has no head, so it needs a configuration, or a state without a position)
         start = ["--config", self.path] if self.state is None else ["--from", self.file("bare", self.state)]
         one = run(["custody", *start, "--svg", *options, whole], "")
-        other = self.ran(rng, "--svg", *options)
+        other = self.ran(rng, "custody", "--svg", *options)
         feet = [FOOT.search(out) for _, out, _ in (one, other)]
         if not all(feet) or other[2] != self.warning or FOOT.sub("", one[1]) != FOOT.sub("", other[1]):
             return " ".join(["the picture", *options])
@@ -173,8 +187,8 @@ class Chain:
         if way == "file":
             self.paths[at].unlink()
             wanted = 3, "", "kcore: read failed\n"
-        form = rng.choice([*FORMS, ["--svg"]])
-        said = " ".join(["custody", *form, "of volumes with a fault"])
+        form = some_form(rng)
+        said = " ".join([*form, "of volumes with a fault"])
         return None if self.ran(rng, *form) == wanted else f"{said}: {wanted[2].strip()}"
 
     def converted_differs(self, rng, _):
@@ -208,13 +222,17 @@ class Chain:
         if self.is_unnamed:
             machine = DEFAULT if traces[0].position is None else traces[0].config
         wrong = heads.first_misplaced(machine, self.expected, traces)
-        form = rng.choice([*FORMS, ["--svg"]])
-        status, out, err = self.ran(rng, *form)
+        status, out, err = self.ran(rng, *some_form(rng))
         if wrong is None:
             return None if status == 0 and out else f"a chain is refused: {err.strip()}"
         number = f"volume {wrong[0]}: " if len(traces) > 1 else ""
         wanted = 2, "", f"kcore: {number}{wrong[1]}\n"
         return None if (status, out, err) == wanted else f"not a chain: {wanted[2].strip()}, and not {err.strip()}"
+
+
+def some_form(rng):
+    """Something to be written of volumes."""
+    return LINES if rng.random() < 0.3 else ["custody", *rng.choice([*FORMS, ["--svg"]])]
 
 
 def digest(text):
@@ -226,7 +244,7 @@ def difference(case, program, told, remarks):
     config, lines = case
     rng = random.Random(f"{config['cut_by']} chain")
     chain = Chain(rng, program, lines, told, remarks)
-    looks = [chain.report_differs] * TRIED + [rng.choice([chain.picture_differs, chain.fault_differs, chain.order_differs, chain.converted_differs])]
+    looks = [chain.report_differs] * TRIED + [chain.lines_differ, rng.choice([chain.picture_differs, chain.fault_differs, chain.order_differs, chain.converted_differs])]
     for look in looks:
         differs = look(rng, config["told_of"])
         if differs:

@@ -31,7 +31,7 @@ MISTAKES = (
     Mistake("commands", "docs/kcore.1", "data aa\n", "data aa\ndone\n"),
     Mistake("commands", "docs/kcore.1", "state2 trace2", "state1 trace2"),
     Mistake("contracts", "crates/kc_core/src/dispatch.rt", "ensures reply {", "ensures answered {"),
-    Mistake("contracts", "crates/kc_cli/src/custody.rt", "ensures texts {", "ensures faults {"),
+    Mistake("contracts", "crates/kc_cli/src/life.rt", "ensures texts {", "ensures faults {"),
     Mistake("contracts", "crates/kc_links/src/list.rt", "fn splice", "fn join"),
     Mistake("contracts", "crates/kc_model/specs/CustodyLaws.antt", "pub stays :", "pub keeps :"),
     Mistake("contracts", "crates/kc_model/specs/Safety.antt", "IsSafe", "IsSecure"),

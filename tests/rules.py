@@ -33,10 +33,19 @@ WARNING = "kcore: warning: {} of {} calls were refused: is this the trace's mach
 LACKING = "kcore: warning: {} of {} calls that name a frame or a slot name one that the machine lacks: is this the trace's machine?\n"
 
 
+def text_of(rows):
+    """These objects, each on a line."""
+    return "".join(json.dumps(row, separators=(",", ":")) + "\n" for row in rows)
+
+
+def rows_of_calls(lines, replies):
+    """The calls of a trace with their replies and lines."""
+    return [{"line": number, "call": call, "reply": reply} for number, (call, reply) in enumerate(zip(lines, replies), 2)]
+
+
 def lines_text(lines, replies):
     """What `replay --lines` writes of these calls of a trace and their replies."""
-    pairs = enumerate(zip(lines, replies), 2)
-    return "".join(json.dumps({"line": number, "call": call, "reply": reply}, separators=(",", ":")) + "\n" for number, (call, reply) in pairs)
+    return text_of(rows_of_calls(lines, replies))
 
 
 def warning_of(lines, replies):
@@ -521,18 +530,26 @@ class Core:
             lives.note(number, line, self.answer(line))
         return lives.told()
 
-    def text(self, kind, calls, counted, lines, named=None, is_unseen=False, volumes=(), first=None, is_by_numbers=False):
-        """The text of a report with its first and its last line. `calls` says how many calls there were, and how many
-        were denied. Perhaps the texts that were read are named, or the machine's accesses are not in the trace, or the
-        calls came in these volumes. If there are heads, the first one has this number, and their order may have been judged
-        by numbers alone."""
+    def header(self, kind, refused=None, named=None, is_unseen=False, volumes=(), first=None, is_by_numbers=False):
+        """The first line of a report, perhaps with how many calls were denied. Perhaps the texts that were read are named,
+        or the machine's accesses are not in the trace, or the calls came in these volumes. If there are heads, the first
+        one has this number, and their order may have been judged by numbers alone."""
         header = {kind: 2, "kcore": VERSION} | (named or {})
         header |= {"frames": len(self.frames), "core": self.config["core"], "host": self.config["host"]}
-        header |= {"slots": len(self.slots)} | ({"refused": calls[1]} if kind == "summary" else {})
+        header |= {"slots": len(self.slots)} | ({} if refused is None else {"refused": refused})
         header |= {"accesses": "unseen"} if is_unseen else {}
-        header |= chain_said(volumes, first, is_by_numbers)
-        lines = [header, *volumes, *lines, {"calls": calls[0], counted: len(lines), "refused": calls[1]}]
-        return "".join(json.dumps(line, separators=(",", ":")) + "\n" for line in lines)
+        return header | chain_said(volumes, first, is_by_numbers)
+
+    def text(self, kind, calls, counted, lines, volumes=(), **said):
+        """The text of a report with its first and its last line. `calls` says how many calls there were, and how many
+        were denied."""
+        header = self.header(kind, calls[1] if kind == "summary" else None, volumes=volumes, **said)
+        return text_of([header, *volumes, *lines, {"calls": calls[0], counted: len(lines), "refused": calls[1]}])
+
+    def replies_text(self, lines, replies, volumes, **said):
+        """What `replay --lines` writes of the calls of several volumes and their replies."""
+        rows = [placed(row, volumes) for row in rows_of_calls(lines, replies)]
+        return text_of([self.header("replies", volumes=volumes, **said), *volumes, *rows])
 
     def custody_text(self, calls, told, vm=None, volumes=(), **said):
         """The text of custody, perhaps of one slot's VM alone."""

@@ -1,5 +1,6 @@
 -- What clap's clauses say of the program's command.
-use Rattle.std.proofs.Common.{◌≡◌, ◌⊎◌, ℕ, inl, inr, List, [], Option, Some, None, Result, Ok, Err, refl, ap, true}
+use Rattle.std.proofs.Common.{◌≡◌, ◌⊎◌, ℕ, nat_lt, map, length, inl, inr, List, [], Option, Some, None, Result, Ok, Err, refl, ap, true}
+use Rattle.std.proofs.lemmas.List.{length-map}
 use Rattle.std.specs.Option.{option_map_or}
 use Rattle.std.specs.Str.Parse.{ParsesUnsigned}
 use Rattle.std.specs.Prelude.{option_map}
@@ -19,7 +20,8 @@ use Rattle.kc_args.specs.declared.clash.Clash.{Clash}
 use Rattle.kc_args.specs.declared.arguments.ArgFault.{ArgFault}
 use Rattle.kc_args.specs.declared.arguments.ArgFault.TheVariants as faults
 use Rattle.kc_args.specs.Commands.{kcore}
-use Rattle.kc_args.specs.Options.{files_after}
+use Rattle.std.specs.Borrow.{Bor}
+use Rattle.kc_args.specs.Options.{are_several, files_after}
 use Rattle.kc_args.specs.Arguments.{Asks, Contradicts, IsJobIn, IsClashIn, HasStatus, IsRefusal, files_asked}
 
 pub kcore_is_simple : is_simple kcore ≡ true
@@ -91,3 +93,7 @@ number_read {E} f G (Some text) None gives none value = let read = value text re
 
 pub nothing_refused : (arguments : List Text) (app : App) → app ≡ kcore → fault_of app arguments ≡ [] → fault_of kcore arguments ≡ []
 nothing_refused arguments app same none = rw same at none
+
+-- whether several files are named
+pub several_named : (found : Option (List Text)) (files : List (Bor Text)) (count : ℕ) → Some (map (λ file. file.now) files) ≡ found → count ≡ length files → nat_lt 1 count ≡ are_several found
+several_named found files count is long = rw (← is, long, length-map files (λ (file : Bor Text). file.now)) refl

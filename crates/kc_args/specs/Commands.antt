@@ -26,7 +26,7 @@ vm_rule = record (new_rule (codes "vm")) { long = Some (codes "vm"); value_names
 abbrev pub file_rule : Rule
 file_rule = record (new_rule (codes "file")) { value_names = 1 }
 
--- the files that custody reads one after another, of which each is one more value
+-- the files that a subcommand reads one after another, of which each is one more value
 abbrev pub files_rule : Rule
 files_rule = record (new_rule (codes "file")) { value_names = 1; action = Some Append }
 
@@ -53,7 +53,7 @@ abbrev pub ended : App → Rule → App
 ended app file = with_rule (with_rule app (flag_rule (codes "explain"))) file
 
 abbrev pub replay : App
-replay = ended (with_outputs (with_rule (with_rule (with_start (new_app (codes "replay"))) (path_rule (codes "to"))) workers_rule)) file_rule
+replay = ended (with_outputs (with_rule (with_rule (with_start (new_app (codes "replay"))) (path_rule (codes "to"))) workers_rule)) files_rule
 
 abbrev pub live : App
 live = ended (with_rule (with_rule (new_app (codes "live")) (path_rule (codes "config"))) workers_rule) file_rule

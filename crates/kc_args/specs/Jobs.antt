@@ -68,14 +68,26 @@ is_alone true replies.Replies None = true
 is_alone true replies.Lines None = true
 is_alone blank form to = false
 
-abbrev pub blank_action : Bool → Action → Result Action Clash
-blank_action true action = Err clashes.BlankAlone
-blank_action false action = Ok action
+-- of several volumes only the lines can be written
+abbrev pub volumes_action : ReplayForm → Option Path → Start → ℕ → Result Action Clash
+volumes_action replies.Lines None start workers = Ok (actions.ReplayVolumes start workers)
+volumes_action replies.Lines (Some to) start workers = Err clashes.ToVolumes
+volumes_action replies.Replies to start workers = Err clashes.VolumesAlone
+volumes_action replies.Dump to start workers = Err clashes.DumpVolumes
+volumes_action replies.State to start workers = Err clashes.StateVolumes
 
-abbrev pub replay_action : Result ReplayForm Clash → Option Start → Option Path → Bool → ℕ → Result Action Clash
-replay_action (Err clash) start to blank workers = Err clash
-replay_action (Ok form) None to blank workers = Err clashes.ReplayConfigFrom
-replay_action (Ok form) (Some start) to blank workers = blank_action (is_alone blank form to) (actions.Replay start to form blank workers)
+abbrev pub several_action : Bool → ReplayForm → Start → Option Path → Bool → ℕ → Result Action Clash
+several_action true form start to blank workers = volumes_action form to start workers
+several_action false form start to blank workers = Ok (actions.Replay start to form blank workers)
+
+abbrev pub blank_action : Bool → Result Action Clash → Result Action Clash
+blank_action true action = Err clashes.BlankAlone
+blank_action false action = action
+
+abbrev pub replay_action : Result ReplayForm Clash → Option Start → Option Path → Bool → ℕ → Bool → Result Action Clash
+replay_action (Err clash) start to blank workers several = Err clash
+replay_action (Ok form) None to blank workers several = Err clashes.ReplayConfigFrom
+replay_action (Ok form) (Some start) to blank workers several = blank_action (is_alone blank form to) (several_action several form start to blank workers)
 
 -- which texts are named by their digests, by `--digests`: the default configuration has no text to be named
 abbrev pub named_by : Bool → Start → Named
@@ -117,7 +129,8 @@ convert_action None None = Err clashes.ConvertAlone
 
 -- what these options ask for, or what contradicts itself in them first
 abbrev pub action_of : Options → Result Action Clash
-action_of (options.Replay config from to workers lines dump state blank) = replay_action (replay_form lines dump state) (start_of config from) to blank workers
+action_of (options.Replay config from to workers lines dump state blank several) =
+    replay_action (replay_form lines dump state) (start_of config from) to blank workers several
 action_of (options.Live config workers) = Ok (actions.Live config workers)
 action_of (options.Custody config from vm summary svg html refused accesses unseen digests) =
     custody_action summary svg html (record { refused = refused; accesses = accesses }) unseen digests (start_of config from) vm

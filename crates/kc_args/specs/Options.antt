@@ -1,5 +1,5 @@
 -- The options of a subcommand, as clap finds them.
-use Rattle.std.specs.Prelude.{◌≡◌, ◌≢◌, ◌⊎◌, ◌↔◌, ◌&&◌, IsTrue, ℕ, nat_le, Bool, List, [], drop, codes, Option, Some, None, option_map, if◌then◌else◌}
+use Rattle.std.specs.Prelude.{◌≡◌, ◌≢◌, ◌⊎◌, ◌↔◌, ◌&&◌, IsTrue, ℕ, nat_le, nat_lt, Bool, false, List, [], drop, length, codes, Option, Some, None, option_map, if◌then◌else◌}
 use Rattle.std.specs.Option.{option_map_or}
 use Rattle.std.specs.Borrow.{Bor}
 use Rattle.clap.specs.Words.{Text, Row, first_of, one_of, all_of}
@@ -49,15 +49,24 @@ files_after_first (Some files) = drop 1 files
 abbrev pub files_after : List Row → List Text
 files_after rows = files_after_first (all_of (codes "file") rows)
 
+-- whether several files are named
+abbrev pub are_several : Option (List Text) → Bool
+are_several None = false
+are_several (Some files) = nat_lt 1 (length files)
+
+abbrev pub has_several : List Row → Bool
+has_several rows = are_several (all_of (codes "file") rows)
+
 -- the flag is given exactly if this is true
 abbrev pub IsFlag : Text → List Row → Bool → Type 0
 IsFlag flag rows given = IsTrue given ↔ IsSet flag rows
 
 -- the options that the subcommand of this name is given, by their rows: there are `replay`, `live`, `custody`, `audit`, `redact` and `convert` alone
 abbrev pub AreOptionsIn : Text → List Row → Options → Type 0
-AreOptionsIn name rows (Replay config from to workers lines dump state blank) = (name ≢ codes "live") × (name ≢ codes "custody") × (name ≢ codes "audit") × (name ≢ codes "redact") × (name ≢ codes "convert")
+AreOptionsIn name rows (Replay config from to workers lines dump state blank several) = (name ≢ codes "live") × (name ≢ codes "custody") × (name ≢ codes "audit") × (name ≢ codes "redact") × (name ≢ codes "convert")
     × HasOptions rows config workers × HasPath (codes "from") rows from × HasPath (codes "to") rows to
     × IsFlag (codes "lines") rows lines × IsFlag (codes "dump") rows dump × IsFlag (codes "state") rows state × IsFlag (codes "blank") rows blank
+    × (several ≡ has_several rows)
 AreOptionsIn name rows (Live config workers) = (name ≡ codes "live") × HasOptions rows config workers
 AreOptionsIn name rows (Custody config from vm summary svg html refused accesses unseen digests) = (name ≡ codes "custody")
     × HasPath (codes "config") rows config × HasPath (codes "from") rows from × (vm ≡ vm_in rows)

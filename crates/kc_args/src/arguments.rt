@@ -86,8 +86,8 @@ fn plain_job<'a>() -> Job<'a>
 /// `--state` and `--blank`; `custody`, with or without `--config PATH`, `--from PATH`, `--vm V` with a number from 0 to
 /// 63, `--summary`, `--svg`, `--html`, `--refused`, `--accesses`, `--unseen` and `--digests`; `audit`, also with
 /// `--all`; `redact`, also with `--config PATH`, `--from PATH` and `--host`; `convert` with `--config PATH` or `--after
-/// PATH`; each also with `--explain` and the file to be read, `custody` with more files to be read after it; and
-/// `replay` if there are no arguments.
+/// PATH`; each also with `--explain` and the file to be read, `custody` and `replay --lines` with more files to be read
+/// after it; and `replay` if there are no arguments.
 pub fn request_of<'a>(alloc: Global, arguments: &'a [&'a str]) -> Result<Request<'a>, ArgFault>
     // The job, and the files after its input, are what the arguments say by the command's rules. Only a command line
     // that breaks them is refused, or one with options that contradict each other.

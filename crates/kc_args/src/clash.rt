@@ -15,6 +15,14 @@ pub enum Clash {
     LinesState,
     /// `replay --blank` with nothing that has a core's pages in it.
     BlankAlone,
+    /// `replay FILE FILE` without `--lines`
+    VolumesAlone,
+    /// `replay --dump FILE FILE`
+    DumpVolumes,
+    /// `replay --state FILE FILE`
+    StateVolumes,
+    /// `replay --lines --to PATH FILE FILE`
+    ToVolumes,
     /// `replay --config PATH --from PATH`
     ReplayConfigFrom,
     /// `custody --config PATH --from PATH`
@@ -52,9 +60,12 @@ impl Clash {
         ensures { result.now ≡ first_option self.now }
     {
         match self {
-            Clash::DumpState => "--dump",
+            Clash::DumpState | Clash::DumpVolumes => "--dump",
             Clash::LinesDump | Clash::LinesState => "--lines",
             Clash::BlankAlone => "--blank",
+            Clash::VolumesAlone => "FILE FILE ..",
+            Clash::StateVolumes => "--state",
+            Clash::ToVolumes => "--to",
             Clash::ReplayConfigFrom
             | Clash::CustodyConfigFrom
             | Clash::RedactConfigFrom
@@ -76,7 +87,7 @@ impl Clash {
     {
         match self {
             Clash::BlankAlone | Clash::ConvertAlone => "' needs one of '",
-            Clash::ConfigAlone | Clash::FromAlone => "' needs '",
+            Clash::VolumesAlone | Clash::ConfigAlone | Clash::FromAlone => "' needs '",
             _ => "' cannot be used with '",
         }
     }
@@ -88,6 +99,8 @@ impl Clash {
             Clash::DumpState | Clash::LinesState => "--state",
             Clash::LinesDump => "--dump",
             Clash::BlankAlone => "--dump', '--state' and '--to",
+            Clash::VolumesAlone => "--lines",
+            Clash::DumpVolumes | Clash::StateVolumes | Clash::ToVolumes => "FILE FILE ..",
             Clash::ReplayConfigFrom | Clash::CustodyConfigFrom | Clash::RedactConfigFrom =>
                 "--from",
             Clash::SummarySvg => "--svg",
@@ -108,7 +121,11 @@ impl Clash {
             | Clash::LinesDump
             | Clash::LinesState
             | Clash::BlankAlone
-            | Clash::ReplayConfigFrom => "replay [OPTIONS] [FILE]",
+            | Clash::VolumesAlone
+            | Clash::DumpVolumes
+            | Clash::StateVolumes
+            | Clash::ToVolumes
+            | Clash::ReplayConfigFrom => "replay [OPTIONS] [FILE]...",
             Clash::RedactConfigFrom | Clash::ConfigAlone | Clash::FromAlone =>
                 "redact [OPTIONS] [FILE]",
             Clash::ConfigAfter | Clash::ConvertAlone => "convert [OPTIONS] [FILE]",

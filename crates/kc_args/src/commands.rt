@@ -14,6 +14,9 @@ const VERSION: &str = "2.0.0\nrattle-kit-13f";
 
 const TRACE_HELP: &str = "The trace; standard input if this is - or not given";
 
+const LINES_HELP: &str =
+    "The trace, or with --lines the volumes of a life in order; standard input if the first is - or not given";
+
 const VOLUMES_HELP: &str =
     "The trace, or the volumes of a life in order; standard input if the first is - or not given";
 
@@ -77,11 +80,11 @@ fn file_arg<'a>(alloc: Global, help: &'a str) -> Arg<'a>
 }
 
 /// Makes the arguments without a name: the files to be read one after another.
-fn files_arg<'a>(alloc: Global) -> Arg<'a>
+fn files_arg<'a>(alloc: Global, help: &'a str) -> Arg<'a>
     ensures rule { rule_of result ≡ files_rule }
     ensures local { result.global ≡ false }
 {
-    file_arg(alloc, VOLUMES_HELP).action(ArgAction::Append)
+    file_arg(alloc, help).action(ArgAction::Append)
 }
 
 /// Begins a subcommand.
@@ -177,8 +180,8 @@ fn replay_command<'a>(alloc: Global) -> Result<Command<'a>, AllocError>
         alloc,
         "replay",
         "Replay a trace and write the replies; with no command, standard input is replayed",
-        "kcore replay [OPTIONS] [FILE]",
-        "Example: kcore replay --config machine.json run.trace > replies",
+        "kcore replay [OPTIONS] [FILE]...",
+        "Examples:\n  kcore replay --config machine.json run.trace > replies\n  kcore replay --lines --config machine.json first.trace second.trace",
     );
     let command = with_start(alloc, command)?;
     let help =
@@ -186,7 +189,7 @@ fn replay_command<'a>(alloc: Global) -> Result<Command<'a>, AllocError>
     let command = with_own(command, path_arg(alloc, "to", help))?;
     let command = with_own(command, workers_arg(alloc))?;
     let command = with_outputs(alloc, command)?;
-    ended(alloc, command, file_arg(alloc, TRACE_HELP))
+    ended(alloc, command, files_arg(alloc, LINES_HELP))
 }
 
 fn live_command<'a>(alloc: Global) -> Result<Command<'a>, AllocError>
@@ -250,7 +253,7 @@ fn custody_command<'a>(alloc: Global) -> Result<Command<'a>, AllocError>
     let command = with_own(command, vm_arg(alloc))?;
     let command = with_forms(alloc, command)?;
     let command = with_contents(alloc, command)?;
-    ended(alloc, command, files_arg(alloc))
+    ended(alloc, command, files_arg(alloc, VOLUMES_HELP))
 }
 
 fn audit_command<'a>(alloc: Global) -> Result<Command<'a>, AllocError>

@@ -25,6 +25,12 @@ pub enum Action<'a> {
         is_blank: bool,
         workers: u32,
     },
+    /// Replay the volumes of the input and of the files after it with 1 to 64 workers, and write each call with its
+    /// reply.
+    ReplayVolumes {
+        start: Start<'a>,
+        workers: u32,
+    },
     /// Run the trace live, with the configuration in a file or the default one, and replay the history with 1 to 64
     /// workers.
     Live {

@@ -1,6 +1,6 @@
 //! What options ask for, unless they contradict each other.
 ghost use Rattle.std.specs.Prelude.{◌≡◌};
-ghost use Rattle.kc_args.specs.Jobs.{start_of, replay_form, is_alone, summary_of, picture_of, custody_form, named_by, redact_action, convert_action, action_of};
+ghost use Rattle.kc_args.specs.Jobs.{start_of, replay_form, is_alone, volumes_action, summary_of, picture_of, custody_form, named_by, redact_action, convert_action, action_of};
 
 use crate::clash::Clash;
 use crate::job::{Action, Start};
@@ -40,6 +40,24 @@ fn is_alone(blank: bool, form: ReplayForm, to: Option<&str>) -> bool
     match (blank, form, to) {
         (true, ReplayForm::Replies | ReplayForm::Lines, None) => true,
         _ => false,
+    }
+}
+
+/// What is done with several volumes, of which only the lines can be written.
+fn volumes_action<'a>(
+    form: ReplayForm,
+    to: Option<&'a str>,
+    start: Start<'a>,
+    workers: u32,
+) -> Result<Action<'a>, Clash>
+    ensures { result ≡ volumes_action form to.entry start.entry workers }
+{
+    match (form, to) {
+        (ReplayForm::Lines, None) => Ok(Action::ReplayVolumes { start, workers }),
+        (ReplayForm::Lines, Some(_)) => Err(Clash::ToVolumes),
+        (ReplayForm::Replies, _) => Err(Clash::VolumesAlone),
+        (ReplayForm::Dump, _) => Err(Clash::DumpVolumes),
+        (ReplayForm::State, _) => Err(Clash::StateVolumes),
     }
 }
 
@@ -135,6 +153,7 @@ pub(crate) fn action_of<'a>(options: Options<'a>) -> Result<Action<'a>, Clash>
             dump,
             state,
             blank,
+            several,
         } => {
             let form = replay_form(lines, dump, state)?;
             let Some(start) = start_of(config, from) else {
@@ -142,6 +161,9 @@ pub(crate) fn action_of<'a>(options: Options<'a>) -> Result<Action<'a>, Clash>
             };
             if is_alone(blank, form, to) {
                 return Err(Clash::BlankAlone);
+            }
+            if several {
+                return volumes_action(form, to, start, workers);
             }
             Ok(Action::Replay {
                 start,

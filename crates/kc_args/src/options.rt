@@ -1,7 +1,7 @@
 //! The options of a subcommand, as they are given.
 ghost use Rattle.std.specs.Prelude.{◌≡◌, ◌↔◌, IsTrue, IfOk, codes, map, option_map};
 ghost use Rattle.clap.specs.Words.{found_of, rows_of, first_of, all_of};
-ghost use Rattle.kc_args.specs.Options.{in_range, workers_in, slot_in, vm_in, IsSet, HasInput, files_after, AreOptionsIn};
+ghost use Rattle.kc_args.specs.Options.{in_range, workers_in, slot_in, vm_in, IsSet, HasInput, has_several, files_after, AreOptionsIn};
 
 use clap::ArgMatches;
 use kc_types::WORKER_LIMIT;
@@ -19,6 +19,8 @@ pub(crate) enum Options<'a> {
         dump: bool,
         state: bool,
         blank: bool,
+        /// Whether several files are named.
+        several: bool,
     },
     Live {
         config: Option<&'a str>,
@@ -133,6 +135,16 @@ fn files_in<'b, 'a>(matches: &'b ArgMatches<'a>) -> Option<&'b [&'a str]>
     matches.get_strs("file")
 }
 
+/// Whether several files are named.
+fn has_several(matches: &ArgMatches<'_>) -> bool
+    ensures { result ≡ has_several (rows_of (found_of matches.now)) }
+{
+    match files_in(matches) {
+        Some(files) => files.len() > 1,
+        None => false,
+    }
+}
+
 /// Lists the files that come after the first, in order.
 pub(crate) fn files_after<'a>(
     alloc: Global,
@@ -199,5 +211,6 @@ pub(crate) fn options_in<'a>(name: &str, found: &ArgMatches<'a>) -> Options<'a>
         dump: is_set(found, "dump"),
         state: is_set(found, "state"),
         blank: is_set(found, "blank"),
+        several: has_several(found),
     }
 }

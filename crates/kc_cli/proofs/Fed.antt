@@ -71,12 +71,7 @@ still_kept _ kept calls more is = tt
 -- the calls that came, and those that are kept of them
 abbrev pub Came : ReplayForm → Bool → Header → Option (List ℕ) → Replaying → Replaying → List Call → List Reply → Option (List ℕ) → Type 0
 Came form placed header first a b kept given digest =
-    IfSome first (λ text. (calls : List Call) × IsTraceUnder header text calls × IsFed a b calls given × IsKept form kept calls × IsDigested placed false (record { header = header; calls = calls }) digest)
-
-pub calls_known : (form : ReplayForm) (placed : Bool) (header : Header) (first : Option (List ℕ)) (a b : Replaying) (calls kept : List Call) (given : List Reply) (digest : Option (List ℕ)) → IfSome first (λ text. IsTraceUnder header text calls) → IsFed a b calls given → IsKept form kept calls
-    → IsDigested placed false (record { header = header; calls = calls }) digest → Came form placed header first a b kept given digest
-calls_known form placed header None a b calls kept given digest traced fed is digested = tt
-calls_known form placed header (Some text) a b calls kept given digest traced fed is digested = (calls, traced, fed, is, digested)
+    (calls : List Call) × IfSome first (λ text. IsTraceUnder header text calls) × IsFed a b calls given × IsKept form kept calls × IsDigested placed false (record { header = header; calls = calls }) digest
 
 -- by the digest it is known where the next volume comes
 pub goes_next : (placed : Bool) (volume : Traced) (digest : Option (List ℕ)) → IsDigested placed false volume digest → KnowsNext placed (position_after volume.header digest) volume
@@ -96,7 +91,7 @@ few_fed a b c xs ys rs ss h k few =
     omega (arith, same, few)
 
 -- the machine of the core that it leaves is that of the start
-left_config : (m core : State) (a b : Replaying) (calls : List Call) (given : List Reply) → a.state ≡ Some m → b.state ≡ Some core → IsFed a b calls given → core.config ≡ m.config
+pub left_config : (m core : State) (a b : Replaying) (calls : List Call) (given : List Reply) → a.state ≡ Some m → b.state ≡ Some core → IsFed a b calls given → core.config ≡ m.config
 left_config m core a b calls given from to fed =
     let same : fed.start ≡ m = some_is fed.start m (sym fed.from ∙ from) in
     let left : core ≡ state_after m calls = some_is core (state_after m calls) (sym to ∙ fed.state ∙ ap (λ (n : State). Some (state_after n calls)) same) in

@@ -16,3 +16,5 @@ pub mod Counted
 mod Placed
 mod Numbered
 mod Volumes
+mod Chained
+mod Commas

@@ -62,7 +62,7 @@ followed_needed true followed volume digest digested is = digested
 followed_needed false true volume digest digested is = digested
 followed_needed false false volume digest digested is = absurd cc
 
--- if some calls and others are none, the others are none
+-- if calls and those after them are none, so are those after them
 pub none_last : (before calls : List Call) → before ++ calls ≡ [] → calls ≡ []
 none_last [] calls is = is
 none_last (call ∷ before) calls is = absurd cc

@@ -1,9 +1,9 @@
 -- What the engine of custody writes of what its sources held.
-use Rattle.std.specs.Prelude.{◌≡◌, ◌≢◌, ◌<◌, ◌≤◌, ◌+◌, ◌++◌, ◌||◌, ℕ, Bool, not, true, false, List, [], ◌∷◌, length, map, filter, All, Option, Some, None, is_some, Result, Err, IfSome, OnOk}
+use Rattle.std.specs.Prelude.{◌≡◌, ◌≤◌, ◌+◌, ◌++◌, ◌||◌, ℕ, Bool, not, true, false, List, [], ◌∷◌, length, map, filter, All, Option, Some, None, is_some, IfSome}
 use Rattle.std.specs.List.{range_with_len}
 use Rattle.sha2.specs.Sha256.{sha256}
 use Rattle.kc_types.specs.Limits.{call_limit}
-use Rattle.kc_types.specs.Configuration.{Configuration, slot_count}
+use Rattle.kc_types.specs.Configuration.{Configuration}
 use Rattle.kc_types.specs.declared.call.Call.{Call}
 use Rattle.kc_model.specs.State.{State}
 use Rattle.kc_model.specs.Lawful.{IsLawful}
@@ -45,8 +45,6 @@ use Rattle.kc_trace.specs.declared.volume_writer.Order.TheVariants as order
 use Rattle.kc_trace.specs.declared.volume_writer.Chain.{Chain}
 use Rattle.kc_trace.specs.RemarkText.{notes_text_of}
 use Rattle.kc_trace.specs.SummaryText.{summary_text_of}
-use Rattle.kc_faults.specs.declared.fault.TextFault.{TextFault}
-use Rattle.kc_faults.specs.declared.fault.TextFault.TheVariants as texts
 use Rattle.kc_faults.specs.declared.origin.Origin.{Origin}
 use Rattle.kc_faults.specs.declared.origin.Origin.TheVariants as origins
 use Rattle.kc_faults.specs.Origins.{BeginsIn, position_at}
@@ -229,21 +227,3 @@ pub record IsCustodyText (origin : Origin) (form : CustodyForm) (scope : Scope) 
   pub custody : IsCustodyTold first (joined volumes) count refused told
   pub account : IsMadeOf origin form scope start first expected volumes count refused text
   pub blind : IsMadeBlind origin form scope start first expected volumes count refused text
-
--- the machine that calls begin on has the slot of this number, or has not
-abbrev pub HasSlot : Origin → List ℕ → ℕ → Type 0
-HasSlot origin text number = (m : State) × (expected : Expected) × BeginsIn origin text m expected × (number < slot_count m.config)
-
-abbrev pub LacksSlot : Origin → List ℕ → ℕ → Type 0
-LacksSlot origin text number = (m : State) × (expected : Expected) × BeginsIn origin text m expected × (slot_count m.config ≤ number)
-
--- what an account of custody, of one slot if it is named, may be refused for after this start
-pub record TellsCustody {A : Type 0} (slot : Option ℕ) (origin : Origin) (start : Option (List ℕ)) (unread : Type 0) (result : Result A TextFault) : Type 0 where
-  -- a slot that the machine lacks is refused before the trace is read, and no other slot is
-  pub named : OnOk result (IfSome slot (λ number. IfSome start (λ text. HasSlot origin text number)))
-  pub lacking : (number : ℕ) → result ≡ Err (texts.NoSlot number) → (slot ≡ Some number) × IfSome start (λ text. LacksSlot origin text number) × unread
-  -- no fault of workers or of a live run comes
-  pub workers : result ≢ Err texts.Workers
-  pub started : result ≢ Err texts.Start
-  pub settled : result ≢ Err texts.Unsettled
-  pub actor : (program : ℕ) → result ≢ Err (texts.BadActor program)

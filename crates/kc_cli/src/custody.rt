@@ -1,40 +1,26 @@
 //! The engine that reports what happened to each frame and slot, over any sources and any sink.
-ghost use Rattle.std.specs.Prelude.{◌≡◌, ◌≢◌, ◌<◌, ◌≤◌, ◌-◌, ◌^◌, ◌++◌, ◌∷◌, ◌⊎◌, [], ℕ, length, List, Option, Some, None, false, true, IfOk, IfErr, IfSome, OnOk, Ok, Err};
-ghost use Rattle.std.specs.Io.KnownBytes.{IsAtEnd};
+ghost use Rattle.std.specs.Prelude.{◌≡◌, ◌<◌, ◌≤◌, ◌-◌, ◌^◌, length, Some, None, IfSome};
 ghost use Rattle.kc_types.specs.Configuration.{slot_count};
-ghost use Rattle.kc_model.specs.State.{State};
 ghost use Rattle.kc_model.specs.Custody.{first_line};
-ghost use Rattle.kc_trace.specs.declared.fault.TraceFault.{TraceFault};
-ghost use Rattle.kc_trace.specs.Expected.{IsRefusedThere};
-ghost use Rattle.kc_texts.specs.Ends.{Seen, ReadFailed, seen};
-ghost use Rattle.kc_texts.specs.Written.{Writes, Begins};
-ghost use Rattle.kc_faults.specs.Origins.{BeginsIn};
-ghost use Rattle.kc_faults.specs.Outcomes.{TellsSources, TellsTexts, TellsSink};
-ghost use Rattle.kc_cli.specs.Engine.{IsReplayFault};
-ghost use Rattle.kc_cli.specs.Traced.{Traced, trace_named, digest_if};
-ghost use Rattle.kc_cli.specs.Custody.{IsCustodyText, TellsCustody, NamesStart, names_start, listed, trace_digest, first_number, numbers_in, lacks_digest, order_by, unnamed_start};
-ghost use Rattle.kc_cli.specs.Answers.{AreAllAnswered};
+ghost use Rattle.kc_cli.specs.Custody.{listed, trace_digest, first_number, unnamed_start};
 ghost use Rattle.kc_cli.specs.Headings.{start_by, digests_by, heading_by};
-ghost use Rattle.kc_cli.specs.Volumes.{known, IsAccountOf, HasTold, IsFull};
+ghost use Rattle.kc_cli.specs.Volumes.{custody_kind};
 
 use crate::account::{CustodyForm, FIRST_LINE, Named, Scope, Subject, Told, give_told};
+use crate::life::Account;
+use crate::sequence::{Sequence, chain_of};
 use crate::starting::{Begun, begin};
-use crate::telling::{Kept, Volume};
+use crate::telling::Kept;
 use kc_core::KCore;
 use kc_digests::Lanes;
 use kc_faults::{Origin, TextFault};
 use kc_remarks::Answered;
 use kc_texts::{Sink, Source};
-use kc_trace::{
-    Chain, Digests, Expected, Heading, Order, StartDigest, TraceFault, VolumeEntry, VolumeNumbers,
-};
+use kc_trace::{Digests, Heading, StartDigest, VolumeEntry};
 use kc_types::Config;
 use std::alloc::Global;
+use std::sync::Wait;
 use std::thread::Threads;
-
-/// How many calls the volumes before another one may have: 1,023 times 65,536, so that all lines have numbers of 32
-/// bits.
-pub const CALLS_BEFORE: u32 = 67_043_328;
 
 /// How what happened is reported.
 #[derive(Clone, Copy)]
@@ -89,14 +75,6 @@ fn digests_by(
     }
 }
 
-/// The digest by which a volume is named, if it is, of the digest that it may have for another reason.
-fn digest_named(digest: Option<[u8; 32]>, is_named: bool) -> Option<[u8; 32]>
-    ensures { (volume : Traced) → (is_named ≡ true → digest ≡ digest_if true volume)
-        → result ≡ trace_named is_named volume }
-{
-    if is_named { digest } else { None }
-}
-
 /// The digest of the one trace, if it is asked for.
 fn trace_digest(entries: &[VolumeEntry]) -> Option<[u8; 32]>
     ensures { result ≡ trace_digest entries.now }
@@ -115,57 +93,6 @@ fn first_number(entries: &[VolumeEntry]) -> Option<u32>
         [] => None,
         [entry, ..] => entry.number,
     }
-}
-
-/// The numbers of the first and the last volume, if they have heads.
-fn numbers_in(entries: &[VolumeEntry]) -> Option<VolumeNumbers>
-    ensures { result ≡ numbers_in entries.now }
-{
-    let (first, last) = (entries.first()?, entries.last()?);
-    Some(VolumeNumbers {
-        first: first.number?,
-        last: last.number?,
-    })
-}
-
-/// Whether a volume that another one follows lacks bytes that the host wrote.
-fn lacks_digest(entries: &[VolumeEntry]) -> bool
-    ensures { result ≡ lacks_digest entries.now }
-{
-    let mut rest = entries;
-    while let [entry, after @ ..] = rest {
-        if entry.is_host_redacted && !after.is_empty() {
-            return true;
-        }
-        rest = after;
-    }
-    false
-}
-
-/// By what it was judged that each volume follows the one before it.
-fn order_of(entries: &[VolumeEntry]) -> Order
-    ensures { result ≡ order_by (lacks_digest entries.now) (numbers_in entries.now) }
-{
-    match numbers_in(entries) {
-        None => Order::NotJudged,
-        Some(numbers) => {
-            if lacks_digest(entries) {
-                Order::Numbers(numbers)
-            } else {
-                Order::Digests(numbers)
-            }
-        },
-    }
-}
-
-/// The volumes that are named on lines of their own: none if there is only one.
-fn listed(alloc: Global, entries: Vec<VolumeEntry>) -> Vec<VolumeEntry>
-    ensures { result.items ≡ listed entries.items }
-{
-    if entries.len() == 1 {
-        return Vec::new(alloc);
-    }
-    entries
 }
 
 /// What was kept of all calls, of a machine of this configuration.
@@ -188,15 +115,11 @@ fn told_of(
 {
     let trace = trace_digest(entries.as_slice());
     let first = first_number(entries.as_slice());
-    let judged = order_of(entries.as_slice());
-    let volumes = listed(alloc, entries);
+    let (chain, volumes) = chain_of(alloc, entries);
     let heading = Heading {
         digests: digests_by(order.scope.named, order.origin, start, first, trace),
         is_unseen: order.scope.is_unseen,
-        chain: Chain {
-            count: volumes.len() as u32,
-            order: judged,
-        },
+        chain,
     };
     let answered = Answered {
         calls: (kept.line - FIRST_LINE) as usize,
@@ -226,43 +149,34 @@ fn missing(core: &KCore, vm: Option<u32>) -> Option<u32>
     }
 }
 
-/// An account of what happened to each frame and slot, of a trace, or of the volumes of a life that are read one after
-/// another: what is reported of these is what is reported of one trace with the calls of all.
+/// The account of what happened to each frame and slot, of one slot's VM alone if one is named.
 #[derive(Drop)]
 pub struct CustodyAccount {
     /// The core, in the state after the calls so far.
     core: KCore,
     kept: Kept,
-    /// A volume for each trace that was read.
-    entries: Vec<VolumeEntry>,
+    sequence: Sequence,
     /// The digest by which what the calls begin with is named, if it is.
     start: Option<[u8; 32]>,
-    /// Which header the first trace may have, and which the next.
-    first: Expected,
-    expected: Expected,
     order: CustodyOrder,
 }
 
-impl CustodyAccount {
-    /// Begins an account: reads what the calls begin with to its end. A slot that the machine lacks is `NoSlot`.
-    pub fn begin<C: Source>(
-        rt: &(impl Threads + Sync),
+impl Account for CustodyAccount {
+    type Order = CustodyOrder;
+
+    ghost kind = { custody_kind };
+
+    ghost leads = { λ order account m sources told. told.of };
+
+    ghost begins = { λ order account m start begun. begun.begins };
+
+    /// Begins an account. A slot that the machine lacks is `NoSlot`.
+    fn begin<C: Source, R: Threads + Wait + Sync>(
+        rt: &R,
         alloc: Global,
         start: &mut C,
         order: CustodyOrder,
-    ) -> Result<CustodyAccount, TextFault>
-        requires { C.failed start.old ≡ false }
-        ensures ok { IfOk result (λ account. (m : State)
-            × IfSome (C.left start.old) (λ text. BeginsIn order.origin text m account.first)
-            × NamesStart (names_start order.scope.named) order.origin (C.left start.old) m account.first account.start
-            × HasTold order account m []) }
-        ensures sources { TellsSources (seen C.failed C.left start.old start.new ∷ []) result }
-        ensures texts { (trace : Seen)
-            → TellsTexts order.origin (seen C.failed C.left start.old start.new) trace (Unit {0}) result }
-        ensures custody { TellsCustody order.scope.vm order.origin (C.left start.old) (Unit {0}) result }
-        ensures mark { OnOk result (C.failed start.new ≡ false) }
-        ensures write { result ≢ Err TextFault.Write }
-    {
+    ) -> Result<CustodyAccount, TextFault> {
         let is_named = order.scope.named.names_start();
         let begun = begin(rt, alloc, start, order.origin, order.lanes, is_named)?;
         let Begun {
@@ -282,122 +196,55 @@ impl CustodyAccount {
         Ok(CustodyAccount {
             core,
             kept,
-            entries: Vec::new(alloc),
+            sequence: Sequence::new(alloc, expected),
             start: digest,
-            first: expected,
-            expected,
             order,
         })
     }
 
-    /// Reads a trace to its end, which is the next volume, and makes its calls on one thread as they are read. Only if it
-    /// is followed can another one be read after it. After an `Err` the account is of no use, and is ended. A source that fails, or that has more than 1,073,741,824 bytes, is
-    /// `Read`, even if its bytes so far are refused already. Out of memory comes before a fault of the trace that is
-    /// further on, and that its header is not one that may come there after everything else. If the volumes before it
-    /// have more than 67,043,328 calls, it is not read, and there are too many.
-    pub fn read<T: Source>(
+    /// Reads a volume, whose calls one thread makes.
+    fn read<T: Source, R: Threads + Wait + Sync>(
         &mut self,
+        _rt: &R,
         alloc: Global,
         trace: &mut T,
         is_followed: bool,
-    ) -> Result<(), TextFault>
-        requires trace { T.failed trace.old ≡ false }
-        requires told { (order : CustodyOrder) × (m : State) × (sources : List (Option (List ℕ)))
-            × HasTold order self.old m sources }
-        ensures ok { OnOk result ((order : CustodyOrder) (m : State) (sources : List (Option (List ℕ)))
-            → HasTold order self.old m sources → IsAccountOf order self.new m (sources ++ T.left trace.old ∷ [])) }
-        ensures followed { is_followed ≡ true
-            → OnOk result ((order : CustodyOrder) (m : State) (sources : List (Option (List ℕ)))
-            → HasTold order self.old m sources → HasTold order self.new m (sources ++ T.left trace.old ∷ [])) }
-        ensures same { self.new.start ≡ self.old.start }
-        ensures first { self.new.first ≡ self.old.first }
-        ensures ended { OnOk result (IsAtEnd (T.left trace.new)) }
-        ensures trace { (fault : TraceFault) → result ≡ Err (TextFault.Trace fault)
-            → (IfSome (T.left trace.old) (λ text. IsRefusedThere self.old.core.config self.old.expected text fault)
-            × IsAtEnd (T.left trace.new)) ⊎ ((fault ≡ TraceFault.TooManyCalls) × IsFull self.old × (trace.new ≡ trace.old)) }
-        ensures read { result ≡ Err TextFault.Read
-            → ReadFailed (T.failed trace.new) (T.left trace.old) (T.left trace.new) }
-        ensures source { T.failed trace.new ≡ true → result ≡ Err TextFault.Read }
-        ensures started { result ≢ Err TextFault.Start }
-        ensures fault { IfErr result IsReplayFault }
-    {
+    ) -> Result<(), TextFault> {
         let line = self.kept.line;
-        if line > FIRST_LINE + CALLS_BEFORE {
-            return Err(TextFault::Trace(TraceFault::TooManyCalls));
-        }
-        // (more volumes could not be counted, nor would their list have room)
-        if self.entries.len() >= u32::MAX as usize {
-            return Err(TextFault::Memory);
-        }
+        self.sequence.has_room(line)?;
         let is_named = self.order.scope.named.names_trace();
-        let Volume { header, digest } = self
+        let volume = self
             .kept
             .tell(alloc, &mut self.core, trace, is_named, is_followed)?;
-        if let Some(wrong) = self.expected.fault(self.core.config(), &header) {
-            return Err(TextFault::Trace(TraceFault::Misplaced(wrong)));
-        }
-        self.expected = Expected::after(&header, digest);
-        let entry = VolumeEntry {
-            line,
-            calls: self.kept.line - line,
-            number: header.number(),
-            is_host_redacted: header.is_host_redacted(),
-            digest: digest_named(digest, is_named),
-        };
-        match self.entries.push(entry) {
-            Ok(()) => Ok(()),
-            Err(_) => Err(TextFault::Memory),
-        }
+        let calls = self.kept.line - line;
+        self.sequence
+            .add(self.core.config(), volume, line, calls, is_named)?;
+        Ok(())
     }
 
-    /// Ends an account of which nothing is written: the core is wiped.
-    pub fn end(self, rt: &(impl Threads + Sync)) {
+    fn end<R: Threads + Wait + Sync>(self, rt: &R) {
         let mut core = self.core;
         core.wipe(rt);
     }
 
-    /// Wipes the core, and writes what happened to each frame and slot, of one slot's VM alone if one is named; the
-    /// result counts the calls, and those that were refused or rejected.
-    pub fn give<K: Sink>(
+    fn give<K: Sink, R: Threads + Wait + Sync>(
         self,
-        rt: &(impl Threads + Sync),
+        rt: &R,
         alloc: Global,
         out: &mut K,
-    ) -> Result<Answered, TextFault>
-        requires out { K.failed out.old ≡ false }
-        requires told { (order : CustodyOrder) × (m : State) × (sources : List (Option (List ℕ)))
-            × IsAccountOf order self m sources }
-        ensures answered { (order : CustodyOrder) (m : State) (start : Option (List ℕ))
-            (sources : List (Option (List ℕ))) → IsAccountOf order self m sources
-            → IfSome start (λ text. BeginsIn order.origin text m self.first)
-            → IfOk result (AreAllAnswered order.origin start (known sources)) }
-        ensures ok { (order : CustodyOrder) (m : State) (start : Option (List ℕ))
-            (sources : List (Option (List ℕ))) → IsAccountOf order self m sources
-            → IfSome start (λ text. BeginsIn order.origin text m self.first)
-            → NamesStart (names_start order.scope.named) order.origin start m self.first self.start
-            → OnOk result (Writes (IsCustodyText order.origin order.form order.scope) start (known sources)
-            (K.taken out.old) (K.taken out.new)) }
-        ensures sink { (order : CustodyOrder) (m : State) (start : Option (List ℕ))
-            (sources : List (Option (List ℕ))) → IsAccountOf order self m sources
-            → IfSome start (λ text. BeginsIn order.origin text m self.first)
-            → NamesStart (names_start order.scope.named) order.origin start m self.first self.start
-            → TellsSink (K.failed out.new) (Begins (IsCustodyText order.origin order.form order.scope) start
-            (known sources) (K.taken out.old) (K.taken out.new)) (out.new ≡ out.old) result }
-        ensures fault { IfErr result (λ fault. (fault ≡ TextFault.Memory) ⊎ (fault ≡ TextFault.Write)) }
-    {
+    ) -> Result<Answered, TextFault> {
         let CustodyAccount {
             core,
             kept,
-            entries,
+            sequence,
             start,
             order,
-            ..
         } = self;
         let mut core = core;
         core.wipe(rt);
         // (its memory is given back before the text is made)
         let (config, _) = core.into_parts();
-        let told = told_of(alloc, config, kept, entries, start, order);
+        let told = told_of(alloc, config, kept, sequence.entries, start, order);
         let answered = told.subject.answered;
         match give_told(alloc, told, order.scope.vm, out) {
             Ok(()) => Ok(answered),

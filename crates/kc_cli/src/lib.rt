@@ -5,30 +5,38 @@
 //!   what is written of it, and how the state left is compared: `src/giving.rt`
 //! - how custody is written as changes, summary, picture or page: `specs/Custody.antt`, `src/account.rt`; its lines and
 //!   the page around them: `src/lined.rt`
-//! - how the account of a trace, or of one volume after another, comes to be: `specs/Volumes.antt`, `src/custody.rt`;
-//!   how a trace is read for it: `src/telling.rt`; what is kept of the calls until it is written:
-//!   `specs/Ledgers.antt`, `src/ledger.rt`; how many were refused: `specs/Answers.antt`
+//! - what an account of a trace is, or of one volume after another: `specs/Kinds.antt`, `src/life.rt`; which volumes
+//!   were read, and which may come next: `src/sequence.rt`
+//! - how that of custody comes to be: `specs/Volumes.antt`, `src/custody.rt`; how a trace is read for it:
+//!   `src/telling.rt`; what is kept of the calls until it is written: `specs/Ledgers.antt`, `src/ledger.rt`; how many
+//!   were refused: `specs/Answers.antt`
+//! - that of each call with its reply: `specs/Lines.antt`, `src/answering.rt`; how it is written: `src/placing.rt`
 //! - a live run: `specs/Live.antt`, `src/live.rt`; what it reads: `src/reading.rt`, `specs/Reading.antt`; its history
 //!   replayed: `src/history.rt`
 //! - an audit of a dump: `specs/Audit.antt`, `src/auditing.rt`
 #![tactic(auto)]
 
 mod account;
+mod answering;
 mod auditing;
 mod custody;
 mod giving;
 mod history;
 pub mod laws;
 mod ledger;
+mod life;
 mod lined;
 mod live;
 mod order;
+mod placing;
 mod reading;
 mod replaying;
+mod sequence;
 mod starting;
 mod telling;
 
 pub use account::{CustodyForm, Named, Scope};
+pub use answering::{LinesOrder, ReplayAccount};
 pub use auditing::audit_text;
 pub use custody::{CustodyAccount, CustodyOrder};
 pub use history::replay_history;
@@ -38,6 +46,7 @@ pub use kc_remarks::{Answered, Denials, Remarks, refusals};
 pub use kc_texts::{
     Ahead, Failed, Headed, Mem, ReadFault, Sink, Source, Std, read_whole, write_whole,
 };
+pub use life::Account;
 pub use live::live_text;
 pub use order::{ReplayForm, ReplayOrder};
 pub use reading::{DEFAULT_CONFIG, read_both, read_configuration};

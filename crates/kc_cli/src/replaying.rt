@@ -34,13 +34,13 @@ use std::thread::Threads;
 
 /// What came of a trace's calls, as it was read.
 #[derive(Drop)]
-struct Fed {
-    header: Header,
+pub(crate) struct Fed {
+    pub header: Header,
     /// The calls, if they are written too.
-    calls: Vec<Call>,
-    replies: Vec<Reply>,
+    pub calls: Vec<Call>,
+    pub replies: Vec<Reply>,
     /// The SHA-256 digest of its redacted text, if it has a head and where the next volume comes is asked for.
-    digest: Option<[u8; 32]>,
+    pub digest: Option<[u8; 32]>,
 }
 
 /// Whether a state's text is written, which says where the next volume comes.
@@ -63,7 +63,7 @@ fn keep(calls: &mut Vec<Call>, more: Vec<Call>, form: ReplayForm) -> Result<(), 
 
 /// Makes the calls of the trace that a source has left, as it is read; perhaps also finds out where the next volume
 /// comes.
-fn feed_source<T: Source, R: Threads + Wait + Sync>(
+pub(crate) fn feed_source<T: Source, R: Threads + Wait + Sync>(
     rt: &R,
     alloc: Global,
     replayer: &mut Replayer,
@@ -74,10 +74,10 @@ fn feed_source<T: Source, R: Threads + Wait + Sync>(
     requires trace { T.failed trace.old ≡ false }
     requires start { replayer.old.fed ≡ 0 }
     requires whole { IsSome replayer.old.state }
-    ensures ok { IfOk result (λ fed. IfSome (T.left trace.old) (λ text. (calls : List Call)
-        × IsTraceUnder fed.header text calls × IsFed replayer.old replayer.new calls fed.replies.items
-        × IsKept form fed.calls.items calls
-        × IsDigested is_placed false (record { header = fed.header; calls = calls }) fed.digest)) }
+    ensures ok { IfOk result (λ fed. (calls : List Call)
+        × IfSome (T.left trace.old) (λ text. IsTraceUnder fed.header text calls)
+        × IsFed replayer.old replayer.new calls fed.replies.items × IsKept form fed.calls.items calls
+        × IsDigested is_placed false (record { header = fed.header; calls = calls }) fed.digest) }
     ensures few { IfOk result (λ fed. length fed.replies.items ≤ call_limit) }
     ensures ended { OnOk result (IsAtEnd (T.left trace.new)) }
     ensures trace { (fault : TraceFault) → result ≡ Err (TextFault.Trace fault)
@@ -130,7 +130,7 @@ fn feed_source<T: Source, R: Threads + Wait + Sync>(
 }
 
 /// Wipes the core that a replay left, if it left one.
-fn wipe_left(rt: &(impl Threads + Sync), replayer: Replayer) {
+pub(crate) fn wipe_left(rt: &(impl Threads + Sync), replayer: Replayer) {
     if let Ok(core) = replayer.finish() {
         let mut core = core;
         core.wipe(rt);

@@ -75,6 +75,7 @@ impl<'a> Asked<'a> {
     pub fn of(job: &Job<'a>, after: &'a [&'a str]) -> Asked<'a> {
         let (kind, start) = match job.action {
             Action::Replay { start, .. }
+            | Action::ReplayVolumes { start, .. }
             | Action::Custody { start, .. }
             | Action::RedactHost { start } => (Kind::Trace, kind_of_start(start)),
             Action::Live { config, .. } => (Kind::Trace, kind_of_start(Start::Boot(config))),

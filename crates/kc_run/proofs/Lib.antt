@@ -2,4 +2,4 @@ pub mod Carried
 pub mod Unseen
 pub mod Unread
 pub mod Reading
-pub mod Reports
+pub mod Reported

@@ -1,5 +1,5 @@
 -- How reading goes on over one volume after another.
-use Rattle.std.proofs.Common.{ℕ, suc, get_or, drop, take, ap₂, ◌≡◌, ◌≢◌, ◌<◌, ◌⊎◌, ◌+◌, ◌++◌, ◌∷◌, List, [], length, length-append, Bool, Option, Some, None, Result, Ok, Err, true, inl, inr, refl, ap, sym, ◌∙◌, subst, arith, append_assoc}
+use Rattle.std.proofs.Common.{ℕ, suc, get_or, drop, take, ap₂, ◌≡◌, ◌≢◌, ◌<◌, ◌⊎◌, ◌+◌, ◌++◌, ◌∷◌, List, [], length, length-append, Bool, Option, Some, None, Result, Ok, Err, true, false, inl, inr, refl, ap, sym, ◌∙◌, subst, arith, append_assoc}
 use Rattle.std.specs.Prelude.{is_some, IfSome}
 use Rattle.std.proofs.Math.Seq.{take-suc}
 use Rattle.std.proofs.lemmas.List.{map-append, append-nil, drop_more}
@@ -7,7 +7,6 @@ use Rattle.std.specs.List.{AllByRecursion}
 use Rattle.std.specs.Io.KnownBytes.{IsAtEnd}
 use Rattle.kc_types.specs.Configuration.{Configuration}
 use Rattle.kc_model.specs.State.{State}
-use Rattle.kc_model.proofs.States.Sizes.{config-after}
 use Rattle.kc_trace.specs.declared.fault.TraceFault.{TraceFault}
 use Rattle.kc_trace.specs.declared.fault.TraceFault.TheVariants.{TooManyCalls}
 use Rattle.kc_trace.specs.declared.expected.Expected.{Expected}
@@ -15,17 +14,16 @@ use Rattle.kc_trace.specs.Expected.{IsRefusedThere}
 use Rattle.kc_texts.specs.Ends.{Seen, ReadFailed, HasFailedRead, HasFailed}
 use Rattle.kc_faults.specs.declared.fault.TextFault.{TextFault}
 use Rattle.kc_faults.specs.declared.fault.TextFault.TheVariants as texts
-use Rattle.kc_cli.specs.declared.custody.CustodyAccount.{CustodyAccount}
-use Rattle.kc_cli.specs.declared.custody.CustodyOrder.{CustodyOrder}
 use Rattle.kc_cli.specs.Traced.{Traced, expected_last}
 use Rattle.kc_cli.specs.Custody.{joined, AreVolumes}
 use Rattle.kc_cli.specs.Engine.{IsReplayFault}
-use Rattle.kc_cli.specs.Volumes.{IsAccountOf, HasTold, IsFull}
+use Rattle.kc_cli.specs.Kinds.{Kind, IsNextRefused}
+use Rattle.kc_cli.specs.declared.sequence.TheConstants.{CALLS_BEFORE}
 use Rattle.kc_run.specs.declared.ending.Ending.{Ending}
 use Rattle.kc_run.specs.declared.ending.Ending.TheVariants as endings
 use Rattle.kc_args.specs.Jobs.{Path}
 use Rattle.kc_run.specs.Opening.{Held, IsOfFile, IsOpenFault}
-use Rattle.kc_run.specs.Custody.{had_by, held_by, IsVolumeRefused, ReadsOn, AreOpened}
+use Rattle.kc_run.specs.Reports.{had_by, held_by, IsVolumeRefused, ReadsOn, AreOpened}
 
 -- of two lists of sources
 failed_read_after : (xs ys : List Seen) → HasFailedRead ys → HasFailedRead (xs ++ ys)
@@ -59,38 +57,66 @@ refused_after config expected before xs ys fault is = record {
 }
 
 -- reading goes on after what was read
-pub reads_then : (a b c : CustodyAccount) (refused : Option (List ℕ)) (xs ys : List Seen) (n k : ℕ) (r : Result (Option Ending) TextFault) → ReadsOn a b None xs n (Ok None) → ReadsOn b c refused ys k r → k ≡ n + length xs → ReadsOn a c refused (xs ++ ys) n r
-reads_then a b c refused xs ys n k r one more at = record {
-  told = λ e order m before h. subst (λ (held : List (Option (List ℕ))). HasTold order c m held) (append_assoc before (had_by xs) (had_by ys) ∙ ap (λ (rest : List (Option (List ℕ))). before ++ rest) (sym (had_both xs ys)))
-      (more.told e order m (before ++ had_by xs) (one.told refl order m before h));
-  same = λ e. more.same e ∙ one.same refl;
-  first = λ e. more.first e ∙ one.first refl;
-  ended = λ e. all_both (λ source. IsAtEnd source.has) xs ys (one.ended refl) (more.ended e);
-  refuses = λ ending e order m before h.
-      (let is = more.refuses ending e order m (before ++ had_by xs) (one.told refl order m before h) in
-      let long = length-append xs ys in
-      let last = is.3 in
-      (is.0, is.1, is.2, omega (arith, long, last, at), refused_after m.config a.first before xs ys is.0 (subst (λ (expected : Expected). IsVolumeRefused m.config expected (before ++ had_by xs) ys is.0) (one.first refl) is.4)));
-  read = λ e. elim (more.read e) [
-    | inl failed ↦ inl (failed_read_after xs ys failed)
-    | inr none ↦ inr none
-  ];
-  failed = λ bad. elim (failed_before_or_after xs ys bad) [
-    | inl before ↦ (let never = one.failed before in absurd cc)
-    | inr after ↦ more.failed after
-  ];
-  unopened = more.unopened;
-  fault = more.fault;
-  trace = more.trace;
-  started = more.started;
+pub reads_then : {A O : Type 0} (kind : Kind A O) (a b c : A) (refused : Option (List ℕ)) (xs ys : List Seen) (n k : ℕ) (followed : Bool) (r : Result (Option Ending) TextFault) → ReadsOn kind a b None xs n true (Ok None) → ReadsOn kind b c refused ys k followed r → k ≡ n + length xs
+    → ReadsOn kind a c refused (xs ++ ys) n followed r
+reads_then {A} {O} kind a b c refused xs ys n k followed r one more at =
+    let all : (before : List (Option (List ℕ))) → (before ++ had_by xs) ++ had_by ys ≡ before ++ had_by (xs ++ ys) =
+    λ before. append_assoc before (had_by xs) (had_by ys) ∙ ap (λ (rest : List (Option (List ℕ))). before ++ rest) (sym (had_both xs ys)) in
+    record {
+      told = λ e order m before h.
+          (let so = more.told e order m (before ++ had_by xs) ((one.told refl order m before h).1 refl) in (
+            subst (λ (held : List (Option (List ℕ))). kind.of order c m held) (all before) so.0,
+            λ is. subst (λ (held : List (Option (List ℕ))). kind.told order c m held) (all before) (so.1 is),
+          ));
+      begun = λ e order m start h. more.begun e order m start (one.begun refl order m start h);
+      first = λ e. more.first e ∙ one.first refl;
+      ended = λ e. all_both (λ source. IsAtEnd source.has) xs ys (one.ended refl) (more.ended e);
+      refuses = λ ending e order m before h.
+          (let is = more.refuses ending e order m (before ++ had_by xs) ((one.told refl order m before h).1 refl) in
+          let long = length-append xs ys in
+          let last = is.3 in
+          (is.0, is.1, is.2, omega (arith, long, last, at), refused_after m.config (kind.first a) before xs ys is.0 (subst (λ (expected : Expected). IsVolumeRefused m.config expected (before ++ had_by xs) ys is.0) (one.first refl) is.4)));
+      read = λ e. elim (more.read e) [
+        | inl failed ↦ inl (failed_read_after xs ys failed)
+        | inr none ↦ inr none
+      ];
+      failed = λ bad. elim (failed_before_or_after xs ys bad) [
+        | inl before ↦ (let never = one.failed before in absurd cc)
+        | inr after ↦ more.failed after
+      ];
+      unopened = more.unopened;
+      fault = more.fault;
+      trace = more.trace;
+      started = λ e order m before h. more.started e order m (before ++ had_by xs) ((one.told refl order m before h).1 refl);
+    }
+
+-- more is to come
+pub so_followed : {A O : Type 0} (kind : Kind A O) (old new : A) (refused : Option (List ℕ)) (sources : List Seen) (number : ℕ) (followed : Bool) {r : Result (Option Ending) TextFault} → ReadsOn kind old new refused sources number followed r → followed ≡ true → ReadsOn kind old new refused sources number true r
+so_followed kind old new refused sources number followed {r} h is = subst (λ (f : Bool). ReadsOn kind old new refused sources number f r) is h
+
+-- no more is to come
+pub reads_last : {A O : Type 0} (kind : Kind A O) (old new : A) (refused : Option (List ℕ)) (sources : List Seen) (number : ℕ) (followed : Bool) (r : Result (Option Ending) TextFault) → ReadsOn kind old new refused sources number followed r → ReadsOn kind old new refused sources number false r
+reads_last kind old new refused sources number followed r h = record {
+  told = λ e order m before told. ((h.told e order m before told).0, λ is. absurd cc);
+  begun = h.begun;
+  first = h.first;
+  ended = h.ended;
+  refuses = h.refuses;
+  read = h.read;
+  failed = h.failed;
+  unopened = h.unopened;
+  fault = h.fault;
+  trace = h.trace;
+  started = h.started;
 }
 
 -- a volume is in the account
-pub volume_told : (old new : CustodyAccount) (source : Seen) (number : ℕ) → ((order : CustodyOrder) (m : State) (sources : List (Option (List ℕ))) → HasTold order old m sources → HasTold order new m (sources ++ source.had ∷ []))
-    → new.start ≡ old.start → new.first ≡ old.first → IsAtEnd source.has → (source.failed ≡ true → ⊥) → ReadsOn old new None (source ∷ []) number (Ok None)
-volume_told old new source number told same first ended whole = record {
+pub volume_told : {A O : Type 0} (kind : Kind A O) (old new : A) (source : Seen) (number : ℕ) (followed : Bool)
+    → ((order : O) (m : State) (sources : List (Option (List ℕ))) → kind.told order old m sources → kind.of order new m (sources ++ source.had ∷ []) × (followed ≡ true → kind.told order new m (sources ++ source.had ∷ [])))
+    → ((order : O) (m : State) (start : Option (List ℕ)) → kind.begun order old m start → kind.begun order new m start) → kind.first new ≡ kind.first old → IsAtEnd source.has → (source.failed ≡ true → ⊥) → ReadsOn kind old new None (source ∷ []) number followed (Ok None)
+volume_told kind old new source number followed told begun first ended whole = record {
   told = λ e order m before h. told order m before h;
-  same = λ e. same;
+  begun = λ e. begun;
   first = λ e. first;
   ended = λ e. (ended, tt);
   refuses = λ ending e. absurd cc;
@@ -102,41 +128,33 @@ volume_told old new source number told same first ended whole = record {
   unopened = λ e. absurd cc;
   fault = tt;
   trace = λ said e. cc;
-  started = λ e. cc;
+  started = λ e. absurd cc;
 }
 
--- refused where the volumes before it led
-refused_last : (order : CustodyOrder) (account : CustodyAccount) (m : State) (before : List (Option (List ℕ))) (source : Option (List ℕ)) (fault : TraceFault) (told : HasTold order account m before)
-    → IfSome source (λ text. IsRefusedThere account.core.config account.expected text fault) → IfSome source (λ text. IsRefusedThere m.config (expected_last account.first told.of.volumes) text fault)
-refused_last order account m before source fault told is =
-    subst (λ (expected : Expected). IfSome source (λ text. IsRefusedThere m.config expected text fault)) told.next
-    (subst (λ (config : Configuration). IfSome source (λ text. IsRefusedThere config account.expected text fault)) (ap (λ (n : State). n.config) told.of.kept.left ∙ config-after m (joined told.of.volumes)) is)
-
 -- a volume is refused
-pub volume_refused : (old new : CustodyAccount) (source : Seen) (number : ℕ) (fault : TraceFault) → (IfSome source.had (λ text. IsRefusedThere old.core.config old.expected text fault) × IsAtEnd source.has) ⊎ ((fault ≡ TooManyCalls) × IsFull old) → (source.failed ≡ true → ⊥)
-    → ReadsOn old new None (source ∷ []) number (Ok (Some (endings.Refused number fault)))
-volume_refused old new source number fault why whole = record {
+pub volume_refused : {A O : Type 0} (kind : Kind A O) (old new : A) (source : Seen) (number : ℕ) (followed : Bool) (fault : TraceFault)
+    → ((order : O) (m : State) (sources : List (Option (List ℕ))) → kind.told order old m sources → IsNextRefused m.config (kind.first old) sources source fault) → (source.failed ≡ true → ⊥)
+    → ReadsOn kind old new None (source ∷ []) number followed (Ok (Some (endings.Refused number fault)))
+volume_refused kind old new source number followed fault why whole = record {
   told = λ e. absurd cc;
-  same = λ e. absurd cc;
+  begun = λ e. absurd cc;
   first = λ e. absurd cc;
   ended = λ e. absurd cc;
-  refuses = λ ending e order m before h. (
-    fault,
-    number,
-    (let same : ending ≡ endings.Refused number fault = cc in same),
-    refl,
-    record {
-      traces = [];
-      last = source;
-      split = refl;
-      volumes = h.of.volumes;
-      traced = subst (λ (held : List (Option (List ℕ))). AreVolumes m.config old.first held h.of.volumes) (sym (append-nil before)) h.of.traced;
-      fault_is = elim why [
-        | inl is ↦ inl (refused_last order old m before source.had fault h is.0, is.1)
-        | inr full ↦ inr (full.0, (let line = h.of.kept.line in let more = full.1 in omega (arith, line, more)))
-      ];
-    },
-  );
+  refuses = λ ending e order m before h.
+      (let is = why order m before h in (
+        fault,
+        number,
+        (let same : ending ≡ endings.Refused number fault = cc in same),
+        refl,
+        record {
+          traces = [];
+          last = source;
+          split = refl;
+          volumes = is.volumes;
+          traced = subst (λ (held : List (Option (List ℕ))). AreVolumes m.config (kind.first old) held is.volumes) (sym (append-nil before)) is.traced;
+          fault_is = is.fault_is;
+        },
+      ));
   read = λ e. absurd cc;
   failed = λ bad. elim bad [
     | inl is ↦ absurd (whole is)
@@ -145,15 +163,15 @@ volume_refused old new source number fault why whole = record {
   unopened = λ e. absurd cc;
   fault = tt;
   trace = λ said e. cc;
-  started = λ e. cc;
+  started = λ e. absurd cc;
 }
 
 -- reading it fails
-pub volume_failed : (old new : CustodyAccount) (source : Seen) (number : ℕ) (fault : TextFault) → (fault ≡ texts.Read → ReadFailed source.failed source.had source.has) → (source.failed ≡ true → fault ≡ texts.Read) → IsReplayFault fault
-    → ((said : TraceFault) → fault ≢ texts.Trace said) → fault ≢ texts.Start → ReadsOn old new None (source ∷ []) number (Err fault)
-volume_failed old new source number fault read bad is trace started = record {
+pub volume_failed : {A O : Type 0} (kind : Kind A O) (old new : A) (source : Seen) (number : ℕ) (followed : Bool) (fault : TextFault) → (fault ≡ texts.Read → ReadFailed source.failed source.had source.has) → (source.failed ≡ true → fault ≡ texts.Read) → IsReplayFault fault
+    → ((said : TraceFault) → fault ≢ texts.Trace said) → (fault ≡ texts.Start → (order : O) (m : State) (sources : List (Option (List ℕ))) → kind.told order old m sources → 1 < kind.workers order) → ReadsOn kind old new None (source ∷ []) number followed (Err fault)
+volume_failed kind old new source number followed fault read bad is trace started = record {
   told = λ e. absurd cc;
-  same = λ e. absurd cc;
+  begun = λ e. absurd cc;
   first = λ e. absurd cc;
   ended = λ e. absurd cc;
   refuses = λ ending e. absurd cc;
@@ -187,13 +205,14 @@ unopened path refused (texts.BadActor program) h = inl (h.1, h.0)
 unopened path refused (texts.NoSlot slot) h = inl (h.1, h.0)
 
 -- after those that were read
-pub open_failed : (old account : CustodyAccount) (sources : List Seen) (number : ℕ) (name : List ℕ) (refused : Option (List ℕ)) (fault : TextFault) → ReadsOn old account None sources number (Ok None) → Unopened name refused fault → ReadsOn old account refused sources number (Err fault)
-open_failed old account sources number name refused fault reads (inl is) =
+pub open_failed : {A O : Type 0} (kind : Kind A O) (old account : A) (sources : List Seen) (number : ℕ) (name : List ℕ) (refused : Option (List ℕ)) (followed : Bool) (fault : TextFault) → ReadsOn kind old account None sources number followed (Ok None) → Unopened name refused fault
+    → ReadsOn kind old account refused sources number false (Err fault)
+open_failed kind old account sources number name refused followed fault reads (inl is) =
     let same = is.0 in
     let none = is.1 in
     record {
       told = λ e. absurd cc;
-      same = λ e. absurd cc;
+      begun = λ e. absurd cc;
       first = λ e. absurd cc;
       ended = λ e. absurd cc;
       refuses = λ ending e. absurd cc;
@@ -202,14 +221,14 @@ open_failed old account sources number name refused fault reads (inl is) =
       unopened = λ some. (let never = subst (λ (r : Option (List ℕ)). is_some r ≡ true) none some in absurd cc);
       fault = record { workers = λ e. cc; unsettled = λ e. cc; actor = λ p e. cc; slot = λ n e. cc; write = λ e. cc; config = λ s e. cc; state = λ s e. cc; told = (λ e. cc, λ e. cc, λ e. cc, λ d e. cc) };
       trace = λ said e. cc;
-      started = λ e. cc;
+      started = λ e. absurd cc;
     }
-open_failed old account sources number name refused fault reads (inr is) =
+open_failed kind old account sources number name refused followed fault reads (inr is) =
     let same = is.0 in
     let some = is.1 in
     record {
       told = λ e. absurd cc;
-      same = λ e. absurd cc;
+      begun = λ e. absurd cc;
       first = λ e. absurd cc;
       ended = λ e. absurd cc;
       refuses = λ ending e. absurd cc;
@@ -218,14 +237,17 @@ open_failed old account sources number name refused fault reads (inr is) =
       unopened = λ none. ap Err same;
       fault = record { workers = λ e. cc; unsettled = λ e. cc; actor = λ p e. cc; slot = λ n e. cc; write = λ e. cc; config = λ s e. cc; state = λ s e. cc; told = (λ e. cc, λ e. cc, λ e. cc, λ d e. cc) };
       trace = λ said e. cc;
-      started = λ e. cc;
+      started = λ e. absurd cc;
     }
 
 -- nothing is read yet
-pub none_read : (account : CustodyAccount) (number : ℕ) → ReadsOn account account None [] number (Ok None)
-none_read account number = record {
-  told = λ e order m before h. subst (λ (held : List (Option (List ℕ))). HasTold order account m held) (sym (append-nil before)) h;
-  same = λ e. refl;
+pub none_read : {A O : Type 0} (kind : Kind A O) (account : A) (number : ℕ) → ((order : O) (m : State) (sources : List (Option (List ℕ))) → kind.told order account m sources → kind.of order account m sources) → ReadsOn kind account account None [] number true (Ok None)
+none_read kind account number leads = record {
+  told = λ e order m before h. (
+    subst (λ (held : List (Option (List ℕ))). kind.of order account m held) (sym (append-nil before)) (leads order m before h),
+    λ is. subst (λ (held : List (Option (List ℕ))). kind.told order account m held) (sym (append-nil before)) h,
+  );
+  begun = λ e order m start h. h;
   first = λ e. refl;
   ended = λ e. tt;
   refuses = λ ending e. absurd cc;
@@ -234,7 +256,7 @@ none_read account number = record {
   unopened = λ e. absurd cc;
   fault = tt;
   trace = λ said e. cc;
-  started = λ e. cc;
+  started = λ e. absurd cc;
 }
 
 -- one file more is opened
@@ -268,24 +290,26 @@ no_calls : (config : Configuration) (expected : Expected) (volumes : List Traced
 no_calls config expected [] is = refl
 no_calls config expected (volume ∷ volumes) is = absurd is
 
-pub not_full : (order : CustodyOrder) (account : CustodyAccount) (m : State) → HasTold order account m [] → IsFull account → ⊥
-not_full order account m told full =
-    let line = told.of.kept.line in
-    let none = no_calls m.config account.first told.of.volumes told.of.traced in
-    omega (arith, line, none, full)
-
 -- the first trace is refused where the start leads
-pub refused_first : {Unread : Type 0} (order : CustodyOrder) (account : CustodyAccount) (m : State) (had has : Option (List ℕ)) (fault : TraceFault) → HasTold order account m []
-    → (IfSome had (λ text. IsRefusedThere account.core.config account.expected text fault) × IsAtEnd has) ⊎ ((fault ≡ TooManyCalls) × IsFull account × Unread) → IfSome had (λ text. IsRefusedThere m.config account.first text fault) × IsAtEnd has
-refused_first order account m had has fault told (inl is) =
-    (subst (λ (expected : Expected). IfSome had (λ text. IsRefusedThere m.config expected text fault)) (none_last m.config account.first told.of.volumes told.of.traced) (refused_last order account m [] had fault told is.0), is.1)
-refused_first order account m had has fault told (inr full) = absurd (not_full order account m told full.1)
+pub refused_first : (config : Configuration) (expected : Expected) (source : Seen) (fault : TraceFault) → IsNextRefused config expected [] source fault → IfSome source.had (λ text. IsRefusedThere config expected text fault) × IsAtEnd source.has
+refused_first config expected source fault is = by_reason is.fault_is
+  where
+    by_reason : ((IfSome source.had (λ text. IsRefusedThere config (expected_last expected is.volumes) text fault) × IsAtEnd source.has) ⊎ ((fault ≡ TooManyCalls) × (CALLS_BEFORE < length (joined is.volumes)))) → IfSome source.had (λ text. IsRefusedThere config expected text fault) × IsAtEnd source.has
+    by_reason (inl there) = (subst (λ (e : Expected). IfSome source.had (λ text. IsRefusedThere config e text fault)) (none_last config expected is.volumes is.traced) there.0, there.1)
+    by_reason (inr full) = absurd (let none = no_calls config expected is.volumes is.traced in let many = full.1 in omega (arith, none, many))
 
--- what an account has to be to be read into, and to be given
-pub some_told : (order : CustodyOrder) (account : CustodyAccount) (m : State) (sources : List (Option (List ℕ))) → IsAccountOf order account m sources → (o : CustodyOrder) × (n : State) × (held : List (Option (List ℕ))) × IsAccountOf o account n held
-some_told order account m sources told = (order, m, sources, told)
+-- what an account has to be to be read into
+pub some_next : {A O : Type 0} (kind : Kind A O) (order : O) (account : A) (m : State) (sources : List (Option (List ℕ))) → kind.told order account m sources → (o : O) × (n : State) × (held : List (Option (List ℕ))) × kind.told o account n held
+some_next kind order account m sources told = (order, m, sources, told)
+
+pub some_first : {A O : Type 0} (kind : Kind A O) (order : O) (account : A) (m : State) → kind.told order account m [] → (o : O) × (n : State) × kind.told o account n []
+some_first kind order account m told = (order, m, told)
+
+-- and to be given
+pub some_told : {A O : Type 0} (kind : Kind A O) (order : O) (account : A) (m : State) (sources : List (Option (List ℕ))) → kind.of order account m sources → (o : O) × (n : State) × (held : List (Option (List ℕ))) × kind.of o account n held
+some_told kind order account m sources told = (order, m, sources, told)
 
 -- all were read
-pub all_told : (old new : CustodyAccount) (refused : Option (List ℕ)) (sources : List Seen) (number : ℕ) (refusal : Option Ending) (order : CustodyOrder) (m : State) → ReadsOn old new refused sources number (Ok refusal) → refusal ≡ None → HasTold order old m []
-    → (o : CustodyOrder) × (n : State) × (held : List (Option (List ℕ))) × IsAccountOf o new n held
-all_told old new refused sources number refusal order m reads none told = some_told order new m (had_by sources) (reads.told (ap Ok none) order m [] told).of
+pub all_told : {A O : Type 0} (kind : Kind A O) (old new : A) (refused : Option (List ℕ)) (sources : List Seen) (number : ℕ) (followed : Bool) (refusal : Option Ending) (order : O) (m : State) → ReadsOn kind old new refused sources number followed (Ok refusal) → refusal ≡ None → kind.told order old m []
+    → (o : O) × (n : State) × (held : List (Option (List ℕ))) × kind.of o new n held
+all_told kind old new refused sources number followed refusal order m reads none told = some_told kind order new m (had_by sources) (reads.told (ap Ok none) order m [] told).0

@@ -5,15 +5,13 @@ use Rattle.kc_faults.specs.declared.origin.Origin.{Origin}
 use Rattle.kc_faults.specs.declared.fault.TextFault.{TextFault}
 use Rattle.kc_texts.specs.Ends.{Seen}
 use Rattle.kc_faults.proofs.Told.{texts_unread}
-use Rattle.kc_cli.specs.declared.account.CustodyForm.{CustodyForm}
-use Rattle.kc_cli.specs.declared.account.Scope.{Scope}
 use Rattle.kc_cli.specs.declared.order.ReplayForm.{ReplayForm}
-use Rattle.kc_cli.specs.Custody.{TellsCustody}
+use Rattle.kc_cli.specs.Kinds.{TellsAccount}
 use Rattle.kc_args.specs.Jobs.{Path}
 use Rattle.kc_run.specs.declared.ending.Ending.TheVariants as endings
 use Rattle.kc_run.specs.Endings.{Ended}
 use Rattle.kc_run.specs.Ends.{Ends}
-use Rattle.kc_run.specs.Custody.{IsVolumesEnding, ReportsTrace, ReportsVolumes, ReportsCustody}
+use Rattle.kc_run.specs.Reports.{Report, IsVolumesEnding, ReportsTrace, ReportsVolumes, Reports}
 use Rattle.kc_run.specs.Run.{IsUnopened, Replays, ReplaysTo}
 
 -- the ends, of which less is known if nothing was read
@@ -44,54 +42,53 @@ replays_to_less left failed origin form blank workers None start ends less ended
 replays_to_less left failed origin form blank workers (Some path) start ends less ended step (inl h) = inl (unopened_less path ends less ended step h)
 replays_to_less left failed origin form blank workers (Some path) start ends less ended step (inr (to, file, had, h)) = inr (to, file, had, replays_less origin form blank workers start (Some to) ends less ended step h)
 
--- ---- custody
+-- ---- reports
 
-custody_less : {A : Type 0} (slot : Option ℕ) (origin : Origin) (start : Option (List ℕ)) (unread less : Type 0) (result : Result A TextFault) → (unread → less) → TellsCustody slot origin start unread result → TellsCustody slot origin start less result
-custody_less slot origin start unread less result step h = record {
+account_less : {A : Type 0} (slot : Option ℕ) (workers : ℕ) (origin : Origin) (start : Option (List ℕ)) (unread less : Type 0) (result : Result A TextFault) → (unread → less) → TellsAccount slot workers origin start unread result → TellsAccount slot workers origin start less result
+account_less slot workers origin start unread less result step h = record {
   named = h.named;
   lacking = λ number e. let is = h.lacking number e in (is.0, is.1, step is.2);
-  workers = h.workers;
+  judged = h.judged;
   started = h.started;
   settled = h.settled;
   actor = h.actor;
 }
 
-trace_less : (origin : Origin) (form : CustodyForm) (scope : Scope) (start : Seen) (ends : Ends) (less : Type 0) (ended : Ended) → (ends.unread → less) → ReportsTrace origin form scope start ends ended → ReportsTrace origin form scope start (with_unread ends less) ended
-trace_less origin form scope start ends less ended step h = record {
+trace_less : (report : Report) (start : Seen) (ends : Ends) (less : Type 0) (ended : Ended) → (ends.unread → less) → ReportsTrace report start ends ended → ReportsTrace report start (with_unread ends less) ended
+trace_less report start ends less ended step h = record {
   opened = h.opened;
   ending = h.ending;
   written = h.written;
   sources = h.sources;
-  told = texts_unread origin start ends.input ends.unread less ended step h.told;
-  custody = custody_less scope.vm origin start.had ends.unread less ended step h.custody;
+  told = texts_unread report.origin start ends.input ends.unread less ended step h.told;
+  tells = account_less report.slot report.workers report.origin start.had ends.unread less ended step h.tells;
   sink = h.sink;
 }
 
 -- how it ended says nothing of what was not read
-ending_less : (origin : Origin) (form : CustodyForm) (scope : Scope) (start : Seen) (after : List Path) (files : List Seen) (ends : Ends) (less : Type 0) (ended : Ended) → IfOk ended (IsVolumesEnding origin form scope start after files ends) → IfOk ended (IsVolumesEnding origin form scope start after files (with_unread ends less))
-ending_less origin form scope start after files ends less (Ok (endings.Answered answered)) h = h
-ending_less origin form scope start after files ends less (Ok (endings.Refused volume fault)) h = h
-ending_less origin form scope start after files ends less (Ok endings.Done) h = h
-ending_less origin form scope start after files ends less (Ok (endings.Another answered line)) h = h
-ending_less origin form scope start after files ends less (Ok endings.Unsound) h = h
-ending_less origin form scope start after files ends less (Err fault) h = tt
+ending_less : (report : Report) (start : Seen) (after : List Path) (files : List Seen) (ends : Ends) (less : Type 0) (ended : Ended) → IfOk ended (IsVolumesEnding report start after files ends) → IfOk ended (IsVolumesEnding report start after files (with_unread ends less))
+ending_less report start after files ends less (Ok (endings.Answered answered)) h = h
+ending_less report start after files ends less (Ok (endings.Refused volume fault)) h = h
+ending_less report start after files ends less (Ok endings.Done) h = h
+ending_less report start after files ends less (Ok (endings.Another answered line)) h = h
+ending_less report start after files ends less (Ok endings.Unsound) h = h
+ending_less report start after files ends less (Err fault) h = tt
 
-volumes_less : {S : Type 0} (left : S → Option (List ℕ)) (failed : S → Bool) (origin : Origin) (form : CustodyForm) (scope : Scope) (after : List Path) (start : Seen) (ends : Ends) (less : Type 0) (ended : Ended) → (ends.unread → less)
-    → ReportsVolumes left failed origin form scope after start ends ended → ReportsVolumes left failed origin form scope after start (with_unread ends less) ended
-volumes_less left failed origin form scope after start ends less ended step h = record {
+volumes_less : {S : Type 0} (left : S → Option (List ℕ)) (failed : S → Bool) (report : Report) (after : List Path) (start : Seen) (ends : Ends) (less : Type 0) (ended : Ended) → (ends.unread → less)
+    → ReportsVolumes left failed report after start ends ended → ReportsVolumes left failed report after start (with_unread ends less) ended
+volumes_less left failed report after start ends less ended step h = record {
   files = h.files;
   opened = h.opened;
-  ending = ending_less origin form scope start after h.files ends less ended h.ending;
+  ending = ending_less report start after h.files ends less ended h.ending;
   read = h.read;
   failed = h.failed;
   unopened = h.unopened;
-  told = texts_unread origin start ends.input ends.unread less ended step h.told;
+  told = texts_unread report.origin start ends.input ends.unread less ended step h.told;
   trace = h.trace;
-  custody = custody_less scope.vm origin start.had ends.unread less ended step h.custody;
+  tells = account_less report.slot report.workers report.origin start.had ends.unread less ended step h.tells;
   sink = h.sink;
 }
 
-pub reports_less : {S : Type 0} (left : S → Option (List ℕ)) (failed : S → Bool) (origin : Origin) (form : CustodyForm) (scope : Scope) (after : List Path) (start : Seen) (ends : Ends) (less : Type 0) (ended : Ended) → (ends.unread → less)
-    → ReportsCustody left failed origin form scope after start ends ended → ReportsCustody left failed origin form scope after start (with_unread ends less) ended
-reports_less left failed origin form scope [] start ends less ended step h = trace_less origin form scope start ends less ended step h
-reports_less left failed origin form scope (path ∷ after) start ends less ended step h = volumes_less left failed origin form scope (path ∷ after) start ends less ended step h
+pub reports_less : {S : Type 0} (left : S → Option (List ℕ)) (failed : S → Bool) (report : Report) (after : List Path) (start : Seen) (ends : Ends) (less : Type 0) (ended : Ended) → (ends.unread → less) → Reports left failed report after start ends ended → Reports left failed report after start (with_unread ends less) ended
+reports_less left failed report [] start ends less ended step h = trace_less report start ends less ended step h
+reports_less left failed report (path ∷ after) start ends less ended step h = volumes_less left failed report (path ∷ after) start ends less ended step h

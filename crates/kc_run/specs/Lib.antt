@@ -1,4 +1,4 @@
-pub mod Custody
+pub mod Reports
 pub mod Opening
 pub mod Endings
 pub mod Ends

@@ -35,7 +35,7 @@ use Rattle.kc_run.specs.declared.ending.Ending.{Ending}
 use Rattle.kc_run.specs.declared.ending.Ending.TheVariants as endings
 use Rattle.kc_run.specs.Opening.{IsHeaderOf, IsUnnamed, HoldsStart, IsUnseenFault, IsOfFile, IsOpenFault}
 use Rattle.kc_run.specs.Ends.{Ends, ends_of}
-use Rattle.kc_run.specs.Custody.{ReportsCustody}
+use Rattle.kc_run.specs.Reports.{custody_report, lines_report, Reports}
 use Rattle.kc_run.specs.Endings.{Ended, Took, ending_converted, status_after, fault_in, answered_in, difference_in, volume_in, IsReported}
 
 -- a file is not open, and so nothing was read of standard input, and nothing written
@@ -190,11 +190,12 @@ abbrev pub RedactsHostAt : {S : Type 0} → (S → Option (List ℕ)) → (S →
 RedactsHostAt left failed None origin ends ended = IsUnseen ends ended ⊎ (IsMachineless ends ended ⊎ IsSeen IsHeaderOf (RedactsHost origin) ends ended)
 RedactsHostAt left failed (Some path) origin ends ended = OverFile left failed path (RedactsHost origin) ends ended
 
--- how an action ended; only custody reads the files of volumes after the input
+-- how an action ended; only custody and the replay of volumes read the files after the input
 abbrev pub IsEnding : {S : Type 0} → (S → Option (List ℕ)) → (S → Bool) → Action → List Path → Ends → Ended → Type 0
 IsEnding left failed (actions.Replay start to form blank workers) after ends ended = BeginsAt left failed (path_of start) (ReplaysTo left failed (origin_at start) form blank workers to) ends ended
+IsEnding left failed (actions.ReplayVolumes start workers) after ends ended = BeginsAt left failed (path_of start) (Reports left failed (lines_report (origin_at start) workers) after) ends ended
 IsEnding left failed (actions.Live config workers) after ends ended = BeginsAt left failed config (RunsLive workers) ends ended
-IsEnding left failed (actions.Custody start form scope) after ends ended = BeginsAt left failed (path_of start) (ReportsCustody left failed (origin_at start) form scope after) ends ended
+IsEnding left failed (actions.Custody start form scope) after ends ended = BeginsAt left failed (path_of start) (Reports left failed (custody_report (origin_at start) form scope) after) ends ended
 IsEnding left failed (actions.Audit all) after ends ended = AuditsDump all ends ended
 IsEnding left failed actions.Redact after ends ended = RedactsTrace ends ended
 IsEnding left failed (actions.RedactHost start) after ends ended = RedactsHostAt left failed (path_of start) (origin_at start) ends ended

@@ -6,12 +6,14 @@ ghost use Rattle.kc_run.specs.Ends.{ends_of};
 ghost use Rattle.kc_run.specs.Run.{IsEnding, IsEndingOf, IsRun};
 
 use crate::beginning::open;
-use crate::custody::custody;
 use crate::ending::{Ending, Exit, end};
 use crate::engines::{System, audit, convert, convert_after, live, redact, redact_host, replay};
 use crate::files::Files;
+use crate::reporting::report;
 use kc_args::{Action, Job};
-use kc_cli::{CustodyOrder, Headed, ReplayOrder, Sink, TextFault};
+use kc_cli::{
+    CustodyAccount, CustodyOrder, Headed, LinesOrder, ReplayAccount, ReplayOrder, Sink, TextFault,
+};
 use std::sync::Wait;
 use std::thread::Threads;
 
@@ -48,6 +50,14 @@ fn run_action<F: Files, T: Headed, K: Sink, R: Threads + Wait + Sync>(
             };
             replay(system, files, start, to, input, out, order)
         },
+        Action::ReplayVolumes { start, workers } => {
+            let order = LinesOrder {
+                origin: start.origin(),
+                workers,
+                lanes: system.lanes,
+            };
+            report::<ReplayAccount, F, T, K, R>(system, files, start, input, after, out, order)
+        },
         Action::Live { config, workers } => live(system, files, config, workers, input, out),
         Action::Custody { start, form, scope } => {
             let order = CustodyOrder {
@@ -56,7 +66,7 @@ fn run_action<F: Files, T: Headed, K: Sink, R: Threads + Wait + Sync>(
                 lanes: system.lanes,
                 scope,
             };
-            custody(system, files, start, input, after, out, order)
+            report::<CustodyAccount, F, T, K, R>(system, files, start, input, after, out, order)
         },
         Action::Audit { all } => audit(system, all, input, out),
         Action::Redact => redact(system.alloc, input, out),
@@ -93,7 +103,7 @@ fn run_over<F: Files, T: Headed, K: Sink, R: Threads + Wait + Sync>(
 }
 
 /// Does what a job asks for: opens the files that it names, reads its input, which is one of these or standard input,
-/// and for custody the files of the volumes after it, writes onto the sink what is asked for, and onto the error sink
+/// and for custody and several volumes the files after it, writes onto the sink what is asked for, and onto the error sink
 /// the line of a fault, of a state that differs, or of a trace that is probably of another machine. Each file that was
 /// opened is given back.
 pub fn run_job<F: Files, T: Headed, K: Sink, L: Sink, R: Threads + Wait + Sync>(

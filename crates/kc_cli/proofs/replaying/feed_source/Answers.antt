@@ -1,7 +1,7 @@
 use Rattle.std.proofs.Common.{◌≡◌, ◌++◌, ◌∙◌, [], false, refl, sym, rules}
 use Rattle.kc_cli.specs.Traced.{Traced}
 use Rattle.kc_cli.proofs.Witnessed.{none_witnessed, none_last, digest_needed}
-use Rattle.kc_cli.proofs.Fed.{fed_none, fed_more, few_fed, kept_none, still_kept, still_whole, calls_known}
+use Rattle.kc_cli.proofs.Fed.{fed_none, fed_more, few_fed, kept_none, still_kept, still_whole}
 use Rattle.kc_cli.proofs.replaying.feed_source.Goals as goal
 
 pub loop-witness-init : goal.loop-witness-init
@@ -45,10 +45,13 @@ returns-in-Ok-finish-clause-ok g c =
     let seen = (rw c.deref.ensures.value at c.in_ok-witness.ensures.seen) c.loop-witness.stream.reader.progress.header before.1 (λ found is. c.header.ensures ∙ c.in_ok-part.ensures.header found is)
     (λ none. none_last before.1 c.in_ok-part.part.calls.items (more.1.headless (sym c.header.ensures ∙ none))) before.5 in
     let volume : Traced = record { header = c.in-Ok-finish.header; calls = before.1 ++ c.in_ok-part.part.calls.items } in
-    let traced = c.in-Ok-finish.ensures.ok _ _ _ _ more.1 (c.in_ok-part.ensures.last c.if-part.true) in
-    calls_known _ _ _ _ _ _ (before.1 ++ c.in_ok-part.part.calls.items) _ _ _ traced (rw grown (fed_more _ _ _ before.1 c.in_ok-part.part.calls.items _ _ before.3 fed))
-    (rw c.in-Ok-keep.ensures (still_kept c.args.form c.loop-witness.calls.items before.1 c.in_ok-part.part.calls.items before.4))
-    (digest_needed c.args.is_placed false _ volume _ (c.digest_of.ensures false volume) (rw (c.header.ensures, c.in-Ok-finish.ensures.header) at seen))
+    let traced = c.in-Ok-finish.ensures.ok _ _ _ _ more.1 (c.in_ok-part.ensures.last c.if-part.true) in (
+      before.1 ++ c.in_ok-part.part.calls.items,
+      traced,
+      rw grown (fed_more _ _ _ before.1 c.in_ok-part.part.calls.items _ _ before.3 fed),
+      rw c.in-Ok-keep.ensures (still_kept c.args.form c.loop-witness.calls.items before.1 c.in_ok-part.part.calls.items before.4),
+      digest_needed c.args.is_placed false _ volume _ (c.digest_of.ensures false volume) (rw (c.header.ensures, c.in-Ok-finish.ensures.header) at seen),
+    )
 
 pub returns-in-Ok-finish-clause-few : goal.returns-in-Ok-finish-clause-few
 returns-in-Ok-finish-clause-few g c =

@@ -1,7 +1,7 @@
 use Rattle.std.proofs.Common.{Err, ap, refl, arith}
 use Rattle.std.proofs.lemmas.Result.{err_from_is_err_and}
 use Rattle.kc_replay.specs.Replayer.{Replaying}
-use Rattle.kc_faults.proofs.Told.{texts_start, texts_trace, texts_misplaced, replay_ok, replay_trace}
+use Rattle.kc_faults.proofs.Told.{texts_start, texts_trace, texts_misplaced, texts_ok, replay_ok, replay_trace}
 use Rattle.kc_faults.proofs.Placed.{known_refused_there}
 use Rattle.kc_cli.proofs.Fed.{replayed, misfed}
 use Rattle.kc_cli.proofs.Replayed.{are_replayed, answered_so}
@@ -52,3 +52,6 @@ returns-in_default-fault-clause-answered g c =
     (are_replayed _ _ c.args.is_placed _ _ start.core start.expected fed.calls.items fed.replies.items c.in-Ok-finish.core _ c.in_ok-core.ensures.ok
     (replayed _ _ fed.header start.expected _ start.core c.in-Ok.replayer c.feed_source.new.replayer fed.calls.items fed.replies.items fed.digest c.in-Ok-finish.core c.in_ok-core.ensures.lawful (ap (λ (r : Replaying). r.state) c.in-Ok.ensures.start) c.in-Ok-finish.ensures.core c.in-Ok-feed_source.ensures.ok (rw c.config.ensures.value at c.in_default-fault.ensures)))
     (rw c.deref.ensures.value at c.of-answered.ensures)
+
+pub returns-in_default-fault-clause-texts : goal.returns-in_default-fault-clause-texts
+returns-in_default-fault-clause-texts g c = texts_ok c.args.order.origin _ _ _ c.in_ok-core.field-0.core c.in_ok-core.field-0.expected _ c.in_ok-core.ensures.ok
