@@ -1,5 +1,5 @@
 //! Making a core from its description.
-ghost use Rattle.std.specs.Prelude.{◌≡◌, ◌≤◌, ◌<◌, [], All, length, map, vec_capacity, IfOk, IfErr};
+ghost use Rattle.std.specs.Prelude.{◌≡◌, ◌≤◌, ◌<◌, ℕ, [], length, map, vec_capacity, IfOk, IfErr};
 ghost use Rattle.std.specs.List.{range_with_len};
 ghost use Rattle.kc_types.specs.Limits.{leaf_limit, share_limit};
 ghost use Rattle.kc_vms.specs.Stage2.{AreMappings};
@@ -78,7 +78,7 @@ fn make_pages(lines: &[FrameLine], bytes: Vec<PageBytes>, mut pages: Vec<Page>) 
     requires count { length bytes.items ≡ length lines.now }
     requires none { pages.items ≡ [] }
     requires room { length lines.now ≤ vec_capacity pages }
-    requires shares { All (λ line. line.share ≤ share_limit) lines.now }
+    requires shares { (f : ℕ) → f < length lines.now → (line_at lines.now f).share ≤ share_limit }
     ensures { result.items ≡ map (λ f. page_told (line_at lines.now f) (page_of bytes.items f)) (range_with_len 0 (length lines.now)) }
 {
     let mut rest = bytes.into_iter();
