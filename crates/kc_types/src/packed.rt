@@ -1,13 +1,13 @@
-//! Numbers and owners as the record of a frame keeps them: in as few bytes as they need, seen as what they stand for.
+//! A frame, a guest frame and an owner in few bytes, as a frame's record keeps them. Contracts see what they stand for.
 ghost use Rattle.std.specs.Prelude.{◌≡◌};
 
 use crate::{FRAME_LIMIT, FrameNo, GFN_LIMIT, Gfn, Owner, VmId};
 use std::marker::Model;
 
-/// A frame or none, in four bytes. Seen as the option.
+/// A frame or none, in four bytes. Contracts see an option.
 #[derive(Clone, Copy, Debug, PartialEq, Eq)]
 pub struct MaybeFrame {
-    // None is the limit.
+    // The limit stands for none.
     number: u32,
 }
 
@@ -28,7 +28,7 @@ impl Model for MaybeFrame {
 }
 
 impl MaybeFrame {
-    /// This frame, or none.
+    /// Packs a frame, or none.
     pub fn of(frame: Option<FrameNo>) -> MaybeFrame
         ensures { result ≡ frame }
     {
@@ -42,7 +42,7 @@ impl MaybeFrame {
         }
     }
 
-    /// The frame, if it is one.
+    /// Returns the frame, if there is one.
     pub fn get(self) -> Option<FrameNo>
         ensures { result ≡ self }
     {
@@ -50,10 +50,10 @@ impl MaybeFrame {
     }
 }
 
-/// A guest frame or none, in four bytes. Seen as the option.
+/// A guest frame or none, in four bytes. Contracts see an option.
 #[derive(Clone, Copy, Debug, PartialEq, Eq)]
 pub struct MaybeGfn {
-    // None is the limit.
+    // The limit stands for none.
     number: u32,
 }
 
@@ -74,7 +74,7 @@ impl Model for MaybeGfn {
 }
 
 impl MaybeGfn {
-    /// This guest frame, or none.
+    /// Packs a guest frame, or none.
     pub fn of(gfn: Option<Gfn>) -> MaybeGfn
         ensures { result ≡ gfn }
     {
@@ -86,7 +86,7 @@ impl MaybeGfn {
         }
     }
 
-    /// The guest frame, if it is one.
+    /// Returns the guest frame, if there is one.
     pub fn get(self) -> Option<Gfn>
         ensures { result ≡ self }
     {
@@ -94,7 +94,7 @@ impl MaybeGfn {
     }
 }
 
-/// An owner in two bytes.
+/// An owner, in two bytes. Contracts see the owner.
 #[derive(Clone, Copy, Debug, PartialEq, Eq)]
 pub struct OwnerCode {
     code: u16,
@@ -118,7 +118,7 @@ impl Model for OwnerCode {
 }
 
 impl OwnerCode {
-    /// This owner.
+    /// Packs an owner.
     pub fn of(owner: Owner) -> OwnerCode
         ensures { result ≡ owner }
     {
@@ -132,7 +132,7 @@ impl OwnerCode {
         }
     }
 
-    /// The owner.
+    /// Returns the owner.
     pub fn get(self) -> Owner
         ensures { result ≡ self }
     {
