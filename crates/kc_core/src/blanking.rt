@@ -22,7 +22,7 @@ fn is_marked(marks: &Marks, owner: Owner) -> bool
 fn blank_marked(page: &mut Page, marks: &Marks)
     ensures { page.new ≡ blank_page marks.now page.old }
 {
-    if is_marked(marks, page.meta.owner.get()) {
+    if is_marked(marks, page.meta.owner) {
         page.bytes.scrub();
     }
 }

@@ -98,7 +98,7 @@ pub fn grants_of(parts: &Parts, config: &Config, frame: u32) -> u32
     ensures { result ≡ (frame_at (state_of config.now parts.now) frame).share }
 {
     match config.frame(frame) {
-        Some(frame) => u32::from(parts.record_of(frame).share),
+        Some(frame) => parts.record_of(frame).share,
         None => 0,
     }
 }

@@ -2,6 +2,7 @@
 ghost use Rattle.std.specs.Prelude.{◌≡◌, ◌+◌, ◌-◌, ◌<◌, ◌==◌, false, if◌then◌else◌, IsSome, IfOk, ◌≤◌, nat_le, is_none};
 ghost use Rattle.kc_types.specs.declared.call.Call.TheVariants.{Grant, Revoke, GrantRange, RevokeRange};
 ghost use Rattle.kc_model.specs.State.{frame_at, mapped_at, with_frame};
+ghost use Rattle.kc_model.specs.Ranged.{IsWord};
 ghost use Rattle.kc_model.specs.Refusals.{refusal, any_from, share_at};
 ghost use Rattle.kc_model.specs.Effects.{granted, revoked};
 ghost use Rattle.kc_parts.specs.Parts.{page_at};
@@ -56,7 +57,7 @@ fn shared_frame(
 /// Grants the host access to a frame once more.
 pub fn grant_frame(parts: &mut Parts, config: &Config, frame: FrameNo)
     requires here { IsSome (page_at parts.old frame) }
-    requires few { (frame_at (state_of config.now parts.old) frame).share < 255 }
+    requires few { IsWord ((frame_at (state_of config.now parts.old) frame).share + 1) }
     requires linked { IsLinked config.now parts.old }
     ensures state { state_of config.now parts.new ≡ with_frame (state_of config.now parts.old) frame (granted (frame_at (state_of config.now parts.old) frame)) }
     ensures linked { IsLinked config.now parts.new }

@@ -33,12 +33,12 @@ fn lines(alloc: Global, core: &KCore, digests: &Digests) -> Result<Vec<FrameLine
     for number in 0..core.config().frames() {
         let meta = core.page_record(number).unwrap();
         lines.push(FrameLine {
-            owner: meta.owner.get(),
-            share: u32::from(meta.share),
-            gfn: meta.gfn.get(),
+            owner: meta.owner,
+            share: meta.share,
+            gfn: meta.gfn,
             present: meta.present,
-            prev: meta.prev.get(),
-            next: meta.next.get(),
+            prev: meta.prev,
+            next: meta.next,
             digest: each[number as usize],
         })?;
     }

@@ -71,8 +71,7 @@ IsHeaderOf number config One = ⊥
 IsHeaderOf number config Two = 2 ^ 32 ≤ number + 1
 IsHeaderOf number config (Three head) = IsHead head × (head.config ≡ config) × (number_of head.position ≡ number + 1) × (head.is_host_redacted ≡ false)
 
--- linearizable: one thread could have made the volume, from a state in which it may start; its header is that of its
--- machine and number. That calls which do not overlap come in the order of time is due to the lock: no clause says it
+-- one thread could have made the volume, from a state in which it may start, and its header is that of its machine and number
 pub record IsLegal (v : VolumeView) : Type 0 where
   pub start : State
   pub may : MayStart v.number start
@@ -161,7 +160,7 @@ abbrev pub moved : Header → Option Position → Header
 moved (Three head) position = header_at head.config position
 moved header position = header
 
--- the header of the volume after one with this header, whose redacted trace has this digest; heads form a hash chain
+-- the header of the volume after one with this header, whose redacted trace has this digest
 abbrev pub next_header : Header → List ℕ → Header
 next_header header digest = moved header (position_after header (Some digest))
 

@@ -94,7 +94,6 @@ pub record IsLawfulSlot (config : Configuration) (slot : Slot) : Type 0 where
   -- an empty slot is as at boot
   pub empty : slot.phase ≡ Empty → slot ≡ empty_slot
 
--- the invariant: every boot state has it, and every call keeps it
 pub record IsLawful (m : State) : Type 0 where
   pub config : IsConfiguration m.config
   pub frames : length m.frames ≡ m.config.frames

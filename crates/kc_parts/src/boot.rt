@@ -7,7 +7,7 @@ ghost use Rattle.kc_vms.specs.Vm.{empty_vm};
 ghost use Rattle.kc_parts.specs.Booting.{boot_link, boot_page, boot_ends};
 
 use kc_page::{Page, PageBytes, PageRecord};
-use kc_types::{Config, Ends, FrameNo, Link, MaybeFrame, MaybeGfn, Memory, OwnerCode};
+use kc_types::{Config, Ends, FrameNo, Link, Memory};
 use kc_vms::Vm;
 use std::alloc::Global;
 
@@ -37,12 +37,12 @@ fn boot_page(alloc: Global, config: &Config, frame: u32) -> Result<Page, Memory>
 {
     let link = boot_link(config, frame);
     let meta = PageRecord {
-        owner: OwnerCode::of(config.owner_at_boot(frame)),
+        owner: config.owner_at_boot(frame),
         share: 0,
+        gfn: None,
         present: false,
-        gfn: MaybeGfn::of(None),
-        prev: MaybeFrame::of(link.prev),
-        next: MaybeFrame::of(link.next),
+        prev: link.prev,
+        next: link.next,
     };
     let bytes = PageBytes::zeroed(alloc)?;
     Ok(Page { meta, bytes })

@@ -1,6 +1,5 @@
 //! Looking up by number: what is not here counts as untouched.
-ghost use Rattle.std.specs.Prelude.{◌≡◌, ◌<◌, not, false, IfOk, Some, None};
-ghost use Rattle.kc_types.specs.declared.owner.Owner.TheVariants.{Core};
+ghost use Rattle.std.specs.Prelude.{◌≡◌, ◌<◌, not, IfOk, Some};
 ghost use Rattle.std.specs.Option.{option_copied};
 ghost use Rattle.kc_types.specs.Configuration.{slot_count};
 ghost use Rattle.kc_types.specs.Refusals.{Answers};
@@ -16,24 +15,18 @@ ghost use Rattle.kc_parts.specs.LookUps.{IsMetaOf};
 
 use crate::Parts;
 use kc_page::PageRecord;
-use kc_types::{
-    Config, FrameNo, Gfn, MaybeFrame, MaybeGfn, Owner, OwnerCode, Phase, Refusal, VcpuId, VmId,
-};
+use kc_types::{Config, FrameNo, Gfn, Owner, Phase, Refusal, VcpuId, VmId};
 use kc_vms::Vm;
 
 /// The record of an untouched frame of the core's.
-fn untouched() -> PageRecord
-    ensures { result ≡ record { owner = Core; share = 0; present = false; gfn = None; prev = None; next = None } }
-{
-    PageRecord {
-        owner: OwnerCode::of(Owner::Core),
-        share: 0,
-        present: false,
-        gfn: MaybeGfn::of(None),
-        prev: MaybeFrame::of(None),
-        next: MaybeFrame::of(None),
-    }
-}
+const UNTOUCHED: PageRecord = PageRecord {
+    owner: Owner::Core,
+    share: 0,
+    gfn: None,
+    present: false,
+    prev: None,
+    next: None,
+};
 
 impl Parts {
     /// The record of a frame.
@@ -42,7 +35,7 @@ impl Parts {
     {
         match self.try_page(frame) {
             Some(page) => page.meta,
-            None => untouched(),
+            None => UNTOUCHED,
         }
     }
 

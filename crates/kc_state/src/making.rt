@@ -1,7 +1,7 @@
 //! Making a core from its description.
-ghost use Rattle.std.specs.Prelude.{◌≡◌, ◌≤◌, ◌<◌, ℕ, [], length, map, vec_capacity, IfOk, IfErr};
+ghost use Rattle.std.specs.Prelude.{◌≡◌, ◌≤◌, ◌<◌, [], length, map, vec_capacity, IfOk, IfErr};
 ghost use Rattle.std.specs.List.{range_with_len};
-ghost use Rattle.kc_types.specs.Limits.{leaf_limit, share_limit};
+ghost use Rattle.kc_types.specs.Limits.{leaf_limit};
 ghost use Rattle.kc_vms.specs.Stage2.{AreMappings};
 ghost use Rattle.kc_vms.specs.Vm.{IsSlot};
 ghost use Rattle.kc_dump.specs.Dump.{line_at};
@@ -19,7 +19,7 @@ use kc_digests::Lanes;
 use kc_dump::{Dump, FrameLine, SlotDump};
 use kc_page::{Page, PageBytes, PageRecord};
 use kc_parts::Parts;
-use kc_types::{Config, MaybeFrame, MaybeGfn, Memory, OwnerCode};
+use kc_types::{Config, Memory};
 use kc_vms::{Stage2, Vm};
 use std::alloc::Global;
 use std::thread::Threads;
@@ -59,16 +59,15 @@ fn make_slots(alloc: Global, dump: &Dump, rests: &[SlotRest]) -> Result<Vec<Opti
 
 /// Makes the page of these bytes, with the record that the dump shows.
 fn make_page(line: &FrameLine, bytes: PageBytes) -> Page
-    requires { line.now.share ≤ share_limit }
     ensures { result ≡ page_told line.now bytes }
 {
     let meta = PageRecord {
-        owner: OwnerCode::of(line.owner),
-        share: line.share as u8,
+        owner: line.owner,
+        share: line.share,
+        gfn: line.gfn,
         present: line.present,
-        gfn: MaybeGfn::of(line.gfn),
-        prev: MaybeFrame::of(line.prev),
-        next: MaybeFrame::of(line.next),
+        prev: line.prev,
+        next: line.next,
     };
     Page { meta, bytes }
 }
@@ -78,7 +77,6 @@ fn make_pages(lines: &[FrameLine], bytes: Vec<PageBytes>, mut pages: Vec<Page>) 
     requires count { length bytes.items ≡ length lines.now }
     requires none { pages.items ≡ [] }
     requires room { length lines.now ≤ vec_capacity pages }
-    requires shares { (f : ℕ) → f < length lines.now → (line_at lines.now f).share ≤ share_limit }
     ensures { result.items ≡ map (λ f. page_told (line_at lines.now f) (page_of bytes.items f)) (range_with_len 0 (length lines.now)) }
 {
     let mut rest = bytes.into_iter();

@@ -8,7 +8,7 @@ use Rattle.kc_core.proofs.hand.hand.Goals as goal
 use Rattle.kc_core.proofs.hand.hand.Goals.{After-page_mut-page}
 
 handing : (c : After-page_mut-page) → IsHanding c.args.config.now c.args.parts.now c.args.vm c.args.gfn c.args.frame c.slot_mut-slot.result.now c.map.new.self c.page_mut-page.result.now
-    (record c.page_mut-page.result.now { meta = record c.page_mut-page.result.now.meta { owner = c.of-owner.result; gfn = c.of-place.result; present = false } })
+    (record c.page_mut-page.result.now { meta = record c.page_mut-page.result.now.meta { owner = Vm c.args.vm; gfn = Some c.args.gfn; present = false } })
 handing c = record {
   linked = c.requires.linked;
   low = c.requires.exists;
@@ -17,7 +17,7 @@ handing c = record {
   host = c.requires.host;
   maps = rw (c.unwrap.ensures, c.table_mut.ensures.value) at c.map.ensures.ok;
   same = refl;
-  to = rw (c.of-owner.ensures, c.of-place.ensures) refl;
+  to = refl;
 }
 
 pub unwrap-requires : goal.unwrap-requires
