@@ -55,7 +55,7 @@ MISTAKES = (
     Mistake("scripts", "docs/FLEET.md", "fleet/audit --by parallel", "fleet/audit --using parallel"),
     Mistake("crates", "crates.txt", "kc_config_text: kc_types", "kc_config_text: kc_lines"),
     Mistake("crates", "docs/MAP.md", "| `kc_state_text` |", "| `kc_states_text` |"),
-    Mistake("crates", "docs/MAP.md", "kc_custody  kc_html", "kc_custody"),
+    Mistake("crates", "docs/MAP.md", "kc_svg  kc_html", "kc_svg"),
     Mistake("trusted crates", "docs/CONTRACTS.md", "| `kc_state`, `kc_state_text` |", "| `kc_state_text` |"),
     Mistake("trusted crates", "docs/ASSURANCE.md", "`serde_json`, `sha2` (its", "`serde_json` (its"),
     Mistake("third parties", "docs/THIRD_PARTY.md", "| `memchr` |", "| `memory` |"),
