@@ -91,6 +91,8 @@ MISTAKES = (
     Mistake("tests", "crates/kc_waves/src/lib.rt", "//!", "//"),
     Mistake("lengths", "docs/MAP.md", "present", "present " * 400),
     Mistake("lengths", "docs/CONTRACTS.md", "| `kc_page`, `PageBytes`", f"| {'pages ' * 60}`kc_page`, `PageBytes`"),
+    Mistake("words", "docs/MAP.md", "is held until", "stands until"),
+    Mistake("words", "docs/TOUR.md", "a frame", "also a frame, " * 9),
     Mistake("functions", "docs/EMBED.md", "| `kcore_turn` |", "| `kcore_next` |"),
     Mistake("functions", "include/kcore.h", "uint32_t kcore_turn(", "uint32_t kcore_next("),
     Mistake("the first table", "README.md", "`refused not-present`", "`refused protected`"),
