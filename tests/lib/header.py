@@ -6,7 +6,7 @@ import pathlib
 import re
 import sys
 
-CRATE = pathlib.Path(__file__).resolve().parent.parent / "crates" / "kcore_c" / "src"
+CRATE = pathlib.Path(__file__).resolve().parents[2] / "crates" / "kcore_c" / "src"
 # What C passes for a parameter of each type. The allocator is the library's own; a slice is a pointer and a length.
 PARAMETERS = {
     "Global": [],

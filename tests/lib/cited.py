@@ -179,7 +179,7 @@ def words_of_code(tree):
     """Every word of the code: sources without their heads, definitions, proofs and scripts, except the one with the
     mistakes."""
     folders = "crates", "tests", "bench", "bin", "fleet", "include", "completions", "stories"
-    files = [file for folder in folders for file in tree.below(folder) if file != "tests/mistakes.py"]
+    files = [file for folder in folders for file in tree.below(folder) if file != "tests/lib/mistakes.py"]
     texts = [HEAD.sub("", tree.text(file)) for file in files if not file.endswith(".md")]
     return set(tree.crates).union(*map(words_of, texts))
 

@@ -114,10 +114,10 @@ def check_calls(tree):
     cited = {name.rpartition("/")[2] for name in QUOTED.findall(adding)}
     yield "docs/ADDING.md: each file that knows its example by name", differing(files_with(tree, "Revoke") - cited, ())
     yield "kc_explain: each call with its words", differing(explained(tree), counted)
-    forms = re.findall(r'"(\w+)((?: \{\w+\})*)"', tree.text("tests/calls.py"))
+    forms = re.findall(r'"(\w+)((?: \{\w+\})*)"', tree.text("tests/lib/calls.py"))
     known = {f"{name} {words.count('{')}" for name, words in forms}
-    yield "tests/calls.py: each call with its words", differing(known & counted, counted)
-    yield "tests/rules.py: each call", differing(words_of(tree.text("tests/rules.py")) & set(calls), calls)
+    yield "tests/lib/calls.py: each call with its words", differing(known & counted, counted)
+    yield "tests/lib/rules.py: each call", differing(words_of(tree.text("tests/lib/rules.py")) & set(calls), calls)
 
 
 def files_with(tree, variant):

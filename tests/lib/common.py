@@ -10,7 +10,7 @@ import subprocess
 import sys
 import tempfile
 
-TOP = pathlib.Path(__file__).resolve().parent.parent
+TOP = pathlib.Path(__file__).resolve().parents[2]
 WORK = TOP / "bench" / "work"
 # By its full path: the folder of a link is not the script's, and CDPATH does not matter.
 PROGRAM = os.environ.get("KCORE") or subprocess.check_output([TOP / "bin" / "program"], text=True).strip()

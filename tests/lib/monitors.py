@@ -74,7 +74,7 @@ def is_made(results, folder, made_by=None, sources=EXAMPLE):
 def make_small(folder, sources):
     """Makes the image of a guest that boots as Linux does, with a small kernel, which does not read its initramfs."""
     linked = "-Wl,--oformat=binary,-Ttext=0,-e,0,--build-id=none"
-    words = ["cc", "-nostdlib", "-static", linked, "-o", folder / "small", TOP / "tests" / "kernel.S"]
+    words = ["cc", "-nostdlib", "-static", linked, "-o", folder / "small", TOP / "tests" / "c" / "kernel.S"]
     subprocess.run(words, check=True)
     (folder / "initial").write_bytes(b"initial files" * 8)
     files = [folder / name for name in ("loader", "small", "initial", "linux")]
