@@ -3,7 +3,7 @@ what is said of a trace that may not come where it is."""
 import hashlib
 
 import calls
-from rules import FRAMES, SLOTS
+from rules import LIMITS
 
 NUMBERS = 2 ** 32
 # What is known of the trace that goes on from a start or a volume: nothing, or that it is the first.
@@ -35,7 +35,7 @@ class Headed:
         self.is_host_redacted = is_host_redacted
 
     def head(self):
-        sizes = self.config["version"], SLOTS[self.config["version"]], *(self.config[part] for part in PARTS[1:5])
+        sizes = self.config["version"], LIMITS[self.config["version"]].slots, *(self.config[part] for part in PARTS[1:5])
         approved = self.config["approved"]
         words = " ".join(map(str, [*sizes, len(approved)]))
         last = self.position.line() + (" host-redacted" if self.is_host_redacted else "")
@@ -118,7 +118,7 @@ def other_machine(rng, config):
     other, part = dict(config), rng.choice(PARTS)
     if part == "version":
         other["version"] = 3 - config["version"]
-        if config["frames"] > FRAMES[other["version"]]:
+        if config["frames"] > LIMITS[other["version"]].frames:
             return other_machine(rng, config)
     elif part == "approved":
         other["approved"] = config["approved"][1:] if config["approved"] and rng.random() < 0.5 else [*config["approved"], digits(rng)][-64:]
@@ -126,7 +126,8 @@ def other_machine(rng, config):
         step = rng.choice([-1, 1])
         other[part] = config[part] + step
         least = {"frames": max(1, config["core"] + config["host"]), "core": 0, "host": 0, "leaves": 1}[part]
-        most = {"frames": FRAMES[config["version"]], "leaves": 64}.get(part, config["frames"] - config["core"] - config["host"] + config[part])
+        limits = LIMITS[config["version"]]
+        most = {"frames": limits.frames, "leaves": limits.leaves}.get(part, config["frames"] - config["core"] - config["host"] + config[part])
         if not least <= other[part] <= most:
             return other_machine(rng, config)
     return other if other != config else other_machine(rng, config)

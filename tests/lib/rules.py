@@ -3,11 +3,26 @@ what custody, a summary and a dump say of it."""
 import hashlib
 import json
 import operator
+import typing
 
 import calls
 
-PAGE, GUEST_FRAMES, IMAGE_BYTES, LEAF, SHARES, RANGE = 4096, 262144, 1048576, 512, 100, 64
-SLOTS, FRAMES = {1: 16, 2: 64}, {1: 8192, 2: 65536}
+PAGE, LEAF, SHARES, RANGE, DIGESTS = 4096, 512, 100, 64, 64
+
+
+class Limits(typing.NamedTuple):
+    """What a version of the rules allows: how many frames a machine has at most, how many slots, and of a slot how many
+    virtual processors, guest frames, leaf tables and images, and how many bytes of one."""
+    frames: int
+    slots: int
+    vcpus: int
+    gfns: int
+    leaves: int
+    images: int
+    image_bytes: int
+
+
+LIMITS = {1: Limits(8192, 16, 8, 262144, 64, 4, 1048576), 2: Limits(65536, 64, 8, 262144, 64, 4, 1048576)}
 # The options that ask for more than custody.
 REMARKS = "--refused", "--accesses"
 # The version that the first line of custody names.
@@ -237,12 +252,12 @@ class Core:
     """The rules: what is kept, why a call is refused, what it does."""
 
     def __init__(self, config):
-        self.config = config
+        self.config, self.limits = config, LIMITS[config["version"]]
         owners = ["core"] * config["core"] + ["host"] * config["host"]
         owners += ["free"] * (config["frames"] - len(owners))
         self.noted = set()
         self.frames = [Frame(f, owner, self.noted) for f, owner in enumerate(owners)]
-        self.slots = [Slot() for _ in range(SLOTS[config["version"]])]
+        self.slots = [Slot() for _ in range(self.limits.slots)]
         self.free = [f for f, owner in enumerate(owners) if owner == "free"]
 
     def answer(self, line):
@@ -255,9 +270,9 @@ class Core:
 
     # Conditions: each is a function, and the name of the refusal.
     def bad_vm(self, v): return lambda: v >= len(self.slots), "bad-vm"
-    def bad_vcpu(self, c): return lambda: c > 7, "bad-vcpu"
+    def bad_vcpu(self, c): return lambda: c >= self.limits.vcpus, "bad-vcpu"
     def bad_frame(self, f): return lambda: f >= len(self.frames), "bad-frame"
-    def bad_gfn(self, g, n=1): return lambda: g >= GUEST_FRAMES or g + n > GUEST_FRAMES, "bad-gfn"
+    def bad_gfn(self, g, n=1): return lambda: g >= self.limits.gfns or g + n > self.limits.gfns, "bad-gfn"
     def bad_range(self, offset, length): return lambda: length == 0 or offset + length > PAGE, "bad-range"
     def no_vm(self, v): return lambda: self.slots[v].phase == "empty", "no-vm"
     def not_in(self, v, phase): return lambda: self.slots[v].phase != phase, "wrong-phase"
@@ -351,8 +366,10 @@ class Core:
     def setboot(self, v, base, length):
         pages, images = pages_of(length), lambda: self.slots[v].images
         meets = lambda: any(base < first + pages_of(size) and first < base + pages for first, size, _ in images())
-        ask(self.bad_vm(v), self.bad_gfn(base, pages), (lambda: length == 0 or length > IMAGE_BYTES, "bad-range"),
-            self.no_vm(v), self.not_in(v, "booting"), (lambda: len(images()) >= 4, "images-full"), (meets, "overlap"))
+        is_odd = lambda: length == 0 or length > self.limits.image_bytes
+        is_full = lambda: len(images()) >= self.limits.images
+        ask(self.bad_vm(v), self.bad_gfn(base, pages), (is_odd, "bad-range"), self.no_vm(v), self.not_in(v, "booting"),
+            (is_full, "images-full"), (meets, "overlap"))
         self.slots[v].images.append([base, length, 0])
         return f"image {len(self.slots[v].images) - 1}"
 

@@ -5,9 +5,10 @@ says it."""
 import operator
 import re
 
-from rules import FRAMES, GUEST_FRAMES, IMAGE_BYTES, LEAF, PAGE, SHARES, SLOTS, ZERO_PAGE, ZEROS, digest_of_page
+from rules import DIGESTS, LEAF, LIMITS, PAGE, SHARES, ZERO_PAGE, ZEROS, digest_of_page
 
-VCPUS, IMAGES, LEAVES, DIGESTS = 8, 4, 64, 64
+# What the lines before the dump, whose header says the version, may have.
+LARGEST = LIMITS[2]
 DIGEST, DIGITS = re.compile("[0-9a-f]{64}"), re.compile("[0-9a-f]{%d}" % (2 * PAGE))
 NUMERAL = re.compile("0|[1-9][0-9]{0,9}")
 PHASES, OWNERS = ("empty", "booting", "active", "dead"), ("core", "host", "free")
@@ -23,7 +24,7 @@ def state_text(core):
     lines.append("config %d %d %d %d" % (len(core.slots), len(core.frames), config["host"], len(config["approved"])))
     lines += ["approved " + digest for digest in config["approved"]]
     for slot in core.slots:
-        waits = [slot.vcpus.get(c, "-") for c in range(VCPUS)]
+        waits = [slot.vcpus.get(c, "-") for c in range(core.limits.vcpus)]
         words = ["." if gfn is None else str(gfn) for gfn in waits] + [str(number) for image in slot.images for number in image]
         lines.append(" ".join(["slot"] + words))
     lines += ["page " + ("-" if frame.page == ZERO_PAGE else frame.page.hex()) for frame in core.frames]
@@ -59,7 +60,7 @@ def numbers_of(words, limit=2 ** 32):
 def sizes_of(words):
     """How many slots, frames, host frames at boot and approved digests there are: no more than a configuration has."""
     numbers = numbers_of(words) if len(words) == 4 else None
-    limits = SLOTS[2], FRAMES[2], FRAMES[2], DIGESTS
+    limits = LARGEST.slots, LARGEST.frames, LARGEST.frames, DIGESTS
     return numbers if numbers and all(map(operator.le, numbers, limits)) else None
 
 
@@ -69,10 +70,10 @@ def digest_of(words):
 
 def slot_of(words):
     """The virtual processors of a slot and its images."""
-    waits, numbers = words[:VCPUS], numbers_of(words[VCPUS:])
-    if len(waits) < VCPUS or numbers is None or len(numbers) % 3 or len(numbers) > 3 * IMAGES:
+    waits, numbers = words[:LARGEST.vcpus], numbers_of(words[LARGEST.vcpus:])
+    if len(waits) < LARGEST.vcpus or numbers is None or len(numbers) % 3 or len(numbers) > 3 * LARGEST.images:
         return None
-    if any(word not in ("-", ".") and number_of(word, GUEST_FRAMES) is None for word in waits):
+    if any(word not in ("-", ".") and number_of(word, LARGEST.gfns) is None for word in waits):
         return None
     return waits, [tuple(numbers[at:at + 3]) for at in range(0, len(numbers), 3)]
 
@@ -128,9 +129,10 @@ class Parsed:
         self.rests = [lines.take("slot", slot_of) for _ in range(slots)]
         self.pages = [lines.take("page", page_of) for _ in range(frames)]
         self.version = lines.take("kcore-dump", lambda words: {"1": 1, "2": 2}.get(words[0]) if len(words) == 1 else None)
+        self.limits = LIMITS[self.version]
         self.size, self.core, self.leaves = lines.take("size", self.size_of)
         self.free = lines.take("free", self.ends_of)
-        self.vms = [lines.take("vm", lambda words, v=v: self.vm_of(v, words)) for v in range(SLOTS[self.version])]
+        self.vms = [lines.take("vm", lambda words, v=v: self.vm_of(v, words)) for v in range(self.limits.slots)]
         self.roots, self.entries = ([[] for _ in self.vms] for _ in range(2))
         self.take_leaves(lines)
         self.take_entries(lines)
@@ -140,7 +142,8 @@ class Parsed:
 
     def size_of(self, words):
         numbers = numbers_of(words) if len(words) == 3 else None
-        is_well = numbers and 0 < numbers[0] <= FRAMES[self.version] and numbers[1] <= numbers[0] and 0 < numbers[2] <= LEAVES
+        most = self.limits
+        is_well = numbers and 0 < numbers[0] <= most.frames and numbers[1] <= numbers[0] and 0 < numbers[2] <= most.leaves
         return numbers if is_well else None
 
     def frame_or_dash(self, word):
@@ -177,7 +180,7 @@ class Parsed:
         least = (0, 0)
         while lines.words() and lines.words()[0] == "entry":
             words = numbers_of(lines.words()[1:])
-            if not words or len(words) != 3 or words[0] >= len(self.vms) or words[1] >= GUEST_FRAMES or words[2] >= self.size:
+            if not words or len(words) != 3 or words[0] >= len(self.vms) or words[1] >= self.limits.gfns or words[2] >= self.size:
                 raise lines.bad()
             if tuple(words[:2]) < least:
                 raise lines.bad()
@@ -191,7 +194,7 @@ class Parsed:
             return None
         owner = words[1] if words[1] in OWNERS else number_of(words[1], len(self.vms))
         share, before, after = number_of(words[2], SHARES + 1), self.frame_or_dash(words[5]), self.frame_or_dash(words[6])
-        gfn = [None] if words[3] == "-" else [number_of(words[3], GUEST_FRAMES)]
+        gfn = [None] if words[3] == "-" else [number_of(words[3], self.limits.gfns)]
         if owner is None or share is None or before is None or after is None or (gfn[0] is None and words[3] != "-"):
             return None
         return int(words[0]), (owner, share, gfn[0], words[4] == "1", before[0], after[0], words[7])
@@ -256,13 +259,13 @@ def is_slot(said, v):
     """Whether a lawful state may have this slot."""
     phase, (waits, images) = said.vms[v][0], said.rests[v]
     if phase == "empty":
-        return waits == ["-"] * VCPUS and not images
+        return waits == ["-"] * said.limits.vcpus and not images
     if phase != "active" and any(word not in ("-", ".") for word in waits):
         return False
     spans = []
     for base, length, pages in images:
         most = (length + PAGE - 1) // PAGE
-        if not 0 < length <= IMAGE_BYTES or base + most > GUEST_FRAMES or pages > most:
+        if not 0 < length <= said.limits.image_bytes or base + most > said.limits.gfns or pages > most:
             return False
         if any(base < end and start < base + most for start, end in spans):
             return False

@@ -4,7 +4,7 @@ import json
 
 import calls
 from common import TOP
-from rules import DEFAULT, FRAMES, GUEST_FRAMES, IMAGE_BYTES, PAGE, RANGE, SHARES, SLOTS, Core, pages_of
+from rules import DEFAULT, LIMITS, PAGE, RANGE, SHARES, Core, pages_of
 
 LENGTHS = [1, 3, 4095, 4096, 4097, 8192]
 APPROVED = [b"abc"] + [bytes(length) for length in LENGTHS if length != 4095]
@@ -79,9 +79,9 @@ def any_call(rng, core):
         return rng.choice([*near, rng.randrange(2 ** 32), 2 ** 32 - 1])
 
     words = {"v": some(len(core.slots)), "c": some(8), "f": some(len(core.frames))}
-    words |= {"g": rng.choice([some(GUEST_FRAMES), some(1024)]), "i": some(4)}
+    words |= {"g": rng.choice([some(LIMITS[2].gfns), some(1024)]), "i": some(4)}
     words |= {"offset": some(PAGE), "length": some(PAGE)}
-    words |= {"data": random_bytes(rng, rng.choice([1, 2, PAGE])).hex(), "size": some(IMAGE_BYTES + 1)}
+    words |= {"data": random_bytes(rng, rng.choice([1, 2, PAGE])).hex(), "size": some(LIMITS[2].image_bytes + 1)}
     lines = calls.lines(**words)
     if core.config["calls_on_ranges"]:
         lines += calls.range_lines(some(RANGE + 1), some(RANGE + 1), **words)
@@ -120,7 +120,7 @@ def boots_case(rng, count=None):
         version, free = 2, count - host - 1
     config = {"version": version, "frames": 1 + host + free, "core": 1, "host": host, "leaves": rng.choice([2, 64])}
     config |= {"approved": [], "calls_on_ranges": rng.random() < 0.6}
-    frames, slots, boots = rng.sample(range(1, 1 + host), host), rng.sample(range(SLOTS[version]), len(sizes) + 1), []
+    frames, slots, boots = rng.sample(range(1, 1 + host), host), rng.sample(range(LIMITS[version].slots), len(sizes) + 1), []
     for v, size in zip(slots, sizes):
         lines, digests = boot_of(rng, v, [frames.pop() for _ in range(size)])
         boots.append((v, lines))
@@ -182,7 +182,7 @@ def random_case(rng):
 
 def large_boots_case(rng):
     """The same as boots_case, in a core with the most frames that there may be."""
-    return boots_case(rng, FRAMES[2])
+    return boots_case(rng, LIMITS[2].frames)
 
 
 def shares_case():
@@ -202,7 +202,8 @@ def slot_of(rng, lines, most=64):
 def has_actors(config, lines):
     """Whether a live run may have these calls: the actor of each exists."""
     actors = filter(None, map(calls.actor_of, lines))
-    return all(int(v) < SLOTS[config["version"]] and int(c) < 8 for v, c in actors)
+    limits = LIMITS[config["version"]]
+    return all(int(v) < limits.slots and int(c) < limits.vcpus for v, c in actors)
 
 
 # Of how many lines an example is at most that the rules in Python follow line by line.
