@@ -2,13 +2,13 @@
 ghost use Rattle.std.specs.Prelude.{◌≡◌, ◌≤◌, map, IfOk};
 ghost use Rattle.std.specs.List.{range_with_len, filter_map};
 ghost use Rattle.std.specs.Option.{option_to_list};
-ghost use Rattle.kc_types.specs.Limits.{range_limit};
+ghost use Rattle.kc_types.specs.Limits.{range_limit, gfn_limit};
 ghost use Rattle.kc_model.specs.State.{slot_at, mapped_at};
 ghost use Rattle.kc_model.specs.Lawful.{IsLawful};
 ghost use Rattle.kc_custody.specs.Movable.{movable, listed_of, mapped_in};
 
 use kc_core::KCore;
-use kc_types::{Call, Config, FrameNo, Memory, Owner, RANGE_LIMIT};
+use kc_types::{Call, Config, FrameNo, GFN_LIMIT, Memory, Owner, RANGE_LIMIT};
 use std::alloc::Global;
 
 /// A frame, or none.
@@ -33,11 +33,10 @@ fn named(alloc: Global, frame: u32) -> Result<Vec<u32>, Memory>
 
 /// The frames that are mapped at some guest frames.
 fn in_range(alloc: Global, core: &KCore, vm: u32, gfn: u32, count: u32) -> Result<Vec<u32>, Memory>
-    ensures { IfOk result (λ frames. frames.items ≡ mapped_in core.now.state vm gfn count) }
+    ensures { IfOk result (λ frames. frames.items ≡ mapped_in core.now vm gfn count) }
 {
     let mut frames = Vec::new(alloc);
-    let gfns = core.config().version().gfns();
-    if count > RANGE_LIMIT || gfn >= gfns {
+    if count > RANGE_LIMIT || gfn >= GFN_LIMIT {
         return Ok(frames);
     }
     for i in 0..count {
@@ -50,8 +49,8 @@ fn in_range(alloc: Global, core: &KCore, vm: u32, gfn: u32, count: u32) -> Resul
 
 /// The frames of a slot that exists.
 fn of_slot(alloc: Global, core: &KCore, config: &Config, vm: u32) -> Result<Vec<u32>, Memory>
-    requires { config.now ≡ core.now.state.config }
-    ensures { IfOk result (λ frames. frames.items ≡ listed_of core.now.state vm) }
+    requires { config.now ≡ core.now.config }
+    ensures { IfOk result (λ frames. frames.items ≡ listed_of core.now vm) }
 {
     match config.vm(vm) {
         Some(vm) => {
@@ -64,8 +63,8 @@ fn of_slot(alloc: Global, core: &KCore, config: &Config, vm: u32) -> Result<Vec<
 
 /// The frames whose custody a call may change; some may not exist, or be there twice.
 pub(crate) fn movable(alloc: Global, core: &KCore, call: &Call) -> Result<Vec<u32>, Memory>
-    ensures frames { IfOk result (λ frames. frames.items ≡ movable core.now.state call.now) }
-    ensures lawful { IsLawful core.now.state }
+    ensures frames { IfOk result (λ frames. frames.items ≡ movable core.now call.now) }
+    ensures lawful { IsLawful core.now }
 {
     let config = core.config();
     match call {

@@ -1,4 +1,5 @@
 mod Spelled
+pub mod Limits
 pub mod ReadWords
 pub mod ReadLines
 mod Chains

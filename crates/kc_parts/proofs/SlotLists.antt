@@ -11,7 +11,7 @@ use Rattle.kc_types.specs.declared.resource.Resource.{Resource}
 use Rattle.kc_types.specs.declared.resource.Resource.TheVariants as resource
 use Rattle.kc_model.specs.Lawful.{times_in}
 use Rattle.kc_model.specs.State.{Frame}
-use Rattle.kc_vms.specs.Vm.{VmSlot, Capacity, capacity_of}
+use Rattle.kc_vms.specs.Vm.{VmSlot}
 use Rattle.kc_model.specs.Effects.{without}
 use Rattle.kc_links.proofs.Others.{without-same, without-other}
 use Rattle.kc_links.specs.Chain.{unlinked}
@@ -21,7 +21,7 @@ use Rattle.kc_parts.specs.States.{frame_in, slot_in, unlinked_slot, owner_at, he
 use Rattle.kc_parts.specs.Linking.{IsSameRest}
 use Rattle.kc_parts.proofs.Moving.{same_or_other, lists-moved, lists-same}
 use Rattle.kc_parts.proofs.Relinked.{frames-stay, vms-stay, here-stays, free-stays, slot-stays, absent-others, away-stays}
-use Rattle.kc_parts.proofs.Seen.{table-same, table-set, room-kept}
+use Rattle.kc_parts.proofs.Seen.{table-same, table-set}
 use Rattle.kc_parts.proofs.SlotChanges.{vm-set, vm-other, here-vm}
 
 other-slot : (v w : ℕ) → w ≢ v → Vm w ≢ Vm v
@@ -65,22 +65,21 @@ module _ (old mid : Held) (v : ℕ) (vm : VmSlot) (e' : Ends) (frames : List ℕ
   owners-same : (f : ℕ) → owner_at moved f ≡ owner_at old f
   owners-same f = ap (λ (frame : Frame). frame.owner) (frames-stay old mid (Vm v) frames rest are keeps owned f)
 
-  capacity-same : (w : ℕ) (there : VmSlot) → vm_at moved w ≡ Some there → (n : Capacity) → ((u : ℕ) (was : VmSlot) → vm_at old u ≡ Some was → was.capacity ≡ n) → there.capacity ≡ n
+  capacity-same : (w : ℕ) (there : VmSlot) → vm_at moved w ≡ Some there → (n : ℕ) → ((u : ℕ) (was : VmSlot) → vm_at old u ≡ Some was → was.capacity ≡ n) → there.capacity ≡ n
   capacity-same w there is n capacities = elim (cases_eq w v) [
     | inl same ↦ sym (ap capacity-in (sym at-moved ∙ ap (vm_at moved) (sym same) ∙ is)) ∙ capacities v vm at
     | inr other ↦ capacities w there (sym (vms-others w other) ∙ is)
   ]
     where
-      capacity-in : Option VmSlot → Capacity
+      capacity-in : Option VmSlot → ℕ
       capacity-in (Some vm) = vm.capacity
-      capacity-in None = vm.capacity
+      capacity-in None = 0
 
   pub slot-moved : IsList (links_of mid) e' → ((f : ℕ) → 0 < times_in (listed (links_of mid) e') f → 0 < times_in frames f) → IsSlotMove v old moved
   slot-moved list within = record {
     numbers = rest.numbers;
     slots = ap (λ (vms : HeldSlots). vms.numbers) rest.vms;
     filled = rest.filled;
-    reserved = rest.reserved;
     here = here-all;
     owners = owners-same;
     away = away-stays old mid (Vm v) frames rest are keeps owned (ap is_none at);
@@ -93,10 +92,9 @@ module _ (old mid : Held) (v : ℕ) (vm : VmSlot) (e' : Ends) (frames : List ℕ
     };
     linked = λ config linked. record {
       frames = λ f here. linked.frames f (sym (here-all (resource.Frame f)) ∙ here);
-      vms = λ w there is. capacity-same w there is (capacity_of config) linked.vms;
+      vms = λ w there is. capacity-same w there is config.leaves linked.vms;
       lists = lists-same (links_of mid) (links_of mid) (ends_at moved) (ends_at moved) (owner_at old) (owner_at moved) refl (λ p. refl) owners-same
           (lists-moved (links_of old) (links_of mid) (ends_at old) (ends_at moved) (owner_at old) (Vm v) frames are keeps owned e' (ap (option_map (λ (vm : VmSlot). vm.slot.frames)) at-moved) ends-others (λ is. cc) list within);
-      room = room-kept old moved rest.reserved rest.sparse linked.room;
     };
   }
     where

@@ -6,16 +6,16 @@ use Rattle.kc_types.specs.declared.link.Ends.{Ends}
 use Rattle.kc_types.specs.declared.owner.Owner.{Owner}
 use Rattle.kc_types.specs.declared.owner.Owner.TheVariants.{Core, Host, Free, Vm}
 use Rattle.kc_types.specs.declared.resource.Resource.TheVariants as resource
-use Rattle.kc_model.specs.State.{State, Frame, Slot, untouched, no_slot, with_slot}
+use Rattle.kc_model.specs.State.{State, Frame, Slot, untouched, empty_slot, with_slot}
 use Rattle.kc_model.specs.Resources.{Resource, Resources}
 use Rattle.kc_model.specs.Lawful.{times_in}
 use Rattle.kc_model.specs.Linked.{LinkedSlot}
 use Rattle.kc_page.specs.declared.page.Page.{Page}
 use Rattle.kc_page.specs.Page.{frame_of}
-use Rattle.kc_vms.specs.Vm.{VmSlot, capacity_of}
+use Rattle.kc_vms.specs.Vm.{VmSlot}
 use Rattle.kc_links.specs.Chain.{Links, unlinked}
 use Rattle.kc_links.specs.Ending.{listed, IsList}
-use Rattle.kc_parts.specs.Parts.{Held, is_sparse, page_at, vm_at, links_of, ends_at}
+use Rattle.kc_parts.specs.Parts.{Held, page_at, vm_at, links_of, ends_at}
 
 abbrev pub frame_in : Option Page → Frame
 frame_in (Some page) = frame_of page
@@ -32,7 +32,7 @@ unlinked_slot slot frames = record { phase = slot.phase; vcpus = slot.vcpus; ima
 
 abbrev pub slot_in : Links → Option VmSlot → Slot
 slot_in links (Some vm) = unlinked_slot vm.slot (listed links vm.slot.frames)
-slot_in links None = no_slot
+slot_in links None = empty_slot
 
 abbrev pub state_of : Configuration → Held → State
 state_of config h = record {
@@ -71,16 +71,11 @@ pub record AreLists (links : Links) (ends_at : Owner → Option Ends) (owner_at 
   -- the host's frames are in no list
   pub alone : (f : ℕ) → owner_at f ≡ Host → links f ≡ Some unlinked
 
--- reserved parts have memory for each page that is here
-abbrev pub HasRoom : Held → Type 0
-HasRoom h = h.is_reserved ≡ true → (f : ℕ) → is_sparse (page_at h f) ≡ false
-
--- the parts fit the configuration, their links and ends are those of lists, and they have memory if they are reserved
+-- the parts fit the configuration, and their links and ends are those of lists
 pub record IsLinked (config : Configuration) (h : Held) : Type 0 where
   pub frames : (f : ℕ) → is_some (page_at h f) ≡ true → f < config.frames
-  pub vms : (v : ℕ) (vm : VmSlot) → vm_at h v ≡ Some vm → vm.capacity ≡ capacity_of config
+  pub vms : (v : ℕ) (vm : VmSlot) → vm_at h v ≡ Some vm → vm.capacity ≡ config.leaves
   pub lists : AreLists (links_of h) (ends_at h) (owner_at h)
-  pub room : HasRoom h
 
 -- the free list, if its ends are here
 abbrev pub free_of : Held → List ℕ
@@ -96,7 +91,6 @@ pub record IsFreeMove (old new : Held) : Type 0 where
   pub numbers : new.numbers ≡ old.numbers
   pub slots : new.vms.numbers ≡ old.vms.numbers
   pub filled : new.filled ≡ old.filled
-  pub reserved : new.is_reserved ≡ old.is_reserved
   pub here : (r : Resource) → here_of new r ≡ here_of old r
   pub owners : (f : ℕ) → owner_at new f ≡ owner_at old f
   pub away : (f : ℕ) → is_away old f ≡ true → links_of new f ≡ links_of old f
@@ -112,7 +106,6 @@ pub record IsSlotMove (v : ℕ) (old new : Held) : Type 0 where
   pub numbers : new.numbers ≡ old.numbers
   pub slots : new.vms.numbers ≡ old.vms.numbers
   pub filled : new.filled ≡ old.filled
-  pub reserved : new.is_reserved ≡ old.is_reserved
   pub here : (r : Resource) → here_of new r ≡ here_of old r
   pub owners : (f : ℕ) → owner_at new f ≡ owner_at old f
   pub away : (f : ℕ) → is_away old f ≡ true → links_of new f ≡ links_of old f

@@ -3,12 +3,11 @@ ghost use Rattle.std.specs.Prelude.{◌≡◌, ◌<◌, ◌≤◌, length, map, 
 ghost use Rattle.std.specs.List.{range_with_len};
 ghost use Rattle.kc_types.specs.Configuration.{IsConfiguration, slot_count};
 ghost use Rattle.kc_types.specs.Limits.{slot_limit};
-ghost use Rattle.kc_model.specs.State.{zero_page};
-ghost use Rattle.kc_vms.specs.Vm.{capacity_of, empty_vm};
+ghost use Rattle.kc_vms.specs.Vm.{empty_vm};
 ghost use Rattle.kc_parts.specs.Booting.{boot_link, boot_page, boot_ends};
 
 use kc_page::{Page, PageBytes, PageRecord};
-use kc_types::{Config, Ends, FrameNo, Link, MaybeFrame, MaybeGfn, Memory, OwnerCode};
+use kc_types::{Config, Ends, FrameNo, Link, Memory};
 use kc_vms::Vm;
 use std::alloc::Global;
 
@@ -31,42 +30,31 @@ fn boot_link(config: &Config, frame: u32) -> Link
     }
 }
 
-/// Makes a page of zero bytes, reserved or sparse.
-fn boot_bytes(alloc: Global, is_reserved: bool) -> Result<PageBytes, Memory>
-    ensures { IfOk result (λ page. page ≡ record { bytes = zero_page; is_reserved = is_reserved }) }
-{
-    if is_reserved {
-        PageBytes::reserved(alloc)
-    } else {
-        Ok(PageBytes::sparse(alloc))
-    }
-}
-
-/// Makes the page of a frame at boot, reserved or sparse.
-fn boot_page(alloc: Global, config: &Config, is_reserved: bool, frame: u32) -> Result<Page, Memory>
+/// Makes the page of a frame at boot.
+fn boot_page(alloc: Global, config: &Config, frame: u32) -> Result<Page, Memory>
     requires { frame < config.now.frames }
-    ensures { IfOk result (λ page. page ≡ boot_page is_reserved config.now frame) }
+    ensures { IfOk result (λ page. page ≡ boot_page config.now frame) }
 {
     let link = boot_link(config, frame);
     let meta = PageRecord {
-        owner: OwnerCode::of(config.owner_at_boot(frame)),
+        owner: config.owner_at_boot(frame),
         share: 0,
+        gfn: None,
         present: false,
-        gfn: MaybeGfn::of(None),
-        prev: MaybeFrame::of(link.prev),
-        next: MaybeFrame::of(link.next),
+        prev: link.prev,
+        next: link.next,
     };
-    let bytes = boot_bytes(alloc, is_reserved)?;
+    let bytes = PageBytes::zeroed(alloc)?;
     Ok(Page { meta, bytes })
 }
 
-/// Makes the pages of all frames at boot, reserved or sparse.
-pub fn boot_pages(alloc: Global, config: &Config, is_reserved: bool) -> Result<Vec<Page>, Memory>
-    ensures { IfOk result (λ pages. pages.items ≡ map (boot_page is_reserved config.now) (range_with_len 0 config.now.frames)) }
+/// Makes the pages of all frames at boot.
+pub fn boot_pages(alloc: Global, config: &Config) -> Result<Vec<Page>, Memory>
+    ensures { IfOk result (λ pages. pages.items ≡ map (boot_page config.now) (range_with_len 0 config.now.frames)) }
 {
     let mut pages = Vec::with_capacity(alloc, config.frames() as usize)?;
     for frame in 0..config.frames() {
-        pages.push(boot_page(alloc, config, is_reserved, frame)?)?;
+        pages.push(boot_page(alloc, config, frame)?)?;
     }
     Ok(pages)
 }
@@ -91,12 +79,12 @@ pub fn all_filled(alloc: Global, count: u32) -> Result<Vec<bool>, Memory>
 
 /// Makes all slots, empty.
 pub fn boot_vms(alloc: Global, config: &Config) -> Result<Vec<Option<Vm>>, Memory>
-    ensures vms { IfOk result (λ vms. vms.items ≡ replicate (slot_count config.now) (Some (empty_vm (capacity_of config.now)))) }
+    ensures vms { IfOk result (λ vms. vms.items ≡ replicate (slot_count config.now) (Some (empty_vm config.now.leaves))) }
     ensures few { IfOk result (λ vms. length vms.items ≤ slot_limit) }
 {
     let mut vms = Vec::with_capacity(alloc, config.slots() as usize)?;
     for _ in 0..config.slots() {
-        vms.push(Some(Vm::try_new(alloc, config.version(), config.leaves())?))?;
+        vms.push(Some(Vm::try_new(alloc, config.leaves() as u8)?))?;
     }
     Ok(vms)
 }

@@ -13,4 +13,5 @@ mod explaining;
 mod folder;
 mod running;
 
+pub use kc_cli::Lanes;
 pub use running::run;

@@ -23,12 +23,11 @@ pub record IsFed (before after : Replaying) (calls : List Call) (replies : List 
   pub fed : after.fed ≡ before.fed + length calls
   pub workers : after.workers ≡ before.workers
 
--- deterministic replay, by whatever number of workers: the replies and the core are those of one thread that makes the
--- calls in order, and neither shows what no VM granted
+-- the replies and the core are those of one thread that makes the calls in order, and neither shows what no VM granted
 pub record IsReplayOf (m : State) (calls : List Call) (outcome : Outcome) : Type 0 where
   pub replies : outcome.replies.items ≡ replies_from m calls
-  pub state : outcome.core.state ≡ state_after m calls
-  pub blind : ShowsNothing m calls outcome.replies.items outcome.core.state
+  pub state : outcome.core ≡ state_after m calls
+  pub blind : ShowsNothing m calls outcome.replies.items outcome.core
 
 -- the replies to segments in turn, joined
 unfoldable pub replies_to_each : State → List (List Call) → List Reply

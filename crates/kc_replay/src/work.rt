@@ -6,11 +6,12 @@ ghost use Rattle.kc_types.specs.Configuration.{Configuration};
 ghost use Rattle.kc_types.specs.declared.call.Call.{Call};
 ghost use Rattle.kc_replay.specs.Working.{Finishes, AnswersAll, IsTaskOf, no_config};
 
+use crate::Gate;
 use crate::crew::Crew;
 use crate::fault::ReplayFault;
 use crate::task::{Finished, Task};
-use kc_core::{Gate, apply};
-use kc_types::{Call, CallBuffer, Config, Memory};
+use kc_core::apply;
+use kc_types::{Call, Config, Memory, ReplyBuffer};
 use std::alloc::Global;
 use std::marker::{Brand, PhantomData};
 use std::snapshot::Snapshot;
@@ -32,7 +33,7 @@ fn finish<G: Gate>(
     let mut left = task;
     gate.before(left.number);
     let call = &calls[left.number];
-    let reply = apply(&mut left.parts, config, call, CallBuffer::none(alloc));
+    let reply = apply(&mut left.parts, config, call, ReplyBuffer::none(alloc));
     gate.after(left.number);
     Ok(Finished {
         reply: reply?,

@@ -14,9 +14,7 @@ use crate::ending::Ending;
 use crate::engines::{System, counted};
 use crate::files::Files;
 use kc_args::Start;
-use kc_cli::Account;
-use kc_faults::TextFault;
-use kc_texts::{Headed, Sink, Source};
+use kc_cli::{Account, Headed, Sink, Source, TextFault};
 use std::sync::Wait;
 use std::thread::Threads;
 

@@ -5,4 +5,3 @@ mod Shows
 mod Shown
 mod Assembled
 mod Refused
-mod Shares

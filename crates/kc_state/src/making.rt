@@ -1,15 +1,14 @@
 //! Making a core from its description.
-ghost use Rattle.std.specs.Prelude.{◌≡◌, ◌≤◌, ◌<◌, ℕ, [], length, map, vec_capacity, IfOk, IfErr};
+ghost use Rattle.std.specs.Prelude.{◌≡◌, ◌≤◌, ◌<◌, [], length, map, vec_capacity, IfOk, IfErr};
 ghost use Rattle.std.specs.List.{range_with_len};
-ghost use Rattle.kc_types.specs.Limits.{leaf_limit, share_limit};
+ghost use Rattle.kc_types.specs.Limits.{leaf_limit};
 ghost use Rattle.kc_vms.specs.Stage2.{AreMappings};
-ghost use Rattle.kc_types.specs.Configuration.{roots_of};
-ghost use Rattle.kc_vms.specs.Vm.{IsSlot, capacity_for};
+ghost use Rattle.kc_vms.specs.Vm.{IsSlot};
 ghost use Rattle.kc_dump.specs.Dump.{line_at};
 ghost use Rattle.kc_dump.specs.Sound.{IsSound};
 ghost use Rattle.kc_state.specs.Told.{config_of, told_of};
-ghost use Rattle.kc_state.specs.Unlawful.{IsSized, IsUnlawful, AreSlotsOf};
-ghost use Rattle.kc_state.specs.Making.{IsJudged, IsVmTold, AreVmsTold, content_of, page_told};
+ghost use Rattle.kc_state.specs.Unlawful.{IsSized, IsUnlawful, AreSlotsOf, page_of};
+ghost use Rattle.kc_state.specs.Making.{IsJudged, IsVmTold, AreVmsTold, page_told};
 
 use crate::judging::{judge, judge_alone, sized};
 use crate::told::{SlotRest, Told};
@@ -20,32 +19,26 @@ use kc_digests::Lanes;
 use kc_dump::{Dump, FrameLine, SlotDump};
 use kc_page::{Page, PageBytes, PageRecord};
 use kc_parts::Parts;
-use kc_types::{Config, MaybeFrame, MaybeGfn, Memory, OwnerCode, Version};
+use kc_types::{Config, Memory};
 use kc_vms::{Stage2, Vm};
 use std::alloc::Global;
 use std::thread::Threads;
 
-/// Makes a slot that a lawful state of this version may have.
-fn make_slot(
-    alloc: Global,
-    version: Version,
-    leaves: u32,
-    slot: &SlotDump,
-    rest: &SlotRest,
-) -> Result<Vm, Memory>
+/// Makes a slot that a lawful state may have.
+fn make_slot(alloc: Global, leaves: u32, slot: &SlotDump, rest: &SlotRest) -> Result<Vm, Memory>
     requires room { leaves ≤ leaf_limit }
-    requires kept { IsSlot version slot.now.phase rest.now.vcpus rest.now.images }
-    requires mappings { AreMappings (roots_of version) leaves slot.now.leaves slot.now.entries }
-    ensures { IfOk result (IsVmTold (capacity_for version leaves) slot.now rest.now) }
+    requires kept { IsSlot slot.now.phase rest.now.vcpus rest.now.images }
+    requires mappings { AreMappings leaves slot.now.leaves slot.now.entries }
+    ensures { IfOk result (IsVmTold leaves slot.now rest.now) }
 {
-    let table = Stage2::with_entries(alloc, version, leaves, slot.leaves(), slot.entries())?;
-    let vcpus = Vec::from_slice(alloc, rest.vcpus.as_slice())?;
+    let table = Stage2::with_entries(alloc, leaves as u8, slot.leaves(), slot.entries())?;
+    let mut vcpus = ArrayVec::new();
+    vcpus.try_extend_from_slice(rest.vcpus.as_slice()).unwrap();
     let mut images = ArrayVec::new();
     images
         .try_extend_from_slice(rest.images.as_slice())
         .unwrap();
-    let phase = slot.phase();
-    Ok(Vm::with(version, phase, vcpus, images, *slot.list(), table))
+    Ok(Vm::with(slot.phase(), vcpus, images, *slot.list(), table))
 }
 
 /// Makes all slots.
@@ -57,9 +50,8 @@ fn make_slots(alloc: Global, dump: &Dump, rests: &[SlotRest]) -> Result<Vec<Opti
     ensures each { IfOk result (λ vms. AreVmsTold dump.now rests.now vms.items (length dump.now.slots)) }
 {
     let mut vms = Vec::with_capacity(alloc, dump.slots().len())?;
-    let version = dump.version();
     for vm in 0..dump.slots().len() {
-        let made = make_slot(alloc, version, dump.leaves(), &dump.slots()[vm], &rests[vm])?;
+        let made = make_slot(alloc, dump.leaves(), &dump.slots()[vm], &rests[vm])?;
         vms.push(Some(made))?;
     }
     Ok(vms)
@@ -67,16 +59,15 @@ fn make_slots(alloc: Global, dump: &Dump, rests: &[SlotRest]) -> Result<Vec<Opti
 
 /// Makes the page of these bytes, with the record that the dump shows.
 fn make_page(line: &FrameLine, bytes: PageBytes) -> Page
-    requires { line.now.share ≤ share_limit }
     ensures { result ≡ page_told line.now bytes }
 {
     let meta = PageRecord {
-        owner: OwnerCode::of(line.owner),
-        share: line.share as u8,
+        owner: line.owner,
+        share: line.share,
+        gfn: line.gfn,
         present: line.present,
-        gfn: MaybeGfn::of(line.gfn),
-        prev: MaybeFrame::of(line.prev),
-        next: MaybeFrame::of(line.next),
+        prev: line.prev,
+        next: line.next,
     };
     Page { meta, bytes }
 }
@@ -86,8 +77,7 @@ fn make_pages(lines: &[FrameLine], bytes: Vec<PageBytes>, mut pages: Vec<Page>) 
     requires count { length bytes.items ≡ length lines.now }
     requires none { pages.items ≡ [] }
     requires room { length lines.now ≤ vec_capacity pages }
-    requires shares { (f : ℕ) → f < length lines.now → (line_at lines.now f).share ≤ share_limit }
-    ensures { result.items ≡ map (λ f. page_told (line_at lines.now f) (content_of bytes.items f)) (range_with_len 0 (length lines.now)) }
+    ensures { result.items ≡ map (λ f. page_told (line_at lines.now f) (page_of bytes.items f)) (range_with_len 0 (length lines.now)) }
 {
     let mut rest = bytes.into_iter();
     for line in lines {
@@ -97,18 +87,18 @@ fn make_pages(lines: &[FrameLine], bytes: Vec<PageBytes>, mut pages: Vec<Page>) 
     pages
 }
 
-/// Makes a sparse core from what was judged; `Memory` if memory runs out.
+/// Makes a core from what was judged; `Memory` if memory runs out.
 fn make_core(alloc: Global, config: Config, told: Told) -> Result<KCore, Memory>
     requires config { config ≡ config_of told }
     requires sized { IsSized told }
     requires judged { IsJudged told }
-    ensures { IfOk result (λ core. told_of core.state ≡ told) }
+    ensures { IfOk result (λ core. told_of core ≡ told) }
 {
     let vms = make_slots(alloc, &told.dump, told.slots.as_slice())?;
     let room = Vec::with_capacity(alloc, told.pages.len())?;
     let (pages, dump) = told.into_parts();
     let pages = make_pages(dump.frames(), pages, room);
-    let parts = Parts::whole(alloc, pages, vms, *dump.free(), false)?;
+    let parts = Parts::whole(alloc, pages, vms, *dump.free())?;
     Ok(KCore::from_parts(alloc, config, parts))
 }
 
@@ -117,7 +107,7 @@ fn made(alloc: Global, config: Config, told: Told) -> Result<KCore, Unlawful>
     requires config { config ≡ config_of told }
     requires sized { IsSized told }
     requires judged { IsJudged told }
-    ensures told { IfOk result (λ core. told_of core.state ≡ told) }
+    ensures told { IfOk result (λ core. told_of core ≡ told) }
     ensures unlawful { IfErr result (IsUnlawful told) }
 {
     match make_core(alloc, config, told) {
@@ -134,7 +124,7 @@ pub fn core_of(
     told: Told,
     lanes: Lanes,
 ) -> Result<KCore, Unlawful>
-    ensures told { IfOk result (λ core. told_of core.state ≡ told) }
+    ensures told { IfOk result (λ core. told_of core ≡ told) }
     ensures unlawful { IfErr result (IsUnlawful told) }
 {
     let config = match sized(&told) {
@@ -149,7 +139,7 @@ pub fn core_of(
 
 /// Does what `core_of` does, on this thread alone, which hashes page by page.
 pub fn core_alone(alloc: Global, told: Told) -> Result<KCore, Unlawful>
-    ensures told { IfOk result (λ core. told_of core.state ≡ told) }
+    ensures told { IfOk result (λ core. told_of core ≡ told) }
     ensures unlawful { IfErr result (IsUnlawful told) }
 {
     let config = match sized(&told) {

@@ -2,14 +2,14 @@
 use arrayvec::ArrayVec;
 use kc_dump::Dump;
 use kc_page::PageBytes;
-use kc_types::{FIRST_IMAGE_LIMIT, FIRST_VCPU_LIMIT, Image, Vcpu};
+use kc_types::{IMAGE_LIMIT, Image, VCPU_LIMIT, Vcpu};
 use std::marker::Model;
 
 /// What a dump leaves out of a slot: its 8 virtual processors, registered or not, and its boot images, at most 4.
 #[derive(Drop)]
 pub struct SlotRest {
-    pub vcpus: ArrayVec<Vcpu, FIRST_VCPU_LIMIT>,
-    pub images: ArrayVec<Image, FIRST_IMAGE_LIMIT>,
+    pub vcpus: ArrayVec<Vcpu, VCPU_LIMIT>,
+    pub images: ArrayVec<Image, IMAGE_LIMIT>,
 }
 
 impl Model for SlotRest {
@@ -35,20 +35,19 @@ pub struct Told {
 }
 
 impl Model for Told {
-    ghost use Rattle.kc_state.specs.Told.{Told as Value_of_told, bytes_of};
+    ghost use Rattle.kc_state.specs.Told.{Told as Value_of_told};
 
     ghost Value = { Value_of_told };
 
-    ghost view = { λ t. record { rest = record { host = t.host; approved = t.approved.items; slots = t.slots.items; pages = bytes_of t.pages.items }; dump = t.dump } };
+    ghost view = { λ t. record { rest = record { host = t.host; approved = t.approved.items; slots = t.slots.items; pages = t.pages.items }; dump = t.dump } };
 }
 
 impl Told {
     ghost use Rattle.std.specs.Prelude.{◌≡◌};
-    ghost use Rattle.kc_state.specs.Told.{bytes_of};
 
     /// Takes apart: the bytes of the pages, and the dump.
     pub(crate) fn into_parts(self) -> (Vec<PageBytes>, Dump)
-        ensures pages { bytes_of result.0.items ≡ self.rest.pages }
+        ensures pages { result.0.items ≡ self.rest.pages }
         ensures dump { result.1 ≡ self.dump }
     {
         let Told {

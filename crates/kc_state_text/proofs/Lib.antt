@@ -1,4 +1,3 @@
-mod Limits
 mod Lines
 mod Spelled
 mod Gathered

@@ -7,5 +7,3 @@ pub mod Configuration
 pub mod ConfigFaults
 pub mod ReplyBytes
 pub mod Secret
-pub mod Maybe
-pub mod Owners

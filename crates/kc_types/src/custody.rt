@@ -54,7 +54,7 @@ pub struct MeasuredImage {
     pub digest: [u8; 32],
 }
 
-/// The boot images of a slot as they were measured, at most 16, seen as a list.
+/// The boot images of a slot as they were measured, at most 4, seen as a list.
 #[derive(Debug, Drop)]
 pub struct MeasuredImages {
     images: Box<ArrayVec<MeasuredImage, IMAGE_LIMIT>>,
@@ -73,7 +73,7 @@ impl Model for MeasuredImages {
 }
 
 impl MeasuredImages {
-    /// Makes an empty list with room for 16 images; `Memory` if memory runs out.
+    /// Makes an empty list with room for 4 images; `Memory` if memory runs out.
     pub fn none(alloc: Global) -> Result<MeasuredImages, Memory>
         // No clause can rule out that memory runs out: a test makes them.
         ensures { IfOk result (λ images. images ≡ []) }

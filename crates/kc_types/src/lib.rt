@@ -9,7 +9,6 @@
 #![tactic(auto)]
 
 mod call;
-mod call_buffer;
 mod config;
 mod custody;
 mod data;
@@ -19,16 +18,15 @@ mod link;
 mod memory;
 mod numbers;
 mod owner;
-mod packed;
 mod refusal;
 mod reply;
+mod reply_buffer;
 mod resource;
 mod secret;
 mod slot;
 mod version;
 
 pub use call::{Actor, Call, actor_of, slot_of};
-pub use call_buffer::CallBuffer;
 pub use config::{Config, ConfigFault};
 pub use custody::{
     Bar, Change, Custody, Event, FrameChange, Life, MeasuredImage, MeasuredImages, PhaseChange,
@@ -36,18 +34,17 @@ pub use custody::{
 };
 pub use data::{Data, SHORT_SIZE};
 pub use limits::{
-    BYTE_LIMIT, CALL_LIMIT, DIGEST_LIMIT, FIRST_FRAME_LIMIT, FIRST_GFN_LIMIT, FIRST_IMAGE_LIMIT,
-    FIRST_IMAGE_SIZE_LIMIT, FIRST_LEAF_LIMIT, FIRST_SLOT_LIMIT, FIRST_VCPU_LIMIT, FRAME_LIMIT,
-    GFN_LIMIT, IMAGE_LIMIT, LEAF_ENTRIES, LEAF_LIMIT, LINE_LIMIT, PAGE_SIZE, RANGE_LIMIT,
-    SECOND_FRAME_LIMIT, SECOND_SLOT_LIMIT, SHARE_LIMIT, SLOT_LIMIT, VCPU_LIMIT, WORKER_LIMIT,
+    BYTE_LIMIT, CALL_LIMIT, DIGEST_LIMIT, FIRST_FRAME_LIMIT, FIRST_SLOT_LIMIT, FRAME_LIMIT,
+    GFN_LIMIT, IMAGE_LIMIT, IMAGE_SIZE_LIMIT, LEAF_ENTRIES, LEAF_LIMIT, LINE_LIMIT, PAGE_SIZE,
+    RANGE_LIMIT, SHARE_LIMIT, SLOT_LIMIT, VCPU_LIMIT, WORKER_LIMIT,
 };
 pub use link::{Ends, Link};
 pub use memory::Memory;
 pub use numbers::{FrameNo, Gfn, VcpuId, VmId};
 pub use owner::{Owner, vm_of};
-pub use packed::{MaybeFrame, MaybeGfn, OwnerCode};
 pub use refusal::Refusal;
 pub use reply::Reply;
+pub use reply_buffer::ReplyBuffer;
 pub use resource::Resource;
 pub use secret::SecretBytes;
 pub use slot::{Image, Phase, Vcpu};

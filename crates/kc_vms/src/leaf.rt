@@ -4,10 +4,10 @@ ghost use Rattle.kc_types.specs.Limits.{leaf_limit};
 
 use std::marker::Model;
 
-/// The number of a leaf table, below 262,144.
+/// The number of a leaf table, below 64.
 #[derive(Clone, Copy, Debug, PartialEq, Eq)]
 pub struct LeafNo {
-    number: u32,
+    number: u8,
 }
 
 impl Model for LeafNo {
@@ -21,7 +21,7 @@ impl Model for LeafNo {
 }
 
 impl LeafNo {
-    pub(crate) fn of(number: u32) -> LeafNo
+    pub(crate) fn of(number: u8) -> LeafNo
         requires { number < leaf_limit }
         ensures { result ≡ number }
     {

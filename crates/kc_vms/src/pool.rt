@@ -14,8 +14,8 @@ pub struct TablePool {
     /// Those of the leaves that are taken, one leaf after another. There is room for all, of which nothing is touched
     /// before it is taken.
     entries: Vec<Option<FrameNo>>,
-    taken: u32,
-    capacity: u32,
+    taken: u8,
+    capacity: u8,
 }
 
 impl Model for TablePool {
@@ -34,7 +34,7 @@ impl Model for TablePool {
 impl TablePool {
     /// Makes a pool of this many leaves, none of them taken; `Memory` if memory runs out. Nothing else takes
     /// memory.
-    pub fn try_new(alloc: Global, leaves: u32) -> Result<TablePool, Memory>
+    pub fn try_new(alloc: Global, leaves: u8) -> Result<TablePool, Memory>
         requires { leaves ≤ leaf_limit }
         ensures value { IfOk result (λ pool. pool ≡ new_pool leaves) }
         ensures kept { IfOk result IsPool }
@@ -47,7 +47,7 @@ impl TablePool {
     }
 
     /// The number of leaves, taken or not.
-    pub fn capacity(&self) -> u32
+    pub fn capacity(&self) -> u8
         ensures value { result ≡ self.now.capacity }
         ensures kept { IsPool self.now }
     {

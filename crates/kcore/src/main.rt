@@ -1,8 +1,7 @@
 //! The program: `kc_program` over the system.
 #![tactic(auto)]
 
-use kc_digests::Lanes;
-use kc_program::run;
+use kc_program::{Lanes, run};
 use std::env;
 use std::process::ExitCode;
 

@@ -9,13 +9,12 @@
 use anyhow::{Result, bail};
 use itoa::{Buffer, Integer};
 use kc_config_text::read_config;
-use kc_core::{Gate, KCore};
+use kc_core::KCore;
 use kc_digests::Lanes;
 use kc_dump_text::write_dump;
 use kc_dumping::dump;
-use kc_footprints::Plan;
 use kc_live::{Entry, History, LiveCore, LiveStop, Seat, Volume, VolumeDigest, run_trace};
-use kc_replay::{Outcome, footprints, replay};
+use kc_replay::{Gate, Outcome, Plan, footprints, replay};
 use kc_trace::{LONGEST_CALL, push_call, push_header, read_trace, write_replies, write_trace};
 use kc_types::{Actor, Call, Config, Resource, actor_of};
 use std::io::Write;
@@ -349,11 +348,11 @@ fn print_asked<R: Threads + Wait + Clock + Sync>(
             )
         },
         (Some(times), None) => {
-            let core = KCore::boot_sparse(rt.alloc(), config)?;
+            let core = KCore::boot(rt.alloc(), config)?;
             print_times(rt, &core, calls.as_slice(), times)
         },
         (None, _) => {
-            let core = KCore::boot_sparse(rt.alloc(), config)?;
+            let core = KCore::boot(rt.alloc(), config)?;
             print_plan(rt, &core, calls.as_slice())
         },
     }

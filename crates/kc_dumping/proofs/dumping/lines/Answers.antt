@@ -10,7 +10,7 @@ use Rattle.kc_dumping.proofs.dumping.lines.Goals as goal
 
 pub loop-number-preserved : goal.loop-number-preserved
 loop-number-preserved c =
-    let m = c.args.core.now.state in
+    let m = c.args.core.now in
     let form = c.args.digests.now.form in
     let told = in_form form m in
     let n = c.loop-number.number in
@@ -22,4 +22,4 @@ loop-number-preserved c =
     let here = long_in form m in
     let low : n < length told.frames = omega (arith, end, same, before, long, here) in
     more (λ f. frame_line (frame_at told f) (link_at told f)) n n c.loop-number.lines.items _ _ c.loop-number.invariant c.in_ok-push.ensures.items
-    (rw (c.get.ensures, c.from.ensures, c.get-in-loop-number.ensures, c.get-in-loop-number-2.ensures, c.get-in-loop-number-3.ensures) (line-made told n c.unwrap-meta.result _ (record_in form m n c.unwrap-meta.result is) (digest-at told c.as_slice-each.result.now n _ (c.as_slice-each.ensures.value ∙ c.requires) low))) refl
+    (line-made told n c.unwrap-meta.result _ (record_in form m n c.unwrap-meta.result is) (digest-at told c.as_slice-each.result.now n _ (c.as_slice-each.ensures.value ∙ c.requires) low)) refl
