@@ -26,7 +26,7 @@ LIMITS = {1: Limits(8192, 16, 8, 262144, 64, 4, 1048576), 2: Limits(65536, 64, 8
 # The options that ask for more than custody.
 REMARKS = "--refused", "--accesses"
 # The version that the first line of custody names.
-VERSION = "2.0.0"
+VERSION = "3.0.0"
 # Why calls are refused, by number.
 REASONS = (
     "bad-vm bad-vcpu bad-frame bad-gfn bad-range slot-used no-vm wrong-phase vcpu-used no-vcpu images-full overlap no-image"

@@ -5,12 +5,12 @@ ghost use Rattle.clap.specs.Words.{app_of, rule_of, new_app, with_rule};
 ghost use Rattle.kc_args.specs.Commands.{kcore, replay, live, custody, audit, redact, convert, with_start, with_outputs, with_forms, with_contents, ended, path_rule, flag_rule, workers_rule, vm_rule, file_rule, files_rule};
 
 use clap::{Arg, ArgAction, Command};
-use kc_types::{SLOT_LIMIT, WORKER_LIMIT};
+use kc_types::{SECOND_SLOT_LIMIT, WORKER_LIMIT};
 use std::alloc::{AllocError, Global};
 
 /// What `--version` prints after the program's name: the version, which the first line of custody names too, and on a
 /// second line the toolchain that proves it.
-const VERSION: &str = "2.0.0\nrattle-kit-13f";
+const VERSION: &str = "3.0.0\nrattle-kit-13f";
 
 const TRACE_HELP: &str = "The trace; standard input if this is - or not given";
 
@@ -43,7 +43,7 @@ fn config_arg<'a>(alloc: Global) -> Arg<'a>
     path_arg(
         alloc,
         "config",
-        "A JSON text: frames, core, host, leaves and approved; a trace with a head needs none",
+        "Machine configuration (JSON): frames, core, host, leaves and approved; not needed for a trace with a head",
     )
 }
 
@@ -56,7 +56,7 @@ fn workers_arg<'a>(alloc: Global) -> Arg<'a>
         .value_name("N")
         .value_parser(clap::value_parser!(u8).range(1..=WORKER_LIMIT as i64))
         .help(
-            "Up to N threads, 1 to 64, make the calls of a replay, started if that pays; 1 if not given",
+            "Replay with up to N threads (1 to 64, default 1), started only if that pays; the output is the same",
         )
 }
 
@@ -67,8 +67,8 @@ fn vm_arg<'a>(alloc: Global) -> Arg<'a>
     Arg::new(alloc, "vm")
         .long("vm")
         .value_name("V")
-        .value_parser(clap::value_parser!(u8).range(0..=i64::from(SLOT_LIMIT) - 1))
-        .help("Report the VM in this slot alone, 0 to 63")
+        .value_parser(clap::value_parser!(u8).range(0..=i64::from(SECOND_SLOT_LIMIT) - 1))
+        .help("Report only the VM in slot V (0 to 63)")
 }
 
 /// Makes the argument without a name: the file to be read.
@@ -121,7 +121,7 @@ fn with_start<'a>(alloc: Global, command: Command<'a>) -> Result<Command<'a>, Al
     ensures local { IfOk result (λ c. (fields_of c).has_globals ≡ false) }
 {
     let command = with_own(command, config_arg(alloc))?;
-    let help = "Begin in the state of this text, in place of a configuration's boot state";
+    let help = "Begin in the state of this state text (a checkpoint), not at boot";
     with_own(command, path_arg(alloc, "from", help))
 }
 
@@ -150,7 +150,7 @@ fn ended<'a>(alloc: Global, command: Command<'a>, file: Arg<'a>) -> Result<Comma
     ensures app { IfOk result (λ c. app_of c ≡ ended (app_of command.entry) (rule_of file.entry)) }
     ensures local { IfOk result (λ c. (fields_of c).has_globals ≡ false) }
 {
-    let about = "Say more of a fault, in further lines";
+    let about = "Explain a fault in further lines";
     let command = with_flag(alloc, command, "explain", about)?;
     with_own(command, file)
 }
@@ -185,7 +185,7 @@ fn replay_command<'a>(alloc: Global) -> Result<Command<'a>, AllocError>
     );
     let command = with_start(alloc, command)?;
     let help =
-        "Compare the state that the trace leaves with this text; the status is 1 if it is another";
+        "Compare the state that the trace leaves with this state text; exit with status 1 if they differ";
     let command = with_own(command, path_arg(alloc, "to", help))?;
     let command = with_own(command, workers_arg(alloc))?;
     let command = with_outputs(alloc, command)?;
@@ -199,7 +199,7 @@ fn live_command<'a>(alloc: Global) -> Result<Command<'a>, AllocError>
     let command = subcommand(
         alloc,
         "live",
-        "Run a trace's actors in a thread each, and write their calls as they were answered",
+        "Run each actor of a trace in its own thread, and write the history, which is linearizable",
         "kcore live [OPTIONS] [FILE]",
         "Example: kcore live --config machine.json run.trace > history.trace",
     );
@@ -228,11 +228,11 @@ fn with_contents<'a>(alloc: Global, command: Command<'a>) -> Result<Command<'a>,
     ensures app { IfOk result (λ c. app_of c ≡ with_contents (app_of command.entry)) }
     ensures local { IfOk result (λ c. (fields_of c).has_globals ≡ false) }
 {
-    let help = "Also write each call that was refused or rejected";
+    let help = "Also report each call that was refused or rejected";
     let command = with_flag(alloc, command, "refused", help)?;
-    let help = "Also write each read and write of the host that a VM's frame served";
+    let help = "Also report each read and write of a VM's frame by the host";
     let command = with_flag(alloc, command, "accesses", help)?;
-    let help = "The trace lacks the machine's own reads and writes: report none";
+    let help = "For a trace without the machine's own reads and writes: report none";
     let command = with_flag(alloc, command, "unseen", help)?;
     let help = "Name the trace, and the configuration or the state, by SHA-256 in the first line";
     with_flag(alloc, command, "digests", help)
@@ -245,7 +245,7 @@ fn custody_command<'a>(alloc: Global) -> Result<Command<'a>, AllocError>
     let command = subcommand(
         alloc,
         "custody",
-        "Write what happened to each frame and VM: every change, with the line of its call",
+        "Report what happened to each frame and VM: every change, with the line of its call",
         "kcore custody [OPTIONS] [FILE]...",
         "Examples:\n  kcore custody --vm 3 --summary --config machine.json run.trace\n  kcore custody --config machine.json first.trace second.trace",
     );
@@ -263,7 +263,7 @@ fn audit_command<'a>(alloc: Global) -> Result<Command<'a>, AllocError>
     let command = subcommand(
         alloc,
         "audit",
-        "Say what is wrong with a dump; the status is 1 if something is",
+        "Report what is inconsistent in a dump; exit with status 1 if anything is",
         "kcore audit [OPTIONS] [FILE]",
         "Example: kcore audit --all run.dump",
     );
@@ -285,7 +285,7 @@ fn redact_command<'a>(alloc: Global) -> Result<Command<'a>, AllocError>
     );
     let command = with_start(alloc, command)?;
     let help =
-        "Blank also what the host writes to frames of active VMs; a trace without a head needs --config or --from, since it is replayed";
+        "Also blank what the host writes to active VMs' frames; a trace without a head needs --config or --from, since it is replayed";
     let command = with_flag(alloc, command, "host", help)?;
     ended(alloc, command, file_arg(alloc, TRACE_HELP))
 }
@@ -297,13 +297,13 @@ fn convert_command<'a>(alloc: Global) -> Result<Command<'a>, AllocError>
     let command = subcommand(
         alloc,
         "convert",
-        "Write a trace without a head with one, of a first volume or of the one after another",
+        "Give a head to a trace without one: that of a first volume, or of the volume after another",
         "kcore convert [OPTIONS] [FILE]",
         "Examples:\n  kcore convert --config machine.json old1.trace > new1.trace\n  kcore convert --after new1.trace old2.trace > new2.trace",
     );
-    let help = "The head is that of the first volume on the machine of this text";
+    let help = "Give it the head of the first volume on the machine of this configuration";
     let command = with_own(command, path_arg(alloc, "config", help))?;
-    let help = "The head is that of the volume after this one, which has a head";
+    let help = "Give it the head of the volume after this one, which has a head";
     let command = with_own(command, path_arg(alloc, "after", help))?;
     ended(alloc, command, file_arg(alloc, TRACE_HELP))
 }

@@ -2,7 +2,8 @@
 ghost use Rattle.std.specs.Prelude.{◌≡◌};
 ghost use Rattle.kc_args.specs.Jobs.{path_of, origin_at};
 
-use kc_cli::{CustodyForm, Origin, ReplayForm, Scope};
+use kc_cli::{CustodyForm, ReplayForm, Scope};
+use kc_faults::Origin;
 
 /// Where calls begin.
 #[derive(Clone, Copy, Debug, PartialEq, Eq)]

@@ -23,7 +23,7 @@ use Rattle.kc_audit.specs.Verdicts.{shows, named}
 use Rattle.kc_audit.specs.Findings.{is_mapped, verdict_of, verdicts_of, frames_named, list_owner, list_ends, list_name, AreGoodLists, lists_named, is_gfn, says, has_double, all_rooted, entries_named, all_entries_named, wrong_leaves, wrong_empty, leaves_named, empty_named, findings_by, AreFindings}
 use Rattle.kc_model.proofs.States.Owners.{same-is}
 use Rattle.kc_audit.proofs.Marked.{says-true}
-use Rattle.kc_audit.proofs.SoundFrames.{IsClear, sound-frame, frame-clear, gfn-mapped, and-right, and-none, or-parts, negated, negates}
+use Rattle.kc_audit.proofs.SoundFrames.{IsClear, sound-frame, frame-clear, gfn-mapped, and-right, and-none, or-parts, negated, negates, none-there}
 use Rattle.kc_dump.proofs.Entries.{entry-place, place-entry}
 use Rattle.kc_audit.proofs.SoundLists.{none-parts, named-none, none-named, entries-none, none-entries, double-once, once-double, rooted-each, each-rooted}
 
@@ -40,10 +40,6 @@ phase-empty Empty e = refl
 phase-empty Booting e = cc
 phase-empty Active e = cc
 phase-empty Dead e = cc
-
-none-there : (o : Option ℕ) → is_some o ≡ false → o ≡ None
-none-there None e = refl
-none-there (Some x) e = cc
 
 no-items : {X : Type 0} (xs : List X) → length xs ≡ 0 → xs ≡ []
 no-items [] e = refl

@@ -1,6 +1,7 @@
 -- One more frame is counted.
-use Rattle.std.proofs.Common.{ℕ, zero, suc, ◌≡◌, ◌<◌, ◌≤◌, ◌+◌, inl, inr, Bool, true, false, cond, List, get_or, set, Some, None, nat_eq, eq-eqb, refl, sym, ap, ◌∙◌, arith, length-set, get_or-set_same, get_or-set_other}
+use Rattle.std.proofs.Common.{ℕ, zero, suc, ◌≡◌, ◌<◌, ◌≤◌, ◌+◌, inl, inr, Bool, true, false, cond, List, replicate, get_or, set, Some, None, nat_eq, eq-eqb, refl, sym, ap, ◌∙◌, arith, length-set, get_or-set_same, get_or-set_other}
 use Rattle.std.proofs.lemmas.Bool.{cases_eq, ne_eqb}
+use Rattle.std.proofs.lemmas.List.{get_or-replicate, length-replicate}
 use Rattle.std.proofs.lemmas.Option.{same_Some}
 use Rattle.kc_types.specs.declared.owner.Owner.{Owner}
 use Rattle.kc_types.specs.declared.owner.Owner.TheVariants.{Core, Host, Free, Vm}
@@ -11,6 +12,10 @@ use Rattle.kc_dump.specs.Lists.{owned}
 use Rattle.kc_dump.specs.Sums.{sum_below}
 use Rattle.kc_audit.specs.Findings.{list_owner}
 use Rattle.kc_audit.specs.Counts.{list_place, AreOwnerCounts}
+
+-- before any frame is counted each list has none
+pub none-counted : (lines : List FrameLine) (n : ℕ) → AreOwnerCounts lines 0 n (replicate n 0)
+none-counted lines n = record { places = length-replicate n 0; counted = λ p low. get_or-replicate n p 0 0 low }
 
 -- no more frames are counted than there are
 pub sum-low : (lines : List FrameLine) (owner : Owner) (n : ℕ) → sum_below (owned lines owner) n ≤ n

@@ -2,8 +2,7 @@
 use Rattle.std.proofs.Common.{ℕ, ◌≡◌, ◌<◌, ◌≤◌, ◌+◌, Bool, false, List, [], ◌∷◌, ◌++◌, length, get_or, take, set, map, Option, Some, None, refl, sym, ap, ◌∙◌, arith}
 use Rattle.std.specs.List.{range_with_len}
 use Rattle.std.proofs.lemmas.List.{take_more_set, get_or_default}
-use Rattle.std.proofs.lemmas.List.FromFn.{map-range_with_len_more, get_or-map-range_with_len, length-map-range_with_len}
-use Rattle.kc_types.specs.Limits.{frame_limit}
+use Rattle.std.proofs.lemmas.List.FromFn.{map-range_with_len_more, get_or-map-range_with_len}
 use Rattle.kc_types.specs.declared.owner.Owner.{Owner}
 use Rattle.kc_types.specs.declared.owner.Owner.TheVariants.{Core, Host, Free, Vm}
 use Rattle.kc_dump.specs.declared.line.FrameLine.{FrameLine}
@@ -33,9 +32,6 @@ module _ (d : Dumped) (marks : List Bool) (are : AreMarks d marks) where
       let here : line ≡ line_at d.frames f = is ∙ get_or_default lines f line absent_line within ∙ ap (λ ls. get_or ls f absent_line) same in
       let made : x ≡ verdict_of d f = judged ∙ ap (λ l. verdict_by d.core f (get_or marks f false) l) here ∙ verdict-same f in
       take_more_set out i x low ∙ ap (λ l. l ++ x ∷ []) so_far ∙ ap (λ y. map (verdict_of d) (range_with_len start i) ++ y ∷ []) made ∙ sym (map-range_with_len_more (verdict_of d) start i f (sym place))
-
-pub few-verdicts : (d : Dumped) (verdicts : List FrameVerdict) → length d.frames ≤ frame_limit → verdicts ≡ verdicts_of d → length verdicts ≤ frame_limit
-few-verdicts d verdicts few is = let long = ap (λ (vs : List FrameVerdict). length vs) is ∙ length-map-range_with_len (verdict_of d) 0 (length d.frames) in omega (arith, long, few)
 
 -- the place among all verdicts of a verdict in a chunk
 pub judged-place : (d : Dumped) (n start offset i : ℕ) (none : FrameVerdict) (after : List FrameVerdict) → after ≡ map (verdict_of d) (range_with_len start n) → offset < n → start + offset ≡ i → i < length d.frames

@@ -56,9 +56,9 @@ opposite : (a : Bool) → (a ≡ true → ⊥) → a ≡ false
 opposite true never = absurd (never refl)
 opposite false never = refl
 
-nothing : (o : Option ℕ) → is_some o ≡ false → o ≡ None
-nothing None e = refl
-nothing (Some x) e = cc
+pub none-there : (o : Option ℕ) → is_some o ≡ false → o ≡ None
+none-there None e = refl
+none-there (Some x) e = cc
 
 -- the core owns the first frames
 core-placed : (core f : ℕ) (owner : Owner) → wrong_core core f owner ≡ false → (owner ≡ Core) ↔ (f < core)
@@ -77,7 +77,7 @@ placed-core core f (Vm v) is = opposite (nat_lt f core) (λ e. let no = is.1 (lt
 alone : (prev next : Option ℕ) → (is_some prev || is_some next) ≡ false → ◌≡◌ {A = Link} (record { prev = prev; next = next }) unlinked
 alone prev next e =
     let parts = or-parts (is_some prev) (is_some next) e in
-    let p = nothing prev parts.0 in let n = nothing next parts.1 in λ i. record { prev = p i; next = n i }
+    let p = none-there prev parts.0 in let n = none-there next parts.1 in λ i. record { prev = p i; next = n i }
 
 not-alone : (prev next : Option ℕ) → ◌≡◌ {A = Link} (record { prev = prev; next = next }) unlinked → (is_some prev || is_some next) ≡ false
 not-alone prev next e = let p = ap (λ (l : Link). l.prev) e in let n = ap (λ (l : Link). l.next) e in rw (p, n) refl

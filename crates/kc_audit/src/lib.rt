@@ -22,7 +22,5 @@ mod verdict;
 
 pub use auditing::audit;
 pub use finding::Finding;
-pub use kc_digests::{Lanes, frame_digests};
-pub use kc_dump::{Dump, FrameLine, SlotDump};
 pub use line::{finding_text, written};
 pub use parallel::audit_parallel;

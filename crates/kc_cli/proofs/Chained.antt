@@ -3,6 +3,7 @@ use Rattle.std.proofs.Common.{ℕ, ◌≡◌, ◌≤◌, ◌<◌, ◌+◌, ◌++
 use Rattle.std.specs.Prelude.{IfSome, option_map}
 use Rattle.std.specs.Borrow.{Bor}
 use Rattle.std.specs.Io.KnownBytes.{Appends, IsAtEnd}
+use Rattle.std.proofs.lemmas.Option.{same_Some}
 use Rattle.kc_types.specs.Configuration.{Configuration}
 use Rattle.kc_types.specs.Limits.{call_limit}
 use Rattle.kc_types.specs.declared.call.Call.{Call}
@@ -42,9 +43,6 @@ use Rattle.kc_cli.proofs.Numbered.{numbered}
 use Rattle.kc_cli.proofs.Volumes.{joined_last, known_are, in_line, none_entered, entered_more, next_entered}
 use Rattle.kc_cli.proofs.Witnessed.{followed_needed}
 
-some_is : {X : Type 0} (x y : X) → Some x ≡ Some y → x ≡ y
-some_is x y e = cc
-
 -- an account before its first trace
 pub none_replayed : (order : LinesOrder) (account : ReplayAccount) (core : State) → account.sequence.next ≡ account.sequence.first → IsLawful core → account.sequence.entries.items ≡ [] → account.calls.items ≡ [] → account.replies.items ≡ [] → account.replayer.state ≡ Some core → account.replayer.workers ≡ order.workers
     → HasReplayed order account core []
@@ -65,7 +63,7 @@ none_replayed order account core same lawful none calls replies left workers = r
 -- the machine is that of the first state
 pub config_left : (order : LinesOrder) (account : ReplayAccount) (m core : State) (sources : List (Option (List ℕ))) → IsReplayOf order account m sources → account.replayer.state ≡ Some core → core.config ≡ m.config
 config_left order account m core sources h is =
-    let left : core ≡ state_after m (joined h.volumes) = some_is core (state_after m (joined h.volumes)) (sym is ∙ h.left) in
+    let left : core ≡ state_after m (joined h.volumes) = same_Some core (state_after m (joined h.volumes)) (sym is ∙ h.left) in
     ap (λ (n : State). n.config) left ∙ config-after m (joined h.volumes)
 
 -- and so it is after calls that were fed
@@ -88,7 +86,7 @@ replay_read order old new m sources source header calls given digest line count 
     let before = h.of.volumes in
     let added : IsAdded false m.config old.sequence new.sequence header digest line count = subst (λ (x : Configuration). IsAdded false x old.sequence new.sequence header digest line count) config came in
     let volume : Traced = record { header = header; calls = calls } in
-    let start : fed.start ≡ state_after m (joined before) = some_is fed.start (state_after m (joined before)) (sym fed.from ∙ state ∙ h.of.left) in
+    let start : fed.start ≡ state_after m (joined before) = same_Some fed.start (state_after m (joined before)) (sym fed.from ∙ state ∙ h.of.left) in
     let answers : given ≡ replies_from (state_after m (joined before)) calls = fed.given ∙ ap (λ (n : State). replies_from n calls) start in
     let each : length given ≡ length calls = ap length answers ∙ one_each (state_after m (joined before)) calls in
     let so_far = ap length h.of.calls in
@@ -123,10 +121,6 @@ next_refused order account m sources source fault h is end = record {
   traced = h.of.read.traced;
   fault_is = inl (subst (λ (expected : Expected). IfSome source.had (λ text. IsRefusedThere m.config expected text fault)) h.next is, end);
 }
-
--- what is written has room for its numbers
-pub few_replayed : (order : LinesOrder) (account : ReplayAccount) (m : State) (sources : List (Option (List ℕ))) → IsReplayOf order account m sources → length account.calls.items ≤ CALLS_BEFORE + call_limit
-few_replayed order account m sources h = let so_far = ap length h.calls in let short = h.short in omega (arith, so_far, short)
 
 pub few_given : (order : LinesOrder) (account : ReplayAccount) (m : State) (sources : List (Option (List ℕ))) → IsReplayOf order account m sources → length account.replies.items ≤ CALLS_BEFORE + call_limit
 few_given order account m sources h = let so_far = ap length h.replies ∙ one_each m (joined h.volumes) in let short = h.short in omega (arith, so_far, short)

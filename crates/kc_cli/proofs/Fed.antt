@@ -1,6 +1,7 @@
 -- Calls that are fed after others.
 use Rattle.std.proofs.Common.{◌≡◌, ◌≤◌, ◌++◌, ◌∙◌, ℕ, Bool, true, false, List, [], length, Option, Some, None, refl, ap, subst, sym, arith, length-append}
 use Rattle.std.specs.Prelude.{IsSome, IfSome}
+use Rattle.std.proofs.lemmas.Option.{same_Some}
 use Rattle.kc_types.specs.Limits.{call_limit}
 use Rattle.kc_types.specs.Configuration.{Configuration}
 use Rattle.kc_types.specs.declared.call.Call.{Call}
@@ -29,9 +30,6 @@ use Rattle.kc_model.proofs.States.Runs.{replies_from-append, state_after-append}
 use Rattle.kc_replay.specs.Replayer.{Replaying, IsFed}
 use Rattle.kc_cli.proofs.Counted.{one_each}
 
-some_is : {X : Type 0} (x y : X) → Some x ≡ Some y → x ≡ y
-some_is x y e = cc
-
 lawful-left : (blank : Bool) (m : State) → IsLawful m → IsLawful (left_as blank m)
 lawful-left true m is = (audited_blank m [] is).lawful
 lawful-left false m is = is
@@ -46,7 +44,7 @@ fed_none r whole = by_state r.state refl whole
 
 pub fed_more : (a b c : Replaying) (xs ys : List Call) (rs ss : List Reply) → IsFed a b xs rs → IsFed b c ys ss → IsFed a c (xs ++ ys) (rs ++ ss)
 fed_more a b c xs ys rs ss h k =
-    let middle : k.start ≡ state_after h.start xs = some_is k.start (state_after h.start xs) (sym k.from ∙ h.state) in
+    let middle : k.start ≡ state_after h.start xs = same_Some k.start (state_after h.start xs) (sym k.from ∙ h.state) in
     record {
       start = h.start;
       from = h.from;
@@ -93,8 +91,8 @@ few_fed a b c xs ys rs ss h k few =
 -- the machine of the core that it leaves is that of the start
 pub left_config : (m core : State) (a b : Replaying) (calls : List Call) (given : List Reply) → a.state ≡ Some m → b.state ≡ Some core → IsFed a b calls given → core.config ≡ m.config
 left_config m core a b calls given from to fed =
-    let same : fed.start ≡ m = some_is fed.start m (sym fed.from ∙ from) in
-    let left : core ≡ state_after m calls = some_is core (state_after m calls) (sym to ∙ fed.state ∙ ap (λ (n : State). Some (state_after n calls)) same) in
+    let same : fed.start ≡ m = same_Some fed.start m (sym fed.from ∙ from) in
+    let left : core ≡ state_after m calls = same_Some core (state_after m calls) (sym to ∙ fed.state ∙ ap (λ (n : State). Some (state_after n calls)) same) in
     ap (λ (n : State). n.config) left ∙ config-after m calls
 
 -- the trace was read, and may not have its header
@@ -110,8 +108,8 @@ pub replayed : (form : ReplayForm) (placed : Bool) (header : Header) (expected :
 replayed form placed header expected None start a b kept given digest core is from to h may = tt
 replayed form placed header expected (Some text) start a b kept given digest core is from to h may =
     let fed = h.2 in
-    let same : fed.start ≡ start = some_is fed.start start (sym fed.from ∙ from) in
-    let left : core ≡ state_after start h.0 = some_is core (state_after start h.0) (sym to ∙ fed.state ∙ ap (λ (m : State). Some (state_after m h.0)) same) in
+    let same : fed.start ≡ start = same_Some fed.start start (sym fed.from ∙ from) in
+    let left : core ≡ state_after start h.0 = same_Some core (state_after start h.0) (sym to ∙ fed.state ∙ ap (λ (m : State). Some (state_after m h.0)) same) in
     let promises = promises_kept start h.0 is in
     record {
       volume = record { header = header; calls = h.0 };

@@ -1,12 +1,10 @@
 -- What is kept of calls that come after others.
-use Rattle.std.proofs.Common.{ℕ, ◌≡◌, ◌++◌, Bool, true, false, List, [], ◌∷◌, map, All, Option, None, Result, Ok, Err, subst, refl, ap, ap₂, sym, ◌∙◌, arith, append_assoc, append-nil}
+use Rattle.std.proofs.Common.{ℕ, ◌≡◌, ◌++◌, Bool, true, false, List, [], ◌∷◌, All, Option, Result, Ok, Err, subst, refl, ap, ap₂, sym, ◌∙◌, arith, append_assoc, append-nil}
 use Rattle.std.specs.Prelude.{OnOk}
 use Rattle.std.specs.Global.{Vec}
-use Rattle.std.proofs.lemmas.List.{map-append}
-use Rattle.std.proofs.lemmas.List.Elements.{filter_map-append, All-nil, All-cons, All-append, All-head, All-tail, All-filter}
+use Rattle.std.proofs.lemmas.List.Elements.{filter_map-append, All-nil, All-cons, All-append, All-head, All-tail}
 use Rattle.kc_types.specs.declared.call.Call.{Call}
 use Rattle.kc_types.specs.declared.slot.Phase.{Phase}
-use Rattle.kc_types.specs.declared.slot.Phase.TheVariants.{Booting}
 use Rattle.kc_types.specs.declared.custody.Change.{Change}
 use Rattle.kc_types.specs.declared.custody.Change.TheVariants as change
 use Rattle.kc_types.specs.declared.custody.Event.{Event}
@@ -22,16 +20,13 @@ use Rattle.kc_types.specs.Configuration.{Configuration}
 use Rattle.kc_model.specs.Lawful.{IsLawful}
 use Rattle.kc_trace.specs.declared.custody_writer.Heading.{Heading}
 use Rattle.kc_trace.specs.declared.volume_writer.VolumeEntry.{VolumeEntry}
-use Rattle.kc_model.specs.State.{State, slot_at}
-use Rattle.kc_model.specs.Boot.{boot}
-use Rattle.kc_model.specs.Custody.{frame_changes_by}
+use Rattle.kc_model.specs.State.{State}
 use Rattle.kc_model.specs.Before.{events_before, lives_from}
 use Rattle.kc_model.specs.Lives.{selected_lives}
 use Rattle.kc_custody.specs.Chosen.{chosen}
 use Rattle.kc_cli.proofs.Plain.{plain}
-use Rattle.kc_model.specs.Events.{events_from, change_in, changes_in}
-use Rattle.kc_custody.specs.Selected.{is_selected, selected}
-use Rattle.kc_custody.proofs.Picked.{picked}
+use Rattle.kc_model.specs.Events.{events_from, changes_in}
+use Rattle.kc_custody.specs.Selected.{selected}
 use Rattle.kc_trace.specs.CustodyText.{custody_text_of}
 use Rattle.kc_trace.specs.SummaryText.{summary_text_of}
 use Rattle.kc_trace.specs.RemarkText.{notes_text_of}
@@ -65,13 +60,6 @@ more_after before n m calls told old new grown so_far =
     ∙ ap (λ (xs : List Event). xs ++ events_from n m calls) so_far
     ∙ append_assoc before (events_in told) (events_from n m calls)
     ∙ ap (λ (xs : List Event). before ++ xs) (events_more n m calls told (events_in told) (events_in told ++ events_from n m calls) refl refl)
-
-pub notes_grow : (n : ℕ) (m : State) (calls : List Call) (wanted : Remarks) (old new : Vec Note) → new.items ≡ old.items ++ notes_from n m calls
-    → (form : CustodyForm) (start : State) (told : List Note) → Keeps form start told (kept.Notes wanted old) → Keeps form start (told ++ notes_from n m calls) (kept.Notes wanted new)
-notes_grow n m calls wanted old new grown (Changes remarks) start told h = (h.0, grown ∙ ap (λ (xs : List Note). xs ++ notes_from n m calls) h.1)
-notes_grow n m calls wanted old new grown Summary start told h = h
-notes_grow n m calls wanted old new grown Picture start told h = h
-notes_grow n m calls wanted old new grown Html start told h = h
 
 pub changes_grow : (n : ℕ) (m : State) (calls : List Call) (old new : Vec Event) → new.items ≡ old.items ++ events_from n m calls
     → (form : CustodyForm) (start : State) (told : List Note) → Keeps form start told (kept.Changes old) → Keeps form start (told ++ notes_from n m calls) (kept.Changes new)

@@ -26,10 +26,6 @@ pub digest_seen : (asked : Bool) (digest : List ℕ) (volume : Traced) → true 
 digest_seen true digest volume there is = ap Some is
 digest_seen false digest volume there is = absurd (let never : true ≡ false = there in cc)
 
-pub none_seen : (asked : Bool) (volume : Traced) → false ≡ asked → None ≡ trace_named asked volume
-none_seen true volume there = absurd (let never : false ≡ true = there in cc)
-none_seen false volume there = refl
-
 -- more calls come, and the witness sees them
 pub sees_more : (asked : Bool) (header : Option Header) (old new : Sha256) (before calls : List Call) → ((h : Header) (first : List Call) → HasSeen old h first → HasSeen new h (first ++ calls)) → HasWitnessed asked header (Some old) before → HasWitnessed asked header (Some new) (before ++ calls)
 sees_more asked None old new before calls step h = let never : true ≡ false = h.0 in absurd cc
@@ -62,7 +58,7 @@ followed_needed true followed volume digest digested is = digested
 followed_needed false true volume digest digested is = digested
 followed_needed false false volume digest digested is = absurd cc
 
--- if calls and those after them are none, so are those after them
+-- if two lists of calls are empty together, the second is empty
 pub none_last : (before calls : List Call) → before ++ calls ≡ [] → calls ≡ []
 none_last [] calls is = is
 none_last (call ∷ before) calls is = absurd cc

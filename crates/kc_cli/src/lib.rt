@@ -40,12 +40,6 @@ pub use answering::{LinesOrder, ReplayAccount};
 pub use auditing::audit_text;
 pub use custody::{CustodyAccount, CustodyOrder};
 pub use history::replay_history;
-pub use kc_digests::Lanes;
-pub use kc_faults::{Origin, TextFault, tell};
-pub use kc_remarks::{Answered, Denials, Remarks, refusals};
-pub use kc_texts::{
-    Ahead, Failed, Headed, Mem, ReadFault, Sink, Source, Std, read_whole, write_whole,
-};
 pub use life::Account;
 pub use live::live_text;
 pub use order::{ReplayForm, ReplayOrder};

@@ -7,7 +7,7 @@ use Rattle.kc_types.specs.declared.call.Call.TheVariants.{Verify}
 use Rattle.kc_types.specs.declared.refusal.Refusal.{Refusal}
 use Rattle.kc_types.specs.declared.refusal.Refusal.TheVariants.{BadVm, NoVm, WrongPhase, ImageShort}
 use Rattle.kc_types.specs.declared.slot.Phase.{Phase}
-use Rattle.kc_model.specs.State.{Slot, slot_at, empty_slot}
+use Rattle.kc_model.specs.State.{Slot, slot_at, no_slot}
 use Rattle.kc_model.specs.Refusals.{refusal, when, or_else, first_of_these, is_empty, is_booting, is_short}
 use Rattle.kc_vms.specs.Vm.{VmSlot}
 use Rattle.kc_parts.specs.Parts.{Held, vm_at, links_of}
@@ -28,7 +28,7 @@ refusal-at config h v slot low is =
     ∙ ap (λ (s : Slot). refusal_in s.phase (lacks_pages s)) is
 
 pub refusal-absent : (config : Configuration) (h : Held) (v : ℕ) → v < slot_count config → vm_at h v ≡ None → refusal (state_of config h) (Verify v) ≡ Some NoVm
-refusal-absent config h v low at = refusal-at config h v empty_slot low (slot-seen config h v low ∙ ap (slot_in (links_of h)) at)
+refusal-absent config h v low at = refusal-at config h v no_slot low (slot-seen config h v low ∙ ap (slot_in (links_of h)) at)
 
 pub refusal-here : (config : Configuration) (h : Held) (v : ℕ) (vm : VmSlot) (phase : Phase) (lacks : Bool) → v < slot_count config → vm_at h v ≡ Some vm → phase ≡ vm.slot.phase → lacks ≡ lacks_pages (slot_in (links_of h) (Some vm))
     → refusal (state_of config h) (Verify v) ≡ refusal_in phase lacks

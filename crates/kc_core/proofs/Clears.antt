@@ -84,4 +84,4 @@ module _ (config : Configuration) (old mid : Held) (v : ℕ) (list : Ends) (is :
       ∙ ap (λ fs. record (cleared_with m fs) { free = m.free ++ fs }) (frames-here old v is.there.vm is.there.is ∙ sym (ap (λ (slot : Slot). slot.frames) (slot-is config old v is.there.vm is.low is.there.is)))
     where
       cleared_with : State → List ℕ → State
-      cleared_with m fs = record m { frames = scrubbed m.frames fs; slots = set m.slots v empty_slot }
+      cleared_with m fs = record m { frames = scrubbed m.frames fs; slots = set m.slots v (empty_slot config.version) }

@@ -54,7 +54,7 @@ module _ (config : Configuration) (old : Held) (v g f : ℕ) (vm : VmSlot) (tabl
   unmapped = with_vm old v unmapped_vm
 
   pub linked-unmapped : IsLinked config unmapped
-  linked-unmapped = linked-vm config old v vm unmapped_vm is.linked is.at refl (ap (λ (t : Table). t.capacity) is.is_left)
+  linked-unmapped = linked-vm config old v vm unmapped_vm is.linked is.at refl (ap (λ (t : Table). record vm.capacity { roots = t.roots; leaves = t.capacity }) is.is_left)
 
   vm-unmapped : vm_at unmapped v ≡ Some unmapped_vm
   vm-unmapped = vm-set old v vm unmapped_vm is.at

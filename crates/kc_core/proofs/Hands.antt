@@ -19,7 +19,7 @@ use Rattle.kc_vms.specs.Stage2.{Table, with_mapping, fits}
 use Rattle.kc_types.specs.Refusals.{Answers}
 use Rattle.kc_vms.specs.Faults.{map_fault}
 use Rattle.kc_vms.specs.declared.table.MapFault.{MapFault}
-use Rattle.kc_vms.specs.Vm.{VmSlot, slot_table, with_table}
+use Rattle.kc_vms.specs.Vm.{VmSlot, capacity_of, slot_table, with_table}
 use Rattle.kc_model.specs.Slot.{with_image_page}
 use Rattle.kc_vms.specs.Refusals.{next_page_refusal}
 use Rattle.kc_vms.proofs.Rows.{refusal-remap}
@@ -37,7 +37,7 @@ use Rattle.kc_core.proofs.Hosts.{loose-host, loose-page}
 use Rattle.kc_parts.proofs.Looked.{fits-seen, slot-is}
 
 -- the table takes the guest frame
-pub map-fits : (m : State) (v g : ℕ) (vm : VmSlot) (frames : List ℕ) → slot_at m v ≡ unlinked_slot vm.slot frames → vm.capacity ≡ m.config.leaves → mapped_at m v g ≡ None → tables_full m v g ≡ None → map_fault (slot_table vm) g ≡ None
+pub map-fits : (m : State) (v g : ℕ) (vm : VmSlot) (frames : List ℕ) → slot_at m v ≡ unlinked_slot vm.slot frames → vm.capacity ≡ capacity_of m.config → mapped_at m v g ≡ None → tables_full m v g ≡ None → map_fault (slot_table vm) g ≡ None
 map-fits m v g vm frames is capacity unmapped leaf_left =
     let free : map.get vm.slot.mapped g ≡ None = ap (λ (slot : Slot). map.get slot.mapped g) (sym is) ∙ unmapped in
     let left : fits (slot_table vm) g ≡ true = not-false (fits (slot_table vm) g) (when-none _ TablesFull (sym (fits-seen m v g vm frames is capacity) ∙ leaf_left)) in
@@ -71,7 +71,7 @@ module _ (config : Configuration) (old : Held) (v g f : ℕ) (vm : VmSlot) (tabl
   owned = held.with_page mapped f new_page
 
   linked-mapped : IsLinked config mapped
-  linked-mapped = linked-vm config old v vm mapped_vm is.linked is.at_vm refl (ap (λ (t : Table). t.capacity) is.maps)
+  linked-mapped = linked-vm config old v vm mapped_vm is.linked is.at_vm refl (ap (λ (t : Table). record vm.capacity { roots = t.roots; leaves = t.capacity }) is.maps)
 
   loose-mapped : IsLoose mapped f
   loose-mapped = loose-host config mapped f linked-mapped is.host

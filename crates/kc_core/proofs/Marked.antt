@@ -1,9 +1,8 @@
 -- Marking slots, one after another.
 use Rattle.std.proofs.Common.{ℕ, ◌≡◌, ◌<◌, ◌≤◌, ◌+◌, ◌∙◌, inl, inr, Bool, false, List, length, get_or, set, sym, ap, arith, get_or-set_same, get_or-set_other}
 use Rattle.std.proofs.lemmas.Bool.{cases_eq}
-use Rattle.kc_types.specs.Configuration.{Configuration, slot_count, slots_of}
-use Rattle.kc_types.specs.declared.version.Version.{Version}
-use Rattle.kc_types.specs.declared.version.Version.TheVariants.{One, Two}
+use Rattle.kc_types.specs.Configuration.{Configuration, slot_count}
+use Rattle.kc_types.proofs.Ranges as ranges
 use Rattle.kc_model.specs.State.{State, Slot, slot_at}
 use Rattle.kc_model.specs.Refusals.{is_active}
 use Rattle.kc_model.specs.Lawful.{IsLawful}
@@ -23,11 +22,7 @@ unmarked-past marks vm mark past v high = get_or-set_other marks vm v mark false
 pub inactive-past : (m : State) (v : ℕ) → IsLawful m → slot_count m.config ≤ v → is_active (slot_at m v).phase ≡ false
 inactive-past m v is past = ap (λ (s : Slot). is_active s.phase) (slot-past m v is.slots past)
 
--- there are at most 64 slots
-pub few-slots : (c : Configuration) → slot_count c ≤ 64
+-- there are at most 1,024 slots
+pub few-slots : (c : Configuration) → slot_count c ≤ 1024
 unfolding slot_count
-few-slots c = by-version c.version
-  where
-    by-version : (version : Version) → slots_of version ≤ 64
-    by-version One = omega arith
-    by-version Two = omega arith
+few-slots c = ranges.few-slots c.version

@@ -4,7 +4,7 @@ use Rattle.kc_types.specs.Configuration.{Configuration, slot_count}
 use Rattle.kc_types.specs.declared.refusal.Refusal.{Refusal}
 use Rattle.kc_types.specs.declared.refusal.Refusal.TheVariants.{NoVm, WrongPhase, NoVcpu}
 use Rattle.kc_types.specs.declared.slot.Phase.{Phase}
-use Rattle.kc_model.specs.State.{State, Slot, slot_at, empty_slot, absent_vcpu}
+use Rattle.kc_model.specs.State.{State, Slot, slot_at, no_slot, absent_vcpu}
 use Rattle.kc_model.specs.Refusals.{when, first_of_these, is_empty, is_active, no_vm, not_active, no_vcpu}
 use Rattle.kc_vms.specs.Vm.{VmSlot}
 use Rattle.kc_parts.specs.Parts.{Held, vm_at, links_of}
@@ -23,7 +23,7 @@ refusal-at : (m : State) (v c : ℕ) (slot : Slot) → slot_at m v ≡ slot → 
 refusal-at m v c slot is = ap (λ (s : Slot). refusal_in s.phase (get_or s.vcpus c absent_vcpu).registered) is
 
 pub refusal-absent : (config : Configuration) (h : Held) (v c : ℕ) → v < slot_count config → vm_at h v ≡ None → vcpu_refusal (state_of config h) v c ≡ Some NoVm
-refusal-absent config h v c low at = refusal-at (state_of config h) v c empty_slot (slot-seen config h v low ∙ ap (slot_in (links_of h)) at)
+refusal-absent config h v c low at = refusal-at (state_of config h) v c no_slot (slot-seen config h v low ∙ ap (slot_in (links_of h)) at)
 
 pub refusal-here : (config : Configuration) (h : Held) (v c : ℕ) (vm : VmSlot) (phase : Phase) (registered : Bool) → v < slot_count config → vm_at h v ≡ Some vm → phase ≡ vm.slot.phase
     → registered ≡ (get_or vm.slot.vcpus c absent_vcpu).registered → vcpu_refusal (state_of config h) v c ≡ refusal_in phase registered

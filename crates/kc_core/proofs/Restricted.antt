@@ -30,7 +30,7 @@ use Rattle.kc_model.proofs.Local.Orderly.{owned-is}
 use Rattle.kc_model.proofs.Lawful.LawfulTraces.{orderly-is, lists-all}
 use Rattle.kc_page.specs.declared.page.Page.{Page}
 use Rattle.kc_page.specs.Page.{frame_of}
-use Rattle.kc_vms.specs.Vm.{VmSlot}
+use Rattle.kc_vms.specs.Vm.{capacity_of, VmSlot}
 use Rattle.kc_links.specs.Chain.{unlinked}
 use Rattle.kc_links.specs.Ending.{listed}
 use Rattle.kc_links.proofs.Linked.{linked-holds}
@@ -195,7 +195,7 @@ module _ (m : State) (here : Resources) (old new : Held) (call : Call) (reply : 
   pub restricted-after : IsRestricted after here new
   restricted-after = record {
     parts = parts;
-    capacities = λ v vm at. answer.linked.vms v vm at ∙ ap (λ config. config.leaves) (sym config-after);
+    capacities = λ v vm at. answer.linked.vms v vm at ∙ ap capacity_of (sym config-after);
   }
     where
       parts : (r : Resource) → seen_at new r ≡ cond (here r) (Some (linked_part_of after r)) None

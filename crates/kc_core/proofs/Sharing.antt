@@ -9,7 +9,7 @@ use Rattle.kc_types.specs.declared.call.Call.TheVariants.{GrantRange}
 use Rattle.kc_types.specs.declared.owner.Owner.TheVariants.{Core}
 use Rattle.kc_types.specs.declared.resource.Resource.TheVariants as resource
 use Rattle.kc_types.specs.Slots.{slot_of}
-use Rattle.kc_model.specs.State.{State, Frame, Slot, frame_at, mapped_at, with_frame, untouched, empty_slot}
+use Rattle.kc_model.specs.State.{State, Frame, Slot, frame_at, mapped_at, with_frame, untouched, no_slot}
 use Rattle.kc_model.specs.Refusals.{refusal, backing, share_at}
 use Rattle.kc_model.specs.Effects.{with_each, granted}
 use Rattle.kc_model.proofs.Refusals.Served.{when-none}
@@ -27,7 +27,7 @@ each-one change m v g f mapped = ap (λ at. with_frame m (backing at) (change (f
 
 -- calls that leave the slots as they are leave what is mapped
 pub mapped-still : (m now : State) (v g : ℕ) → now.slots ≡ m.slots → mapped_at m v g ≡ Some (backing (mapped_at m v g)) → mapped_at now v g ≡ Some (backing (mapped_at m v g))
-mapped-still m now v g slots mapped = ap (λ (slots : List Slot). map.get (get_or slots v empty_slot).mapped g) slots ∙ mapped
+mapped-still m now v g slots mapped = ap (λ (slots : List Slot). map.get (get_or slots v no_slot).mapped g) slots ∙ mapped
 
 -- the page there is still here, if the places stay too
 pub page-still : (config : Configuration) (old now : Held) (call : Call) (v g f : ℕ) → IsAble config old call → slot_of call ≡ Some v → v < slot_count config → mapped_at (state_of config old) v g ≡ Some (backing (mapped_at (state_of config old) v g))

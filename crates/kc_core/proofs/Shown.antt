@@ -15,7 +15,7 @@ use Rattle.kc_types.specs.declared.link.Ends.{Ends}
 use Rattle.kc_types.specs.declared.link.Link.{Link}
 use Rattle.kc_types.specs.declared.owner.Owner.{Owner}
 use Rattle.kc_types.specs.declared.owner.Owner.TheVariants.{Core, Host, Free, Vm}
-use Rattle.kc_model.specs.State.{Frame, Slot, frame_at, slot_at, empty_slot}
+use Rattle.kc_model.specs.State.{Frame, Slot, frame_at, slot_at, no_slot}
 use Rattle.kc_model.specs.Lawful.{same_owner, times_in}
 use Rattle.kc_model.specs.Links.{link_in, link_at, list_of}
 use Rattle.kc_page.specs.declared.page.Page.{Page}
@@ -110,7 +110,7 @@ pub vm-absent : (config : Configuration) (h : Held) (v : ℕ) → vm_at h v ≡ 
 vm-absent config h v at low = ap (λ (slot : Slot). slot.frames) (slot-seen config h v low ∙ ap (slot_in (links_of h)) at)
 
 pub vm-past : (config : Configuration) (h : Held) (v : ℕ) → slot_count config ≤ v → (slot_at (state_of config h) v).frames ≡ []
-vm-past config h v past = ap (λ (slot : Slot). slot.frames) (get_or_past (state_of config h).slots v empty_slot (rw (length-map-range_with_len (λ w. slot_in (links_of h) (vm_at h w)) 0 (slot_count config)) past))
+vm-past config h v past = ap (λ (slot : Slot). slot.frames) (get_or_past (state_of config h).slots v no_slot (rw (length-map-range_with_len (λ w. slot_in (links_of h) (vm_at h w)) 0 (slot_count config)) past))
 
 -- the numbers that pass a test, for one more number
 filtered-more : (test : ℕ → Bool) (n : ℕ) → filter test (range_with_len 0 (n + 1)) ≡ filter test (range_with_len 0 n) ++ cond (test n) (n ∷ []) []

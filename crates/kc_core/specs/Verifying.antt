@@ -3,6 +3,7 @@ use Rattle.std.specs.Prelude.{ℕ, ◌≡◌, ◌<◌, ◌≤◌, ◌+◌, List,
 use Rattle.std.specs.List.{flat_map, list_any}
 use Rattle.std.specs.FinMap as map
 use Rattle.kc_types.specs.Configuration.{Configuration}
+use Rattle.kc_types.specs.Limits.{gfn_limit}
 use Rattle.kc_model.specs.State.{Image}
 use Rattle.kc_model.specs.Refusals.{backing, pages_of}
 use Rattle.kc_model.specs.Effects.{gfns_of, same_bytes}
@@ -26,6 +27,11 @@ bytes_under h mapped g = (frame_in (page_under h mapped g)).bytes
 -- the bytes of an image: those of its pages, joined
 abbrev pub bytes_of_image : Held → (ℕ → Option ℕ) → Image → List ℕ
 bytes_of_image h mapped image = take image.len (flat_map (bytes_under h mapped) (gfns_of image))
+
+-- the image has a byte, and its pages have guest frames
+pub record IsMeasurable (image : Image) : Type 0 where
+  pub some : 0 < image.len
+  pub within : image.base + pages_of image.len ≤ gfn_limit
 
 -- each page of the image is mapped, and here
 pub record IsImageHere (h : Held) (mapped : ℕ → Option ℕ) (image : Image) : Type 0 where

@@ -6,7 +6,7 @@ use kc_page::Page;
 use kc_types::Owner;
 
 /// A mark for each possible slot.
-pub type Marks = [bool; 64];
+pub type Marks = [bool; 1_024];
 
 /// Whether the owner is a VM whose slot is marked.
 fn is_marked(marks: &Marks, owner: Owner) -> bool
@@ -22,7 +22,7 @@ fn is_marked(marks: &Marks, owner: Owner) -> bool
 fn blank_marked(page: &mut Page, marks: &Marks)
     ensures { page.new ≡ blank_page marks.now page.old }
 {
-    if is_marked(marks, page.meta.owner) {
+    if is_marked(marks, page.meta.owner.get()) {
         page.bytes.scrub();
     }
 }

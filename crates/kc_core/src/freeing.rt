@@ -11,7 +11,7 @@ ghost use Rattle.kc_core.specs.Guests.{IsMapping};
 
 use crate::naming::{Mapping, grants_of, mapped_frame};
 use kc_parts::Parts;
-use kc_types::{Config, FrameNo, Owner, Phase, Refusal, Reply, VmId};
+use kc_types::{Config, FrameNo, MaybeGfn, Owner, OwnerCode, Phase, Refusal, Reply, VmId};
 
 /// The frame at a guest frame that may be given up.
 fn unshared_frame(
@@ -44,8 +44,8 @@ fn free_frame(parts: &mut Parts, config: &Config, frame: FrameNo)
     ensures places { KeepsPlaces parts.old parts.new }
 {
     let page = parts.page_mut(frame);
-    page.meta.owner = Owner::Free;
-    page.meta.gfn = None;
+    page.meta.owner = OwnerCode::of(Owner::Free);
+    page.meta.gfn = MaybeGfn::of(None);
     page.meta.present = false;
     page.bytes.scrub();
     parts.append_free(frame);

@@ -1,6 +1,6 @@
 //! The calls of a virtual processor that read and write its guest frames.
 ghost use Rattle.std.specs.Prelude.{◌≡◌, ◌≤◌, ◌<◌, Some, None, true, IsSome, IsOk, IsErr, IfOk, OnErr};
-ghost use Rattle.kc_types.specs.Configuration.{slot_count};
+ghost use Rattle.kc_types.specs.Configuration.{gfns_of, slot_count};
 ghost use Rattle.kc_types.specs.ReplyBytes.{is_data, readable};
 ghost use Rattle.kc_types.specs.declared.call.Call.TheVariants.{GuestRead, GuestWrite};
 ghost use Rattle.kc_types.specs.declared.slot.Phase.TheVariants.{Active};
@@ -33,6 +33,7 @@ fn accessed(
 ) -> Result<(GuestFrame, Option<FrameNo>), Refusal>
     ensures answer { Answers result (refusal (state_of config.now parts.now) (GuestRead vm vcpu gfn offset len)) }
     ensures named { IfOk result (λ found. IsAt vm vcpu gfn found.0) }
+    ensures within { IfOk result (λ found. found.0.gfn < gfns_of config.now.version) }
     ensures mapped { IfOk result (λ found. found.1 ≡ mapped_at (state_of config.now parts.now) vm gfn) }
 {
     let at = guest_frame(config, vm, vcpu, gfn)?;
@@ -50,6 +51,7 @@ fn set_fault(parts: &mut Parts, config: &Config, at: GuestFrame)
     requires linked { IsLinked config.now parts.old }
     requires active { (slot_at (state_of config.now parts.old) at.vm).phase ≡ Active }
     requires registered { (vcpu_at (state_of config.now parts.old) at.vm at.vcpu).registered ≡ true }
+    requires within { at.gfn < gfns_of config.now.version }
     ensures state { state_of config.now parts.new ≡ with_fault (state_of config.now parts.old) at.vm at.vcpu (Some at.gfn) }
     ensures linked { IsLinked config.now parts.new }
     ensures places { KeepsPlaces parts.old parts.new }

@@ -1,6 +1,6 @@
 //! The calls that hand a frame of the host's to a slot.
 ghost use Rattle.std.specs.Prelude.{◌≡◌, ◌<◌, None, [], ◌∷◌, IsSome, IfOk};
-ghost use Rattle.kc_types.specs.Configuration.{slot_count};
+ghost use Rattle.kc_types.specs.Configuration.{gfns_of, slot_count};
 ghost use Rattle.kc_types.specs.declared.owner.Owner.TheVariants.{Host};
 ghost use Rattle.kc_types.specs.declared.call.Call.TheVariants.{Remap, Map};
 ghost use Rattle.kc_types.specs.Refusals.{Answers};
@@ -15,7 +15,7 @@ ghost use Rattle.kc_core.specs.Hands.{IsNextPage, IsAwaited};
 use crate::guest::spend_fault;
 use crate::naming::{expect_vcpu, named_vcpu};
 use kc_parts::Parts;
-use kc_types::{Config, FrameNo, Gfn, Owner, Refusal, Reply, VcpuId, VmId};
+use kc_types::{Config, FrameNo, Gfn, MaybeGfn, Owner, OwnerCode, Refusal, Reply, VcpuId, VmId};
 
 /// Checks that a frame can be handed to a slot at a guest frame, or returns why not.
 fn expect_room(
@@ -29,7 +29,7 @@ fn expect_room(
     requires linked { IsLinked config.now parts.now }
     ensures { Answers result (first_of_these (not_host (state_of config.now parts.now) frame ∷ tables_full (state_of config.now parts.now) vm gfn ∷ [])) }
 {
-    if parts.record_of(frame).owner != Owner::Host {
+    if parts.record_of(frame).owner.get() != Owner::Host {
         return Err(Refusal::NotHost);
     }
     if !parts.fits_in(config, vm, gfn) {
@@ -43,6 +43,7 @@ fn hand(parts: &mut Parts, config: &Config, vm: VmId, gfn: Gfn, frame: FrameNo)
     requires linked { IsLinked config.now parts.old }
     requires slot { IsSome (vm_at parts.old vm) }
     requires exists { vm < slot_count config.now }
+    requires within { gfn < gfns_of config.now.version }
     requires page { IsSome (page_at parts.old frame) }
     requires host { owner_at parts.old frame ≡ Host }
     requires unmapped { mapped_at (state_of config.now parts.old) vm gfn ≡ None }
@@ -53,9 +54,11 @@ fn hand(parts: &mut Parts, config: &Config, vm: VmId, gfn: Gfn, frame: FrameNo)
 {
     let slot = parts.slot_mut(vm);
     slot.table_mut().map(gfn, frame).unwrap();
+    let owner = OwnerCode::of(Owner::Vm(vm));
+    let place = MaybeGfn::of(Some(gfn));
     let page = parts.page_mut(frame);
-    page.meta.owner = Owner::Vm(vm);
-    page.meta.gfn = Some(gfn);
+    page.meta.owner = owner;
+    page.meta.gfn = place;
     page.meta.present = false;
     parts.append_vm(vm, frame);
 }

@@ -13,7 +13,7 @@ ghost use Rattle.kc_core.specs.Applying.{IsAble, IsAnswer, KeepsPlaces, reply_of
 
 use crate::unserved::Unserved;
 use kc_parts::Parts;
-use kc_types::{Config, Data, FrameNo, Owner, PAGE_SIZE, Refusal, Reply, ReplyBuffer};
+use kc_types::{Config, Data, FrameNo, Owner, OwnerCode, PAGE_SIZE, Refusal, Reply, ReplyBuffer};
 
 /// Gives the host the first free frame.
 pub fn take(parts: &mut Parts, config: &Config) -> Result<Reply, Refusal>
@@ -24,7 +24,7 @@ pub fn take(parts: &mut Parts, config: &Config) -> Result<Reply, Refusal>
         return Err(Refusal::NoFree);
     };
     let page = parts.page_mut(frame);
-    page.meta.owner = Owner::Host;
+    page.meta.owner = OwnerCode::of(Owner::Host);
     page.meta.present = false;
     Ok(Reply::Frame(frame.number()))
 }
@@ -37,7 +37,7 @@ fn host_frame(parts: &Parts, config: &Config, frame: u32) -> Result<FrameNo, Ref
     let Some(found) = config.frame(frame) else {
         return Err(Refusal::BadFrame);
     };
-    if parts.record_of(found).owner != Owner::Host {
+    if parts.record_of(found).owner.get() != Owner::Host {
         return Err(Refusal::NotHost);
     }
     Ok(found)
@@ -50,7 +50,7 @@ pub fn give(parts: &mut Parts, config: &Config, frame: u32) -> Result<Reply, Ref
 {
     let frame = host_frame(parts, config, frame)?;
     let page = parts.page_mut(frame);
-    page.meta.owner = Owner::Free;
+    page.meta.owner = OwnerCode::of(Owner::Free);
     page.meta.present = false;
     page.bytes.scrub();
     parts.append_free(frame);
@@ -66,7 +66,7 @@ fn reachable_frame(parts: &Parts, config: &Config, frame: u32) -> Result<FrameNo
         return Err(Refusal::BadFrame);
     };
     let record = parts.record_of(found);
-    if record.owner != Owner::Host && record.share == 0 {
+    if record.owner.get() != Owner::Host && record.share == 0 {
         return Err(Refusal::Protected);
     }
     Ok(found)

@@ -9,8 +9,7 @@ ghost use Rattle.kc_model.specs.Lawful.{IsLawful};
 ghost use Rattle.kc_core.specs.Runs.{StopsAfter};
 ghost use Rattle.kc_model.specs.Promises.{KeepsPromises};
 ghost use Rattle.kc_model.specs.Blind.{ShowsNothing};
-ghost use Rattle.kc_types.specs.Configuration.{slot_count};
-ghost use Rattle.kc_types.specs.Limits.{vcpu_limit, gfn_limit};
+ghost use Rattle.kc_types.specs.Configuration.{gfns_of, slot_count, vcpus_of};
 ghost use Rattle.std.specs.FinMap as finite;
 ghost use Rattle.kc_model.specs.State.{frame_at, slot_at, vcpu_at, mapped_at};
 ghost use Rattle.kc_model.specs.Links.{frames_of};
@@ -29,7 +28,7 @@ use crate::verify::{Verified, booted_slot, verify};
 use kc_page::{Page, PageBytes, PageRecord, scrub_all};
 use kc_parts::Parts;
 use kc_types::{
-    Call, Config, Ends, FrameNo, Gfn, Image, Memory, Owner, Phase, Reply, ReplyBuffer, Vcpu, VcpuId,
+    Call, Config, Ends, FrameNo, Gfn, Image, Memory, Owner, Phase, Reply, ReplyBuffer, Vcpu,
 };
 use kc_vms::Vm;
 use std::alloc::Global;
@@ -132,7 +131,7 @@ impl KCore {
         apply(&mut self.parts, &self.config, call, buffer)
     }
 
-    /// Answers `verify` of a VM slot, 0 to 63, as `call` does, and returns the images that it measured.
+    /// Answers `verify` of a VM slot as `call` does, and returns the images that it measured.
     pub fn verify(&mut self, vm: u32) -> Verified
         ensures reply { result.reply ≡ (next self.old (Verify vm)).0 }
         ensures images { result.images.items ≡ images_by self.old (Verify vm) }
@@ -246,7 +245,7 @@ impl KCore {
         self.parts.try_slot(self.config.vm(vm)?)
     }
 
-    /// The phase of a VM slot, 0 to 63; `None` if the slot does not exist.
+    /// The phase of a VM slot; `None` if the slot does not exist.
     pub fn phase(&self, vm: u32) -> Option<Phase>
         ensures exists { IsSome result ↔ (vm < slot_count self.now.config) }
         ensures value { IfSome result (λ phase. phase ≡ (slot_at self.now vm).phase) }
@@ -267,26 +266,26 @@ impl KCore {
         }
     }
 
-    /// The guest frame that a virtual processor, 0 to 7, of a VM slot, 0 to 63, waits for; `None` if the slot or the
-    /// virtual processor does not exist, or if it waits for nothing.
+    /// The guest frame that a virtual processor of a VM slot waits for; `None` if the slot or the virtual processor does
+    /// not exist, or if it waits for nothing.
     pub fn fault(&self, vm: u32, vcpu: u32) -> Option<Gfn>
-        ensures exists { IsSome result → (vm < slot_count self.now.config) × (vcpu < vcpu_limit) }
+        ensures exists { IsSome result → (vm < slot_count self.now.config) × (vcpu < vcpus_of self.now.config.version) }
         ensures value { result ≡ (vcpu_at self.now vm vcpu).fault }
     {
         let slot = self.try_slot(vm)?;
-        Gfn::try_new(slot.vcpu(VcpuId::try_new(vcpu)?).fault?)
+        Gfn::try_new(slot.vcpu(self.config.vcpu(vcpu)?).fault?)
     }
 
-    /// A virtual processor, 0 to 7, of a VM slot, 0 to 63; `None` if either does not exist.
+    /// A virtual processor of a VM slot; `None` if either does not exist.
     pub fn vcpu(&self, vm: u32, vcpu: u32) -> Option<Vcpu>
-        ensures exists { IsSome result ↔ ((vm < slot_count self.now.config) × (vcpu < vcpu_limit)) }
+        ensures exists { IsSome result ↔ ((vm < slot_count self.now.config) × (vcpu < vcpus_of self.now.config.version)) }
         ensures value { IfSome result (λ there. there ≡ vcpu_at self.now vm vcpu) }
     {
         let slot = self.try_slot(vm)?;
-        Some(slot.vcpu(VcpuId::try_new(vcpu)?))
+        Some(slot.vcpu(self.config.vcpu(vcpu)?))
     }
 
-    /// The boot images of a VM slot, 0 to 63, in the order of their numbers; `None` if the slot does not exist.
+    /// The boot images of a VM slot, in the order of their numbers; `None` if the slot does not exist.
     pub fn images(&self, vm: u32) -> Option<&[Image]>
         ensures exists { IsSome result ↔ (vm < slot_count self.now.config) }
         ensures value { IfSome result (λ images. images.now ≡ (slot_at self.now vm).images) }
@@ -294,18 +293,18 @@ impl KCore {
         Some(self.try_slot(vm)?.images())
     }
 
-    /// The frame at a guest frame, 0 to 262,143, of a VM slot, 0 to 63; `None` if the slot or the guest frame does not
-    /// exist, or if nothing is mapped there.
+    /// The frame at a guest frame of a VM slot; `None` if the slot or the guest frame does not exist, or if nothing is
+    /// mapped there.
     pub fn lookup(&self, vm: u32, gfn: u32) -> Option<FrameNo>
-        ensures exists { IsSome result → (vm < slot_count self.now.config) × (gfn < gfn_limit) }
+        ensures exists { IsSome result → (vm < slot_count self.now.config) × (gfn < gfns_of self.now.config.version) }
         ensures value { result ≡ mapped_at self.now vm gfn }
     {
         let table = self.try_slot(vm)?.table();
-        table.get(Gfn::try_new(gfn)?)
+        table.get(self.config.gfn(gfn)?)
     }
 
-    /// The root slots, 0 to 511, that have leaves in the table of a VM slot, 0 to 63, in the order in which they took
-    /// them; `None` if the VM slot does not exist.
+    /// The root slots that have leaves in the table of a VM slot, in the order in which they took them; `None` if the
+    /// VM slot does not exist.
     pub fn leaves(&self, vm: u32) -> Option<&[u32]>
         ensures exists { IsSome result ↔ (vm < slot_count self.now.config) }
         ensures value { IfSome result (λ leaves. leaves.now ≡ (slot_at self.now vm).leaves) }
@@ -335,8 +334,8 @@ impl KCore {
     fn active_slots(&self) -> Marks
         ensures { (v : ℕ) → slice_index_or result v false ≡ is_active (slot_at self.now v).phase }
     {
-        let mut marks = [false; 64];
-        'slots: for vm in 0..64 {
+        let mut marks = [false; 1_024];
+        'slots: for vm in 0..1_024 {
             marks[vm] = self.is_active(vm as u32);
         }
         marks

@@ -11,7 +11,7 @@ ghost use Rattle.kc_core.specs.KCore.{ShowsRecord};
 use kc_links::walk;
 use kc_page::PageRecord;
 use kc_parts::Parts;
-use kc_types::{Config, Ends, FrameNo, Memory, Owner, VmId};
+use kc_types::{Config, Ends, FrameNo, MaybeFrame, Memory, Owner, VmId};
 use std::alloc::Global;
 
 /// The record of a frame that is here, with its neighbours in the list of its owner; the core's and the host's frames
@@ -21,10 +21,10 @@ pub fn page_record(parts: &Parts, frame: FrameNo) -> PageRecord
     ensures { ShowsRecord parts.now frame result }
 {
     let meta = parts.page(frame).meta;
-    match meta.owner {
+    match meta.owner.get() {
         Owner::Core | Owner::Host => PageRecord {
-            prev: None,
-            next: None,
+            prev: MaybeFrame::of(None),
+            next: MaybeFrame::of(None),
             ..meta
         },
         Owner::Free | Owner::Vm(_) => meta,
@@ -49,7 +49,7 @@ fn owner_at(parts: &Parts, config: &Config, frame: u32) -> Owner
     ensures { result ≡ (frame_at (state_of config.now parts.now) frame).owner }
 {
     match parts.try_page(config.frame(frame).unwrap()) {
-        Some(page) => page.meta.owner,
+        Some(page) => page.meta.owner.get(),
         None => Owner::Core,
     }
 }

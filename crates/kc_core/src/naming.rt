@@ -1,11 +1,11 @@
 //! What a virtual processor's call names, looked up once.
 ghost use Rattle.std.specs.Prelude.{◌≡◌, ◌<◌, nat_le, [], ◌∷◌, Some, IfOk};
-ghost use Rattle.kc_types.specs.Configuration.{slot_count};
+ghost use Rattle.kc_types.specs.Configuration.{gfns_of, slot_count, vcpus_of};
 ghost use Rattle.kc_types.specs.Limits.{gfn_limit};
 ghost use Rattle.kc_types.specs.Refusals.{Answers};
-ghost use Rattle.kc_types.specs.declared.refusal.Refusal.TheVariants.{BadVm};
+ghost use Rattle.kc_types.specs.declared.refusal.Refusal.TheVariants.{BadVm, BadVcpu, BadGfn};
 ghost use Rattle.kc_model.specs.State.{frame_at, slot_at, mapped_at};
-ghost use Rattle.kc_model.specs.Refusals.{first_of_these, when, bad_vcpu, bad_gfn, no_vm, not_active, no_vcpu};
+ghost use Rattle.kc_model.specs.Refusals.{first_of_these, when, no_vm, not_active, no_vcpu};
 ghost use Rattle.kc_parts.specs.Parts.{links_of};
 ghost use Rattle.kc_parts.specs.States.{state_of, slot_in};
 ghost use Rattle.kc_core.specs.Guests.{IsAt, AnswersMapped};
@@ -32,14 +32,14 @@ pub struct Mapping {
 
 /// The slot and the virtual processor of these numbers, registered or not.
 pub fn named_vcpu(config: &Config, vm: u32, vcpu: u32) -> Result<(VmId, VcpuId), Refusal>
-    ensures answer { Answers result (first_of_these (when (nat_le (slot_count config.now) vm) BadVm ∷ bad_vcpu vcpu ∷ [])) }
+    ensures answer { Answers result (first_of_these (when (nat_le (slot_count config.now) vm) BadVm ∷ when (nat_le (vcpus_of config.now.version) vcpu) BadVcpu ∷ [])) }
     ensures named { IfOk result (λ named. (named.0 ≡ vm) × (named.1 ≡ vcpu)) }
     ensures exists { IfOk result (λ named. named.0 < slot_count config.now) }
 {
     let Some(vm) = config.vm(vm) else {
         return Err(Refusal::BadVm);
     };
-    let Some(vcpu) = VcpuId::try_new(vcpu) else {
+    let Some(vcpu) = config.vcpu(vcpu) else {
         return Err(Refusal::BadVcpu);
     };
     Ok((vm, vcpu))
@@ -47,12 +47,13 @@ pub fn named_vcpu(config: &Config, vm: u32, vcpu: u32) -> Result<(VmId, VcpuId),
 
 /// The guest frame of these numbers, mapped or not.
 pub fn guest_frame(config: &Config, vm: u32, vcpu: u32, gfn: u32) -> Result<GuestFrame, Refusal>
-    ensures answer { Answers result (first_of_these (when (nat_le (slot_count config.now) vm) BadVm ∷ bad_vcpu vcpu ∷ bad_gfn gfn ∷ [])) }
+    ensures answer { Answers result (first_of_these (when (nat_le (slot_count config.now) vm) BadVm ∷ when (nat_le (vcpus_of config.now.version) vcpu) BadVcpu ∷ when (nat_le (gfns_of config.now.version) gfn) BadGfn ∷ [])) }
     ensures named { IfOk result (IsAt vm vcpu gfn) }
     ensures exists { IfOk result (λ at. at.vm < slot_count config.now) }
+    ensures within { IfOk result (λ at. at.gfn < gfns_of config.now.version) }
 {
     let (vm, vcpu) = named_vcpu(config, vm, vcpu)?;
-    let Some(gfn) = Gfn::try_new(gfn) else {
+    let Some(gfn) = config.gfn(gfn) else {
         return Err(Refusal::BadGfn);
     };
     Ok(GuestFrame { vm, vcpu, gfn })
@@ -98,7 +99,7 @@ pub fn grants_of(parts: &Parts, config: &Config, frame: u32) -> u32
     ensures { result ≡ (frame_at (state_of config.now parts.now) frame).share }
 {
     match config.frame(frame) {
-        Some(frame) => parts.record_of(frame).share,
+        Some(frame) => u32::from(parts.record_of(frame).share),
         None => 0,
     }
 }

@@ -2,7 +2,6 @@
 ghost use Rattle.std.specs.Prelude.{◌≡◌, ◌+◌, ◌-◌, ◌<◌, ◌==◌, false, if◌then◌else◌, IsSome, IfOk, ◌≤◌, nat_le, is_none};
 ghost use Rattle.kc_types.specs.declared.call.Call.TheVariants.{Grant, Revoke, GrantRange, RevokeRange};
 ghost use Rattle.kc_model.specs.State.{frame_at, mapped_at, with_frame};
-ghost use Rattle.kc_model.specs.Ranged.{IsWord};
 ghost use Rattle.kc_model.specs.Refusals.{refusal, any_from, share_at};
 ghost use Rattle.kc_model.specs.Effects.{granted, revoked};
 ghost use Rattle.kc_parts.specs.Parts.{page_at};
@@ -16,7 +15,7 @@ ghost use Rattle.kc_types.specs.Refusals.{Answers};
 use crate::naming::{expect_vcpu, grants_of, mapped_at, mapped_frame, named_vcpu};
 use kc_page::PageRecord;
 use kc_parts::Parts;
-use kc_types::{Config, FrameNo, GFN_LIMIT, RANGE_LIMIT, Refusal, Reply, SHARE_LIMIT, VmId};
+use kc_types::{Config, FrameNo, RANGE_LIMIT, Refusal, Reply, SHARE_LIMIT, VmId};
 
 /// The frame at a guest frame to which the host may be granted access once more.
 fn grantable_frame(
@@ -57,7 +56,7 @@ fn shared_frame(
 /// Grants the host access to a frame once more.
 pub fn grant_frame(parts: &mut Parts, config: &Config, frame: FrameNo)
     requires here { IsSome (page_at parts.old frame) }
-    requires few { IsWord ((frame_at (state_of config.now parts.old) frame).share + 1) }
+    requires few { (frame_at (state_of config.now parts.old) frame).share < 255 }
     requires linked { IsLinked config.now parts.old }
     ensures state { state_of config.now parts.new ≡ with_frame (state_of config.now parts.old) frame (granted (frame_at (state_of config.now parts.old) frame)) }
     ensures linked { IsLinked config.now parts.new }
@@ -177,7 +176,8 @@ fn expect_range(
     ensures exists { IfOk result (λ slot. slot < slot_count config.now) }
 {
     let (slot, vcpu) = named_vcpu(config, vm, vcpu)?;
-    if gfn >= GFN_LIMIT || count > GFN_LIMIT - gfn {
+    let gfns = config.version().gfns();
+    if gfn >= gfns || count > gfns - gfn {
         return Err(Refusal::BadGfn);
     }
     if count == 0 || count > RANGE_LIMIT {

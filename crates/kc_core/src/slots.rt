@@ -3,7 +3,7 @@ ghost use Rattle.kc_types.specs.declared.call.Call.TheVariants.{RegisterVm, Regi
 ghost use Rattle.kc_core.specs.Applying.{IsAble, IsAnswer, reply_of};
 
 use kc_parts::Parts;
-use kc_types::{Config, GFN_LIMIT, IMAGE_SIZE_LIMIT, Refusal, Reply, VcpuId};
+use kc_types::{Config, Refusal, Reply};
 use kc_vms::pages_of;
 
 /// Registers a VM: an empty slot becomes booting.
@@ -32,7 +32,7 @@ pub fn register_vcpu(
     let Some(vm) = config.vm(vm) else {
         return Err(Refusal::BadVm);
     };
-    let Some(vcpu) = VcpuId::try_new(vcpu) else {
+    let Some(vcpu) = config.vcpu(vcpu) else {
         return Err(Refusal::BadVcpu);
     };
     let slot = parts.slot_mut(vm);
@@ -54,10 +54,13 @@ pub fn set_boot(
     let Some(vm) = config.vm(vm) else {
         return Err(Refusal::BadVm);
     };
-    if base >= GFN_LIMIT || pages_of(len) > GFN_LIMIT - base {
+    let version = config.version();
+    let gfns = version.gfns();
+    if base >= gfns || pages_of(len) > gfns - base {
         return Err(Refusal::BadGfn);
     }
-    if len == 0 || len > IMAGE_SIZE_LIMIT {
+    let most_bytes = version.most_image_bytes();
+    if len == 0 || len > most_bytes {
         return Err(Refusal::BadRange);
     }
     let slot = parts.slot_mut(vm);

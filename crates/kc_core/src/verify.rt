@@ -9,7 +9,6 @@ ghost use Rattle.kc_types.specs.declared.call.Call.TheVariants.{Verify};
 ghost use Rattle.kc_types.specs.declared.reply.Reply.TheVariants.{Refused};
 ghost use Rattle.kc_types.specs.Refusals.{Answers};
 ghost use Rattle.kc_model.specs.State.{slot_at};
-ghost use Rattle.kc_model.specs.Lawful.{IsLawfulImage};
 ghost use Rattle.kc_model.specs.Refusals.{refusal, backing, pages_of, is_short};
 ghost use Rattle.kc_model.specs.Effects.{effect, first_failing, trimmed, all_trimmed};
 ghost use Rattle.kc_model.specs.Custody.{measured_images, images_by};
@@ -17,7 +16,7 @@ ghost use Rattle.kc_types.specs.declared.custody.MeasuredImage.{MeasuredImage};
 ghost use Rattle.kc_parts.specs.Parts.{vm_at};
 ghost use Rattle.kc_parts.specs.States.{state_of, IsLinked};
 ghost use Rattle.kc_core.specs.Applying.{IsAble, IsAnswer, KeepsPlaces};
-ghost use Rattle.kc_core.specs.Verifying.{mapped_in, page_under, bytes_under, bytes_of_image, is_approved_digest, AreFourAlike, IsImageHere};
+ghost use Rattle.kc_core.specs.Verifying.{mapped_in, page_under, bytes_under, bytes_of_image, is_approved_digest, AreFourAlike, IsImageHere, IsMeasurable};
 
 use arrayvec::ArrayVec;
 use kc_digests::MeasureFour;
@@ -50,7 +49,7 @@ fn page_under<'a>(parts: &'a Parts, table: &Stage2, gfn: u32) -> &'a Page
 
 /// The bytes of a page of an image, by its number, counted from the image's first page.
 fn page_of<'a>(parts: &'a Parts, table: &Stage2, image: &Image, number: u32) -> &'a [u8]
-    requires lawful { IsLawfulImage image.now }
+    requires measurable { IsMeasurable image.now }
     requires here { IsImageHere parts.now (finite.get table.now.mapped) image.now }
     requires within { number < pages_of image.now.len }
     ensures value { result.now ≡ bytes_under parts.now (finite.get table.now.mapped) (image.now.base + number) }
@@ -69,7 +68,7 @@ fn pages_of_four<'a>(
     number: u32,
 ) -> [&'a [u8]; 4]
     requires four { length images.now ≡ 4 }
-    requires lawful { All IsLawfulImage images.now }
+    requires measurable { All IsMeasurable images.now }
     requires here { All (IsImageHere parts.now (finite.get table.now.mapped)) images.now }
     requires within { All (λ image. number < pages_of image.len) images.now }
     ensures value { map (λ page. page.now) result ≡ map (λ image. bytes_under parts.now (finite.get table.now.mapped) (image.base + number)) images.now }
@@ -86,7 +85,7 @@ fn pages_of_four<'a>(
 /// The digests of the bytes of four images of one length, computed side by side.
 fn digests_of_four(parts: &Parts, table: &Stage2, images: &[Image]) -> [[u8; 32]; 4]
     requires four { AreFourAlike images.now }
-    requires lawful { All IsLawfulImage images.now }
+    requires measurable { All IsMeasurable images.now }
     requires here { All (IsImageHere parts.now (finite.get table.now.mapped)) images.now }
     ensures { result ≡ map (λ image. sha256 (bytes_of_image parts.now (finite.get table.now.mapped) image)) images.now }
 {
@@ -102,7 +101,7 @@ fn digests_of_four(parts: &Parts, table: &Stage2, images: &[Image]) -> [[u8; 32]
 
 /// The digest of an image's bytes, computed page by page.
 fn digest_of(parts: &Parts, table: &Stage2, image: &Image) -> [u8; 32]
-    requires lawful { IsLawfulImage image.now }
+    requires measurable { IsMeasurable image.now }
     requires here { IsImageHere parts.now (finite.get table.now.mapped) image.now }
     ensures { result ≡ sha256 (bytes_of_image parts.now (finite.get table.now.mapped) image.now) }
 {
@@ -176,7 +175,7 @@ fn first_unapproved(config: &Config, images: &[MeasuredImage]) -> Option<u32>
 fn trim_image(parts: &mut Parts, config: &Config, vm: VmId, image: &Image)
     requires low { vm < slot_count config.now }
     requires linked { IsLinked config.now parts.old }
-    requires lawful { IsLawfulImage image.now }
+    requires measurable { IsMeasurable image.now }
     requires here { IsImageHere parts.old (mapped_in (vm_at parts.old vm)) image.now }
     ensures state { state_of config.now parts.new ≡ trimmed (state_of config.now parts.old) vm image.now }
     ensures linked { IsLinked config.now parts.new }

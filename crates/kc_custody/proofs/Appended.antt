@@ -114,14 +114,6 @@ not-both v e gains = by_event v e gains
     by_event v (event.Read w) gains = cc
     by_event v (event.Write w) gains = cc
 
-most-one : (v : ℕ) (e : Event) → most_beyond v (e ∷ []) ≡ length (filter (is_gain v) (e ∷ []))
-most-one v e = by_kind (is_gain v e) (is_loss v e)
-  where
-    by_kind : (gains loses : Bool) → cond gains (0 + 1) (cond loses (0 - 1) 0) ≡ length (cond gains (e ∷ []) [])
-    by_kind true loses = refl
-    by_kind false true = refl
-    by_kind false false = refl
-
 pub most-more : (v : ℕ) (xs : List Event) (e : Event) → most_beyond v (xs ++ e ∷ []) ≡ max (most_beyond v xs) (length (filter (is_gain v) xs) + length (filter (is_gain v) (e ∷ [])) - (length (filter (is_loss v) xs) + length (filter (is_loss v) (e ∷ []))))
 most-more v [] e = by_kind (is_gain v e) (is_loss v e) (not-both v e)
   where

@@ -4,9 +4,8 @@ use Rattle.std.specs.List.{range_with_len}
 use Rattle.std.proofs.lemmas.List.{length-map}
 use Rattle.std.proofs.lemmas.List.FromFn.{length-range_with_len}
 use Rattle.std.proofs.lemmas.List.Sums.{length-filter, count_by-le-length}
-use Rattle.kc_types.specs.Configuration.{Configuration, IsConfiguration, most_frames, slot_count}
-use Rattle.kc_types.specs.declared.version.Version.{Version}
-use Rattle.kc_types.specs.declared.version.Version.TheVariants.{One, Two}
+use Rattle.kc_types.specs.Limits.{frame_limit, slot_limit}
+use Rattle.kc_types.specs.Configuration.{Configuration, slot_count}
 use Rattle.kc_types.specs.declared.owner.Owner.{Owner}
 use Rattle.kc_types.specs.declared.owner.Owner.TheVariants.{Vm}
 use Rattle.kc_types.specs.declared.call.Call.{Call}
@@ -24,17 +23,10 @@ use Rattle.kc_model.specs.Lawful.{IsLawful}
 use Rattle.kc_model.specs.Custody.{changes_by, frame_change, frame_changes_by, phase_change, phase_changes_by, has_moved, has_turned}
 use Rattle.kc_model.specs.Before.{header_line, is_taken, is_measured, turn_before, frame_before, slots_that, events_before}
 use Rattle.kc_model.specs.Events.{of_owner, access_by, events_by, events_from}
+use Rattle.kc_model.proofs.States.Configurations as configurations
 use Rattle.kc_model.proofs.States.Sizes.{sized-next}
 use Rattle.kc_custody.specs.Growing.{HasRoom}
 use Rattle.kc_custody.proofs.Traced.{few-slots}
-
-few-of : (version : Version) → most_frames version ≤ 65536
-few-of One = omega arith
-few-of Two = omega arith
-
--- no configuration has more frames
-few-frames-of : (c : Configuration) → IsConfiguration c → c.frames ≤ 65536
-few-frames-of c is = let most = is.few_frames in let few = few-of c.version in omega (arith, most, few)
 
 fewer : {X : Type 0} (test : X → Bool) (xs : List X) (n : ℕ) → length xs ≡ n → length (filter test xs) ≤ n
 fewer test xs n long = let all = length-filter test xs in let some = count_by-le-length test xs in omega (arith, all, some, long)
@@ -61,7 +53,7 @@ few-accesses m (HostRead f off len) (reply.Data bytes) = few-of-owner event.Read
 few-accesses m (HostWrite f off bytes) reply.Done = few-of-owner event.Write (frame_at m f).owner
 few-accesses m call answer = omega arith
 
-few-by : (n : ℕ) (m : State) (call : Call) → m.config.frames ≤ 65536 → length (events_by n m call) ≤ 65601
+few-by : (n : ℕ) (m : State) (call : Call) → m.config.frames ≤ frame_limit → length (events_by n m call) ≤ frame_limit + slot_limit + 1
 few-by n m call small =
     let new = (next m call).1 in
     let frames = map change.Frame (frame_changes_by n m new) in
@@ -73,15 +65,15 @@ few-by n m call small =
     let of_phases = length-map (phase_changes_by n m new) change.Phase in
     omega (arith, small, both, changes, parts, of_frames, of_phases, few-accesses m call (next m call).0, few-frames n m new, few-phases n m new, few-slots m.config)
 
-few-events : (n : ℕ) (m : State) (calls : List Call) → m.config.frames ≤ 65536 → length (events_from n m calls) ≤ 65601 * length calls
+few-events : (n : ℕ) (m : State) (calls : List Call) → m.config.frames ≤ frame_limit → length (events_from n m calls) ≤ (frame_limit + slot_limit + 1) * length calls
 few-events n m [] small = omega arith
 few-events n m (call ∷ calls) small =
     let here = few-by n m call small in
-    let rest = few-events (n + 1) (next m call).1 calls (subst (λ (c : Configuration). c.frames ≤ 65536) (sym (sized-next m call).config) small) in
+    let rest = few-events (n + 1) (next m call).1 calls (subst (λ (c : Configuration). c.frames ≤ frame_limit) (sym (sized-next m call).config) small) in
     let both = length-append (events_by n m call) (events_from (n + 1) (next m call).1 calls) in
     omega (arith, here, rest, both)
 
-few-before : (m : State) → m.config.frames ≤ 65536 → length (events_before m) ≤ 65664
+few-before : (m : State) → m.config.frames ≤ frame_limit → length (events_before m) ≤ frame_limit + 2 * slot_limit
 few-before m small =
     let taken = slots_that is_taken m in
     let measured = slots_that is_measured m in
@@ -105,8 +97,8 @@ few-before m small =
 -- what is so before the first call and the events of fewer than 2 ^ 32 calls can be counted, and one event more
 pub few-of-trace : (n : ℕ) (m : State) (calls : List Call) → IsLawful m → length calls < 2 ^ 32 → HasRoom (events_before m ++ events_from n m calls)
 few-of-trace n m calls is short =
-    let small = few-frames-of m.config is.config in
+    let small = configurations.few-frames m.config is.config in
     omega (arith, short, few-before m small, few-events n m calls small, length-append (events_before m) (events_from n m calls))
 
 pub room-before : (m : State) → IsLawful m → HasRoom (events_before m)
-room-before m is = omega (arith, few-before m (few-frames-of m.config is.config))
+room-before m is = omega (arith, few-before m (configurations.few-frames m.config is.config))

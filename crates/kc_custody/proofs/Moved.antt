@@ -5,7 +5,8 @@ use Rattle.std.specs.Option.{option_to_list}
 use Rattle.std.specs.Ordering.{nat_cmp}
 use Rattle.std.specs.FinMap as map
 use Rattle.std.proofs.lemmas.Bool.{or_parts, or_from, eqb-false, lt-leb, lt-ltb, le-ltb}
-use Rattle.kc_types.specs.Configuration.{slot_count}
+use Rattle.kc_types.specs.Limits.{range_limit}
+use Rattle.kc_types.specs.Configuration.{gfns_of, slot_count}
 use Rattle.kc_types.specs.declared.refusal.Refusal.{Refusal}
 use Rattle.kc_types.specs.declared.owner.Owner.TheVariants.{Core, Free}
 use Rattle.kc_types.specs.declared.call.Call.{Call}
@@ -104,7 +105,7 @@ range-absent m v c g n last f served absent =
     let seen = (guest_range-served m v c g n last served).0 in
     let few = seen.few in
     let gfn = seen.call.gfn in
-    let mine = ranged (nat_lt 64 n) (nat_le 262144 g) (filter_map (λ h. mapped_at m v h) (range_with_len g n)) f (le-ltb 64 n few) (lt-leb 262144 g gfn) absent in
+    let mine = ranged (nat_lt range_limit n) (nat_le (gfns_of m.config.version) g) (filter_map (λ h. mapped_at m v h) (range_with_len g n)) f (le-ltb range_limit n few) (lt-leb (gfns_of m.config.version) g gfn) absent in
     under (slot_at m v).mapped g n f seen.mapped mine
 
 stays-effect : (m : State) (call : Call) (f : ℕ) → refusal m call ≡ None → is_in (movable m call) f ≡ false → custody_at (effect m call).1 f ≡ custody_at m f

@@ -5,6 +5,8 @@ use Rattle.std.specs.Option.{option_to_list}
 use Rattle.std.proofs.lemmas.List.{take_more, map_push, map-append}
 use Rattle.std.proofs.lemmas.List.Elements.{filter-append, filter_map-append}
 use Rattle.std.proofs.lemmas.Bool.{le-ltb, lt-leb}
+use Rattle.kc_types.specs.Limits.{range_limit}
+use Rattle.kc_types.specs.Configuration.{gfns_of}
 use Rattle.kc_model.specs.State.{State, mapped_at}
 use Rattle.kc_custody.specs.Movable.{mapped_in}
 use Rattle.kc_types.specs.declared.custody.FrameChange.{FrameChange}
@@ -56,7 +58,7 @@ untested false true xs x y = cc
 untested true b xs x y = cc
 
 -- all guest frames of a range
-pub mapped-is : (m : State) (v g n i : ℕ) (frames : List ℕ) → n ≤ 64 → g < 262144 → i ≡ n → frames ≡ filter_map (λ h. mapped_at m v h) (range_with_len g i) → frames ≡ mapped_in m v g n
+pub mapped-is : (m : State) (v g n i : ℕ) (frames : List ℕ) → n ≤ range_limit → g < gfns_of m.config.version → i ≡ n → frames ≡ filter_map (λ h. mapped_at m v h) (range_with_len g i) → frames ≡ mapped_in m v g n
 mapped-is m v g n i frames few low same e =
     e ∙ ap (λ k. filter_map (λ h. mapped_at m v h) (range_with_len g k)) same
-    ∙ untested (nat_lt 64 n) (nat_le 262144 g) (filter_map (λ h. mapped_at m v h) (range_with_len g n)) (le-ltb 64 n few) (lt-leb 262144 g low)
+    ∙ untested (nat_lt range_limit n) (nat_le (gfns_of m.config.version) g) (filter_map (λ h. mapped_at m v h) (range_with_len g n)) (le-ltb range_limit n few) (lt-leb (gfns_of m.config.version) g low)

@@ -3,18 +3,10 @@ use Rattle.std.proofs.Common.{ℕ, zero, suc, ◌≡◌, ◌<◌, ◌+◌, List,
 use Rattle.std.proofs.lemmas.List.{take_more}
 use Rattle.kc_types.specs.declared.call.Call.{Call}
 use Rattle.kc_model.specs.State.{State}
-use Rattle.kc_model.specs.Next.{next, state_after}
+use Rattle.kc_model.specs.Next.{state_after}
 use Rattle.kc_types.specs.declared.custody.Event.{Event}
 use Rattle.kc_model.specs.Events.{events_by, events_from}
-
--- calls after others
-pub events-append : (n : ℕ) (m : State) (xs ys : List Call) → events_from n m (xs ++ ys) ≡ events_from n m xs ++ events_from (n + length xs) (state_after m xs) ys
-events-append n m [] ys = let e : n ≡ n + 0 = omega arith in ap (λ k. events_from k m ys) e
-events-append n m (x ∷ xs) ys =
-    let there : (n + 1) + length xs ≡ n + suc (length xs) = omega arith in
-    let rest = events-append (n + 1) (next m x).1 xs ys ∙ ap (λ k. events_from (n + 1) (next m x).1 xs ++ events_from k (state_after (next m x).1 xs) ys) there in
-    ap (λ (more : List Event). events_by n m x ++ more) rest
-    ∙ sym (append_assoc (events_by n m x) (events_from (n + 1) (next m x).1 xs) (events_from (n + suc (length xs)) (state_after (next m x).1 xs) ys))
+use Rattle.kc_model.proofs.Custody.Events.{events-append}
 
 length-front : {X : Type 0} (i : ℕ) (xs : List X) → i < length xs → length (take i xs) ≡ i
 length-front zero xs lt = refl

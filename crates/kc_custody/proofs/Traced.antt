@@ -3,9 +3,9 @@ use Rattle.std.proofs.Common.{ℕ, ◌+◌, ◌<◌, ◌≤◌, List, [], ◌∷
 use Rattle.std.specs.List.{range_with_len}
 use Rattle.std.proofs.lemmas.List.Elements.{All-nil, All-cons, All-append, All-map, All-filter, All-from_get_or}
 use Rattle.std.proofs.lemmas.List.FromFn.{get_or-range_with_len, length-range_with_len}
-use Rattle.kc_types.specs.Configuration.{Configuration, slot_count, slots_of}
-use Rattle.kc_types.specs.declared.version.Version.{Version}
-use Rattle.kc_types.specs.declared.version.Version.TheVariants.{One, Two}
+use Rattle.kc_types.specs.Limits.{slot_limit}
+use Rattle.kc_types.specs.Configuration.{Configuration, slot_count}
+use Rattle.kc_types.proofs.Ranges as ranges
 use Rattle.kc_types.specs.declared.slot.Phase.TheVariants.{Booting}
 use Rattle.kc_types.specs.declared.owner.Owner.{Owner}
 use Rattle.kc_types.specs.declared.owner.Owner.TheVariants.{Core, Host, Free, Vm}
@@ -26,13 +26,9 @@ use Rattle.kc_model.specs.Events.{of_owner, access_by, events_by, events_from}
 use Rattle.kc_model.proofs.States.Sizes.{sized-next}
 use Rattle.kc_custody.specs.Within.{IsWithin}
 
-few-of : (version : Version) → slots_of version ≤ 64
-few-of One = omega arith
-few-of Two = omega arith
-
-pub few-slots : (c : Configuration) → slot_count c ≤ 64
+pub few-slots : (c : Configuration) → slot_count c ≤ slot_limit
 unfolding slot_count
-few-slots c = few-of c.version
+few-slots c = ranges.few-slots c.version
 
 range-below : (n most : ℕ) → n ≤ most → All (λ i. i < most) (range_with_len 0 n)
 range-below n most few = All-from_get_or (λ i. i < most) (range_with_len 0 n) 0 (λ i lt.
@@ -55,7 +51,7 @@ changes-within line old new =
     let P : Change → Type 0 = λ told. IsWithin old.config.frames (event.Change told) in
     All-append P _ _
     (All-map P change.Frame _ (All-map (λ told. P (change.Frame told)) (frame_change line old new) _ (All-filter (has_moved old new) (λ f. f < old.config.frames) _ (range-below old.config.frames old.config.frames (omega arith)))))
-    (All-map P change.Phase _ (All-map (λ told. P (change.Phase told)) (phase_change line old new) _ (All-filter (has_turned old new) (λ v. v < 64) _ (range-below (slot_count old.config) 64 (few-slots old.config)))))
+    (All-map P change.Phase _ (All-map (λ told. P (change.Phase told)) (phase_change line old new) _ (All-filter (has_turned old new) (λ v. v < slot_limit) _ (range-below (slot_count old.config) slot_limit (few-slots old.config)))))
 
 -- the events of a trace name frames and slots that there are
 pub events-within : (n : ℕ) (m : State) (calls : List Call) → All (IsWithin m.config.frames) (events_from n m calls)
@@ -70,9 +66,9 @@ events-within n m (call ∷ calls) =
 pub before-within : (m : State) → All (IsWithin m.config.frames) (events_before m)
 before-within m =
     let P : Event → Type 0 = IsWithin m.config.frames in
-    let slots = range-below (slot_count m.config) 64 (few-slots m.config) in
+    let slots = range-below (slot_count m.config) slot_limit (few-slots m.config) in
     All-append P (map (turn_before Booting) (slots_that is_taken m)) _
-    (All-map P (turn_before Booting) _ (All-filter (is_taken m) (λ v. v < 64) _ slots))
+    (All-map P (turn_before Booting) _ (All-filter (is_taken m) (λ v. v < slot_limit) _ slots))
     (All-append P (map frame_before (frame_changes_by header_line (boot m.config) m)) _
     (All-map P frame_before _ (All-map (λ told. P (frame_before told)) (frame_change header_line (boot m.config) m) _ (All-filter (has_moved (boot m.config) m) (λ f. f < m.config.frames) _ (range-below m.config.frames m.config.frames (omega arith)))))
-    (All-map P (λ v. turn_before (slot_at m v).phase v) _ (All-filter (is_measured m) (λ v. v < 64) _ slots)))
+    (All-map P (λ v. turn_before (slot_at m v).phase v) _ (All-filter (is_measured m) (λ v. v < slot_limit) _ slots)))

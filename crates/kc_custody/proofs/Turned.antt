@@ -11,7 +11,7 @@ use Rattle.kc_types.specs.declared.slot.Phase.{Phase}
 use Rattle.kc_types.specs.declared.slot.Phase.TheVariants.{Empty}
 use Rattle.kc_types.specs.declared.custody.MeasuredImage.{MeasuredImage}
 use Rattle.kc_types.specs.declared.custody.PhaseChange.{PhaseChange}
-use Rattle.kc_model.specs.State.{State, Slot, slot_at, with_slot, empty_slot}
+use Rattle.kc_model.specs.State.{State, Slot, slot_at, with_slot, no_slot, empty_slot}
 use Rattle.kc_model.specs.Lawful.{IsLawful}
 use Rattle.kc_model.specs.Refusals.{refusal, next_gfn, pending}
 use Rattle.kc_model.specs.Effects.{effect, host_takes, hand, guest_read, guest_written, verified, all_trimmed, first_failing, is_approved}
@@ -34,11 +34,11 @@ phase_of m v = (slot_at m v).phase
 
 -- a slot is written that keeps its phase
 kept : (m : State) (w : ℕ) (slot : Slot) (v : ℕ) → slot.phase ≡ phase_of m w → phase_of (with_slot m w slot) v ≡ phase_of m v
-kept m w slot v same = part-set (λ (s : Slot). s.phase) m.slots w slot empty_slot same v
+kept m w slot v same = part-set (λ (s : Slot). s.phase) m.slots w slot no_slot same v
 
 -- another slot is written
 other : (m : State) (w : ℕ) (slot : Slot) (v : ℕ) → is_in (w ∷ []) v ≡ false → phase_of (with_slot m w slot) v ≡ phase_of m v
-other m w slot v absent = ap (λ (s : Slot). s.phase) (get_or-set_other m.slots w v slot empty_slot (not-first w [] v absent))
+other m w slot v absent = ap (λ (s : Slot). s.phase) (get_or-set_other m.slots w v slot no_slot (not-first w [] v absent))
 
 takes : (m : State) (free : List ℕ) (v : ℕ) → phase_of (host_takes m free).1 v ≡ phase_of m v
 takes m [] v = refl
@@ -55,7 +55,7 @@ writes m w c g off bytes (Some f) v = kept m w _ v refl
 verifies : (m : State) (w : ℕ) (first : Option ℕ) (v : ℕ) → is_in (w ∷ []) v ≡ false → phase_of (verified m w first).1 v ≡ phase_of m v
 verifies m w None v absent =
     other (all_trimmed m w (slot_at m w).images) w _ v absent
-    ∙ ap (λ (slots : List Slot). (get_or slots v empty_slot).phase) (slots-trimmed m w (slot_at m w).images)
+    ∙ ap (λ (slots : List Slot). (get_or slots v no_slot).phase) (slots-trimmed m w (slot_at m w).images)
 verifies m w (Some i) v absent = other m w _ v absent
 
 stays-effect : (m : State) (call : Call) (v : ℕ) → is_in (option_to_list (turning call)) v ≡ false → phase_of (effect m call).1 v ≡ phase_of m v
@@ -77,7 +77,7 @@ stays-effect m (Revoke w c g) v absent = refl
 stays-effect m (GrantRange w c g n) v absent = refl
 stays-effect m (RevokeRange w c g n) v absent = refl
 stays-effect m (Drop w c g) v absent = kept m w _ v refl
-stays-effect m (Clear w) v absent = other m w empty_slot v absent
+stays-effect m (Clear w) v absent = other m w (empty_slot m.config.version) v absent
 
 stays-unless : (refused : Option Refusal) (m : State) (call : Call) (v : ℕ) → is_in (option_to_list (turning call)) v ≡ false → phase_of (unless_refused refused m call).1 v ≡ phase_of m v
 stays-unless None m call v absent = stays-effect m call v absent
@@ -105,7 +105,7 @@ turned-among m call v is turned = (
 
 -- the phase of a slot that was written is what was written, and it is empty if there is no such slot
 written : (m : State) (w : ℕ) (slot : Slot) → (phase_of (with_slot m w slot) w ≡ slot.phase) ⊎ (phase_of (with_slot m w slot) w ≡ Empty)
-written m w slot = elim (set-here m.slots w slot empty_slot) [
+written m w slot = elim (set-here m.slots w slot no_slot) [
   | inl is ↦ inl (ap (λ (s : Slot). s.phase) is)
   | inr none ↦ inr (ap (λ (s : Slot). s.phase) none)
 ]
@@ -114,10 +114,10 @@ written m w slot = elim (set-here m.slots w slot empty_slot) [
 measured : (m : State) (w : ℕ) (first : Option ℕ) → IsLawful m → w < slot_count m.config → (images : List MeasuredImage) → images ≡ images_for (phase_of (verified m w first).1 w) images
 measured m w None is low images =
     let there : w < length (all_trimmed m w (slot_at m w).images).slots = rw (slots-trimmed m w (slot_at m w).images, is.slots) low in
-    sym (ap (λ (s : Slot). images_for s.phase images) (get_or-set_same (all_trimmed m w (slot_at m w).images).slots w _ empty_slot there))
+    sym (ap (λ (s : Slot). images_for s.phase images) (get_or-set_same (all_trimmed m w (slot_at m w).images).slots w _ no_slot there))
 measured m w (Some i) is low images =
     let there : w < length m.slots = rw is.slots low in
-    sym (ap (λ (s : Slot). images_for s.phase images) (get_or-set_same m.slots w _ empty_slot there))
+    sym (ap (λ (s : Slot). images_for s.phase images) (get_or-set_same m.slots w _ no_slot there))
 
 -- if a call turns a slot, the images that it measured are those of its new phase
 ImagesFit : State → State → ℕ → List MeasuredImage → Type 0
@@ -138,7 +138,7 @@ fit-effect m (Verify w) v images is served measures turns =
 fit-effect m (Clear w) v images is served none turns =
     let same : w ≡ v = cc in
     subst (λ k. images ≡ images_for (phase_of (effect m (Clear w)).1 k) (measured_images m k)) same
-    (none ∙ elim (written m w empty_slot) [
+    (none ∙ elim (written m w (empty_slot m.config.version)) [
       | inl empty ↦ sym (ap (λ p. images_for p (measured_images m w)) empty)
       | inr empty ↦ sym (ap (λ p. images_for p (measured_images m w)) empty)
     ])

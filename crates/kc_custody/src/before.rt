@@ -24,16 +24,15 @@ fn custody_at_boot(config: &Config, frame: u32) -> Custody
 }
 
 /// A slot that comes to be in a phase, before the first call.
-fn turn_before(alloc: Global, phase: Phase, vm: u32) -> Result<Event, Memory>
-    ensures { IfOk result (λ told. told ≡ turn_before phase vm) }
+fn turn_before(alloc: Global, phase: Phase, vm: u32) -> Event
+    ensures { result ≡ turn_before phase vm }
 {
-    let images = MeasuredImages::none(alloc)?;
-    Ok(Event::Change(Change::Phase(PhaseChange {
+    Event::Change(Change::Phase(PhaseChange {
         line: HEADER_LINE,
         vm,
         phase,
-        images,
-    })))
+        images: MeasuredImages::none(alloc),
+    }))
 }
 
 /// Whether there is a VM in a slot.
@@ -57,7 +56,7 @@ fn tell_taken(alloc: Global, core: &KCore, told: &mut Vec<Event>) -> Result<(), 
 {
     for vm in 0..core.config().slots() {
         if is_taken(core, vm) {
-            told.push(turn_before(alloc, Phase::Booting, vm)?)?;
+            told.push(turn_before(alloc, Phase::Booting, vm))?;
         }
     }
     Ok(())
@@ -91,7 +90,7 @@ fn tell_measured(alloc: Global, core: &KCore, told: &mut Vec<Event>) -> Result<(
 {
     for vm in 0..core.config().slots() {
         if is_measured(core, vm) {
-            told.push(turn_before(alloc, phase_at(core, vm), vm)?)?;
+            told.push(turn_before(alloc, phase_at(core, vm), vm))?;
         }
     }
     Ok(())

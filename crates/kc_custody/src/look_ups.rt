@@ -25,9 +25,9 @@ pub fn custody_at(core: &KCore, frame: u32) -> Custody
 {
     match core.page_record(frame) {
         Some(record) => Custody {
-            owner: record.owner,
-            gfn: record.gfn,
-            share: record.share,
+            owner: record.owner.get(),
+            gfn: record.gfn.get(),
+            share: u32::from(record.share),
             present: record.present,
         },
         None => {

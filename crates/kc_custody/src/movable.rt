@@ -2,13 +2,13 @@
 ghost use Rattle.std.specs.Prelude.{◌≡◌, ◌≤◌, map, IfOk};
 ghost use Rattle.std.specs.List.{range_with_len, filter_map};
 ghost use Rattle.std.specs.Option.{option_to_list};
-ghost use Rattle.kc_types.specs.Limits.{range_limit, gfn_limit};
+ghost use Rattle.kc_types.specs.Limits.{range_limit};
 ghost use Rattle.kc_model.specs.State.{slot_at, mapped_at};
 ghost use Rattle.kc_model.specs.Lawful.{IsLawful};
 ghost use Rattle.kc_custody.specs.Movable.{movable, listed_of, mapped_in};
 
 use kc_core::KCore;
-use kc_types::{Call, Config, FrameNo, GFN_LIMIT, Memory, Owner, RANGE_LIMIT};
+use kc_types::{Call, Config, FrameNo, Memory, Owner, RANGE_LIMIT};
 use std::alloc::Global;
 
 /// A frame, or none.
@@ -36,7 +36,8 @@ fn in_range(alloc: Global, core: &KCore, vm: u32, gfn: u32, count: u32) -> Resul
     ensures { IfOk result (λ frames. frames.items ≡ mapped_in core.now vm gfn count) }
 {
     let mut frames = Vec::new(alloc);
-    if count > RANGE_LIMIT || gfn >= GFN_LIMIT {
+    let gfns = core.config().version().gfns();
+    if count > RANGE_LIMIT || gfn >= gfns {
         return Ok(frames);
     }
     for i in 0..count {

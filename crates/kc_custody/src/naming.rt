@@ -49,8 +49,8 @@ fn frame_named(core: &KCore, frame: u32) -> Option<NamedFrame>
     match core.page_record(frame) {
         Some(record) => Some(NamedFrame {
             frame,
-            owner: record.owner,
-            gfn: record.gfn,
+            owner: record.owner.get(),
+            gfn: record.gfn.get(),
         }),
         None => None,
     }

@@ -69,17 +69,17 @@ impl Model for OpenLife {
 }
 
 impl OpenLife {
-    /// Begins the life of a VM that is registered on this line; `Memory` if memory runs out.
-    pub(crate) fn new(alloc: Global, vm: u32, registered: u32) -> Result<OpenLife, Memory>
-        ensures { IfOk result (λ life. life ≡ new_life vm registered) }
+    /// Begins the life of a VM that is registered on this line. It takes no memory.
+    pub(crate) fn new(alloc: Global, vm: u32, registered: u32) -> OpenLife
+        ensures { result ≡ new_life vm registered }
     {
-        Ok(OpenLife {
+        OpenLife {
             vm,
             registered,
             active: None,
             dead: None,
             cleared: None,
-            images: MeasuredImages::none(alloc)?,
+            images: MeasuredImages::none(alloc),
             frames: 0,
             members: IndexSet::new(alloc),
             gained: 0,
@@ -88,7 +88,7 @@ impl OpenLife {
             reads: 0,
             writes: 0,
             shared: Vec::new(alloc),
-        })
+        }
     }
 
     /// The host reads a frame.

@@ -100,7 +100,7 @@ impl Register {
         if let Some(place) = self.places.get_mut(vm as usize) {
             *place = Some(self.lives.len());
         }
-        self.lives.push(OpenLife::new(alloc, vm, line)?)?;
+        self.lives.push(OpenLife::new(alloc, vm, line))?;
         Ok(())
     }
 

@@ -11,12 +11,11 @@ ghost use Rattle.kc_custody.specs.Marks.{mark_of, settled, differs, frame_event,
 
 use crate::look_ups::{custody_at, phase_at, same_custody, same_phase};
 use crate::movable::movable;
-use arrayvec::ArrayVec;
 use kc_core::KCore;
 use kc_parts::sort_once;
 use kc_remarks::Denials;
 use kc_types::{
-    Call, Change, Event, FrameChange, IMAGE_LIMIT, MeasuredImage, MeasuredImages, Memory,
+    Call, Change, Event, FrameChange, IMAGE_LIMIT, MeasuredImages, Memory,
     PhaseChange, Reply, vm_of,
 };
 use std::alloc::Global;
@@ -55,23 +54,16 @@ pub(crate) fn marks_of(
 }
 
 /// The slot whose phase a call may change, before it.
-fn phase_mark(
-    alloc: Global,
-    core: &KCore,
-    line: u32,
-    call: &Call,
-) -> Result<Option<PhaseChange>, Memory>
-    ensures { IfOk result (λ mark. mark ≡ option_map (phase_mark line core.now) (turning call.now)) }
+fn phase_mark(alloc: Global, core: &KCore, line: u32, call: &Call) -> Option<PhaseChange>
+    ensures { result ≡ option_map (phase_mark line core.now) (turning call.now) }
 {
-    let Some(vm) = turning(call) else {
-        return Ok(None);
-    };
-    Ok(Some(PhaseChange {
+    let vm = turning(call)?;
+    Some(PhaseChange {
         line,
         vm,
         phase: phase_at(core, vm),
-        images: MeasuredImages::none(alloc)?,
-    }))
+        images: MeasuredImages::none(alloc),
+    })
 }
 
 /// The VM whose frame the host reads or writes.
@@ -125,11 +117,11 @@ fn tell_frames(core: &KCore, marks: &[FrameChange], told: &mut Vec<Event>)
 fn tell_phase(
     core: &KCore,
     mark: Option<PhaseChange>,
-    images: ArrayVec<MeasuredImage, IMAGE_LIMIT>,
+    images: MeasuredImages,
     told: &mut Vec<Event>,
 )
     requires { vec_len told.old + 1 ≤ vec_capacity told.old }
-    ensures { told.new.items ≡ told.old.items ++ phase_told core.now images.items mark }
+    ensures { told.new.items ≡ told.old.items ++ phase_told core.now images mark }
 {
     let Some(mut change) = mark else {
         return;
@@ -137,27 +129,32 @@ fn tell_phase(
     let phase = phase_at(core, change.vm);
     if !same_phase(change.phase, phase) {
         change.phase = phase;
-        change.images.set(images);
+        change.images = images;
         told.push(Event::Change(Change::Phase(change))).unwrap();
     }
 }
 
 /// Makes a call: its reply, and the images that it measured, which are none but for `verify`.
 fn make(
+    alloc: Global,
     core: &mut KCore,
     call: &Call,
-) -> Result<(Reply, ArrayVec<MeasuredImage, IMAGE_LIMIT>), Memory>
+) -> Result<(Reply, MeasuredImages), Memory>
     ensures reply { IfOk result (λ made. made.0 ≡ (next core.old call.now).0) }
-    ensures images { IfOk result (λ made. made.1.items ≡ images_by core.old call.now) }
+    ensures images { IfOk result (λ made. made.1 ≡ images_by core.old call.now) }
     ensures state { OnOk result (core.new ≡ (next core.old call.now).1) }
     ensures err { OnErr result (core.new ≡ core.old) }
 {
     match call {
         Call::Verify { vm } => {
+            let mut images = Vec::with_capacity(alloc, IMAGE_LIMIT)?;
             let verified = core.verify(*vm);
-            Ok((verified.reply, verified.images))
+            images
+                .extend_from_slice(verified.images.as_slice())
+                .unwrap();
+            Ok((verified.reply, MeasuredImages::of(images)))
         },
-        _ => Ok((core.call(call)?, ArrayVec::new())),
+        _ => Ok((core.call(call)?, MeasuredImages::none(alloc))),
     }
 }
 
@@ -178,10 +175,10 @@ pub fn tell_call(
     let mut frames = movable(alloc, core, call)?;
     sort_once(&mut frames);
     let marks = marks_of(alloc, core, line, &frames)?;
-    let mark = phase_mark(alloc, core, line, call)?;
+    let mark = phase_mark(alloc, core, line, call);
     let accessed = accessed(core, call);
     told.reserve(marks.len() + 2)?;
-    let (reply, images) = make(core, call)?;
+    let (reply, images) = make(alloc, core, call)?;
     tell_access(call, accessed, &reply, told);
     tell_frames(core, &marks, told);
     tell_phase(core, mark, images, told);

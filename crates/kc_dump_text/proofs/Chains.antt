@@ -5,8 +5,8 @@ use Rattle.std.specs.List.{list_all}
 use Rattle.std.proofs.lemmas.Bool.{and_parts, and_from, or_cases, or_left, or_right, ltb-true, ltb-false, leb-true, lt-ltb, le-leb, cases_Bool}
 use Rattle.std.proofs.lemmas.List.{append-nil, get_or_past}
 use Rattle.std.proofs.lemmas.List.Folds.{list_all-append}
-use Rattle.kc_types.specs.Limits.{frame_limit, byte_limit, leaf_limit, leaf_entries}
-use Rattle.kc_types.specs.Configuration.{most_frames, slots_of}
+use Rattle.kc_types.specs.Limits.{frame_limit, byte_limit}
+use Rattle.kc_types.specs.Configuration.{most_frames, slots_of, roots_of, most_leaves}
 use Rattle.kc_types.specs.declared.version.Version.{Version}
 use Rattle.kc_dump.specs.declared.line.FrameLine.{FrameLine}
 use Rattle.kc_dump.specs.Ranges.{are_ends, is_entry, is_frame, IsDump}
@@ -16,7 +16,7 @@ use Rattle.kc_dump_text.specs.declared.dump_line.DumpLine.{DumpLine}
 use Rattle.kc_dump_text.specs.declared.dump_line.DumpLine.TheVariants.{SizeOf, LeafOf, EntryOf, FrameOf}
 use Rattle.kc_dump_text.specs.DumpText.{made, gather, vm_of, leaves_of, entries_of, rest_of, dump_lines}
 use Rattle.kc_dump_text.specs.Places.{is_size, in_range, section, comes, may, place_after, start, chain, end}
-use Rattle.kc_dump_text.proofs.Limits.{few-frames}
+use Rattle.kc_types.proofs.Ranges.{few-frames}
 
 pub end-both : (place : Place) (xs ys : List DumpLine) → end place (xs ++ ys) ≡ end (end place xs) ys
 end-both place [] ys = refl
@@ -79,12 +79,12 @@ module _ (version : Version) (n : ℕ) where
   abbrev leaf_place : ℕ → ℕ → ℕ → Place
   leaf_place s u k = record start { section = s; vm = slots_of version; leaf = (u, k) }
 
-  leaf-run : (v i s u k : ℕ) (xs : List ℕ) (r : List DumpLine) → s ≤ 1 → v < slots_of version → i + length xs ≤ byte_limit → ((j : ℕ) → j < length xs → get_or xs j 0 < leaf_entries) → ((u < v) × (i ≡ 0)) ⊎ ((u ≡ v) × (k ≡ i))
+  leaf-run : (v i s u k : ℕ) (xs : List ℕ) (r : List DumpLine) → s ≤ 1 → v < slots_of version → i + length xs ≤ byte_limit → ((j : ℕ) → j < length xs → get_or xs j 0 < roots_of version) → ((u < v) × (i ≡ 0)) ⊎ ((u ≡ v) × (k ≡ i))
       → ((s u k : ℕ) → s ≤ 1 → u < v + 1 → chain version n (leaf_place s u k) r ≡ true) → chain version n (leaf_place s u k) (made (LeafOf v) i xs ++ r) ≡ true
   leaf-run v i s u k [] r order low few each ahead next = next s u k order (elim ahead [ inl h ↦ omega (arith, h.0) | inr h ↦ omega (arith, h.0) ])
   leaf-run v i s u k (x ∷ xs) r order low few each ahead next =
       let place : ((v == u) && (i == k)) || (nat_lt u v && (i == 0)) ≡ true = elim ahead [ inl h ↦ or_right _ _ (and_from _ _ (lt-ltb u v h.0) (eq-eqb i 0 h.1)) | inr h ↦ or_left _ _ (and_from _ _ (eq-eqb v u (sym h.0)) (eq-eqb i k (sym h.1))) ] in
-      and_from _ _ (may-from (leaf_place s u k) (LeafOf v i x) order (and_from _ _ (eq-eqb (slots_of version) (slots_of version) refl) place) (and_from _ _ (and_from _ _ (lt-ltb v (slots_of version) low) (lt-ltb i byte_limit (omega (arith, few)))) (lt-ltb x leaf_entries (each 0 (omega arith)))))
+      and_from _ _ (may-from (leaf_place s u k) (LeafOf v i x) order (and_from _ _ (eq-eqb (slots_of version) (slots_of version) refl) place) (and_from _ _ (and_from _ _ (lt-ltb v (slots_of version) low) (lt-ltb i byte_limit (omega (arith, few)))) (lt-ltb x (roots_of version) (each 0 (omega arith)))))
       (leaf-run v (i + 1) 1 v (i + 1) xs r (omega arith) low (omega (arith, few)) (λ j l. each (suc j) (omega (arith, l))) (inr (refl, refl)) next)
 
   -- after all slots, with no frame yet
@@ -158,7 +158,7 @@ dump-chain d is = vms-chain w n start d.slots (leaves_of 0 d.slots ++ (entries_o
     InLeaves v q = (s : ℕ) × (u : ℕ) × (k : ℕ) × (q ≡ leaf_place w n s u k) × (s ≤ 1) × ((u < v) ⊎ ((u ≡ v) × (k ≡ 0)))
 
     LeafSlot : ℕ → SlotDump → Type 0
-    LeafSlot v slot = (v < slots_of w) × (length slot.leaves ≤ byte_limit) × ((i : ℕ) → i < length slot.leaves → get_or slot.leaves i 0 < leaf_entries)
+    LeafSlot v slot = (v < slots_of w) × (length slot.leaves ≤ byte_limit) × ((i : ℕ) → i < length slot.leaves → get_or slot.leaves i 0 < roots_of w)
 
     leaves : (v : ℕ) (slot : SlotDump) (place : Place) (r : List DumpLine) → LeafSlot v slot → InLeaves v place → ((q : Place) → InLeaves (v + 1) q → chain w n q r ≡ true) → chain w n place (made (LeafOf v) 0 slot.leaves ++ r) ≡ true
     leaves v slot place r each h next = rw h.3 (leaf-run w n v 0 h.0 h.1 h.2 slot.leaves r h.4 each.0 (omega (arith, each.1)) each.2 (elim h.5 [ inl a ↦ inl (a, refl) | inr a ↦ inr a ]) (λ s u k o l. next (leaf_place w n s u k) (s, u, k, refl, o, inl l)))
@@ -182,7 +182,7 @@ few-of d is = few-frames d.version (length d.frames) is.few_frames
 
 pub dump-range : (d : Dumped) → IsDump d → list_all (in_range d.version (length d.frames)) (dump_lines d) ≡ true
 dump-range d is = let n = length d.frames in
-    and_from _ _ (and_from _ _ (and_from _ _ (and_from _ _ (and_from _ _ (lt-ltb 0 n is.some_frames) (le-leb n (most_frames d.version) is.few_frames)) (le-leb d.core n is.core)) (lt-ltb 0 d.leaves is.some_leaves)) (le-leb d.leaves leaf_limit is.few_leaves)) (and_from _ _ is.free (chain-range d.version n start (rest_of d) (dump-chain d is)))
+    and_from _ _ (and_from _ _ (and_from _ _ (and_from _ _ (and_from _ _ (lt-ltb 0 n is.some_frames) (le-leb n (most_frames d.version) is.few_frames)) (le-leb d.core n is.core)) (lt-ltb 0 d.leaves is.some_leaves)) (le-leb d.leaves (most_leaves d.version) is.few_leaves)) (and_from _ _ is.free (chain-range d.version n start (rest_of d) (dump-chain d is)))
 
 abbrev Chained : Dumped → Version → ℕ → Type 0
 Chained d version n = is_size version (SizeOf n d.core d.leaves) ≡ true → are_ends n d.free ≡ true → length d.slots ≡ slots_of version → chain version n start (rest_of d) ≡ true → IsDump d
@@ -193,7 +193,7 @@ chained d size free slots e =
     let n = length d.frames in
     let core = d.core in
     let leaves = d.leaves in
-    let p = and_parts (nat_lt 0 n && nat_le n (most_frames version) && nat_le core n && nat_lt 0 leaves) (nat_le leaves leaf_limit) size in
+    let p = and_parts (nat_lt 0 n && nat_le n (most_frames version) && nat_le core n && nat_lt 0 leaves) (nat_le leaves (most_leaves version)) size in
     let q = and_parts (nat_lt 0 n && nat_le n (most_frames version) && nat_le core n) (nat_lt 0 leaves) p.0 in
     let r = and_parts (nat_lt 0 n && nat_le n (most_frames version)) (nat_le core n) q.0 in
     let u = and_parts (nat_lt 0 n) (nat_le n (most_frames version)) r.0 in
@@ -204,18 +204,18 @@ chained d size free slots e =
     let tables = all-after range vms _ each in
     let entries = all-after range (leaves_of 0 d.slots) _ tables in
     let root = λ (v i : ℕ) (low : v < length d.slots) (l : i < length (get_or d.slots v empty_dump).leaves).
-    and_parts (nat_lt (0 + v) (slots_of version) && nat_lt (0 + i) byte_limit) (nat_lt (get_or (get_or d.slots v empty_dump).leaves i 0) leaf_entries) (gather-each range (λ (s : SlotDump). s.leaves) LeafOf 0 d.slots 0 _ tables v i low l) in
+    and_parts (nat_lt (0 + v) (slots_of version) && nat_lt (0 + i) byte_limit) (nat_lt (get_or (get_or d.slots v empty_dump).leaves i 0) (roots_of version)) (gather-each range (λ (s : SlotDump). s.leaves) LeafOf 0 d.slots 0 _ tables v i low l) in
     record {
       some_frames = ltb-true 0 n u.0;
       few_frames = leb-true n (most_frames version) u.1;
       core = leb-true core n r.1;
       some_leaves = ltb-true 0 leaves q.1;
-      few_leaves = leb-true leaves leaf_limit p.1;
+      few_leaves = leb-true leaves (most_leaves version) p.1;
       slots = slots;
       free = free;
       lists = λ v low. (and_parts (nat_lt (0 + v) (slots_of version)) _ (made-each range vm_of 0 d.slots empty_dump _ each v low)).1;
       leaves = λ v. elim (cases_Bool (nat_lt v (length d.slots))) [ inl h ↦ places-below (get_or d.slots v empty_dump).leaves (λ i l. ltb-true (0 + i) byte_limit (and_parts (nat_lt (0 + v) (slots_of version)) (nat_lt (0 + i) byte_limit) (root v i (ltb-true v (length d.slots) h) l).0).1) | inr h ↦ rw (get_or_past d.slots v empty_dump (ltb-false v (length d.slots) h)) (omega arith) ];
-      roots = λ v i low l. ltb-true _ leaf_entries (root v i low l).1;
+      roots = λ v i low l. ltb-true _ (roots_of version) (root v i low l).1;
       entries = λ v i low l. subst (λ w. is_entry version n w (get_or (get_or d.slots v empty_dump).entries i (0, 0)) ≡ true) (let a : 0 + v ≡ v = omega arith in a) (gather-each range (λ (s : SlotDump). s.entries) (λ v i e. EntryOf v e) 0 d.slots (0, 0) frames entries v i low l);
       rising = rising version n 0 _ d.slots frames (chain-after version n _ (leaves_of 0 d.slots) _ (chain-after version n start vms _ e));
       frames = λ f low. (and_parts (nat_lt (0 + f) n) _ (made-each range FrameOf 0 d.frames absent_line [] (rw append-nil (all-after range (entries_of 0 d.slots) frames entries)) f low)).1;

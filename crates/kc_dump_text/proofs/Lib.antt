@@ -1,5 +1,4 @@
 mod Spelled
-pub mod Limits
 pub mod ReadWords
 pub mod ReadLines
 mod Chains

@@ -6,8 +6,8 @@ use Rattle.std.proofs.lemmas.List.Splits.{join_with_byte-slice_split}
 use Rattle.std.specs.Prelude.{◌==◌, not}
 use Rattle.std.specs.Fmt.{decimal}
 use Rattle.std.proofs.lemmas.Bool.{and_parts, and_from, ltb-true, lt-ltb, leb-true, eqb-true, not-true}
-use Rattle.kc_types.specs.Limits.{frame_limit, gfn_limit, share_limit, byte_limit, leaf_limit, leaf_entries}
-use Rattle.kc_types.specs.Configuration.{most_frames, slots_of}
+use Rattle.kc_types.specs.Limits.{frame_limit, gfn_limit, share_limit, byte_limit}
+use Rattle.kc_types.specs.Configuration.{most_frames, slots_of, gfns_of, roots_of, most_leaves}
 use Rattle.kc_types.specs.declared.version.Version.{Version}
 use Rattle.kc_types.specs.declared.link.Ends.{Ends}
 use Rattle.kc_lines.specs.Words.{number_in}
@@ -22,7 +22,7 @@ use Rattle.kc_dump_text.specs.Lines.{then_word, no_more, size_line, ends_of, fre
 use Rattle.kc_dump_text.specs.Places.{in_range}
 use Rattle.kc_dump_text.specs.Begun.{first_bytes, first_line, newlines}
 use Rattle.kc_dump_text.proofs.ReadWords.{Reads, From, mapped-to, mapped-from, nothing-from, number-to, number-spelled, below-to, below-from, dash-to, dash-from, bit-to, bit-from, phase-to, phase-from, owner-to, owner-from, digest-reads, digest-from}
-use Rattle.kc_dump_text.proofs.Limits.{few-frames, few-slots}
+use Rattle.kc_types.proofs.Ranges.{few-frames, few-slots, few-gfns, few-leaves, few-roots}
 
 -- a line without its newline
 abbrev pub bare : DumpLine → List ℕ
@@ -65,13 +65,13 @@ module _ (version : Version) (n : ℕ) (few : n ≤ frame_limit) where
 
   frame-to : (l : FrameLine) → is_frame version n l ≡ true → Reads (list_all is_word) record_of (frame_words l) l
   frame-to l is =
-      let bytes = and_parts (is_owner version l.owner && nat_le l.share share_limit && is_below gfn_limit l.gfn && is_below n l.prev && is_below n l.next && (length l.digest == 32)) _ is in
-      let long = and_parts (is_owner version l.owner && nat_le l.share share_limit && is_below gfn_limit l.gfn && is_below n l.prev && is_below n l.next) (length l.digest == 32) bytes.0 in
-      let next = and_parts (is_owner version l.owner && nat_le l.share share_limit && is_below gfn_limit l.gfn && is_below n l.prev) (is_below n l.next) long.0 in
-      let prev = and_parts (is_owner version l.owner && nat_le l.share share_limit && is_below gfn_limit l.gfn) (is_below n l.prev) next.0 in
-      let gfn = and_parts (is_owner version l.owner && nat_le l.share share_limit) (is_below gfn_limit l.gfn) prev.0 in
+      let bytes = and_parts (is_owner version l.owner && nat_le l.share share_limit && is_below (gfns_of version) l.gfn && is_below n l.prev && is_below n l.next && (length l.digest == 32)) _ is in
+      let long = and_parts (is_owner version l.owner && nat_le l.share share_limit && is_below (gfns_of version) l.gfn && is_below n l.prev && is_below n l.next) (length l.digest == 32) bytes.0 in
+      let next = and_parts (is_owner version l.owner && nat_le l.share share_limit && is_below (gfns_of version) l.gfn && is_below n l.prev) (is_below n l.next) long.0 in
+      let prev = and_parts (is_owner version l.owner && nat_le l.share share_limit && is_below (gfns_of version) l.gfn) (is_below n l.prev) next.0 in
+      let gfn = and_parts (is_owner version l.owner && nat_le l.share share_limit) (is_below (gfns_of version) l.gfn) prev.0 in
       let share = and_parts (is_owner version l.owner) (nat_le l.share share_limit) gfn.0 in
-      word-to _ (owner-to version l.owner share.0) (word-to _ (number-to l.share (omega (arith, leb-true l.share share_limit share.1))) (word-to _ (dash-to gfn_limit gfn_limit l.gfn (omega arith) (omega arith) gfn.1) (word-to _ (bit-to l.present)
+      word-to _ (owner-to version l.owner share.0) (word-to _ (number-to l.share (omega (arith, leb-true l.share share_limit share.1))) (word-to _ (dash-to gfn_limit (gfns_of version) l.gfn (omega arith) (few-gfns version) gfn.1) (word-to _ (bit-to l.present)
       (word-to _ (dash-to frame_limit n l.prev (omega arith) few prev.1) (word-to _ (dash-to frame_limit n l.next (omega arith) few next.1) (word-to _ (digest-reads l.digest (record { long = eqb-true (length l.digest) 32 long.1; each = bytes-of l.digest bytes.1 })) (end-to _)))))))
 
   slot-to : (v : ℕ) → nat_lt v (slots_of version) ≡ true → Reads is_word number_in (decimal v) v
@@ -80,20 +80,20 @@ module _ (version : Version) (n : ℕ) (few : n ≤ frame_limit) where
   words-to : (l : DumpLine) → in_range version n l ≡ true → Reads (list_all is_word) line_of_words (name_of l ∷ words_of l) l
   unfolding line_of_words
   words-to (SizeOf f c l) is =
-      let leaves = and_parts (nat_lt 0 f && nat_le f (most_frames version) && nat_le c f && nat_lt 0 l) (nat_le l leaf_limit) is in
+      let leaves = and_parts (nat_lt 0 f && nat_le f (most_frames version) && nat_le c f && nat_lt 0 l) (nat_le l (most_leaves version)) is in
       let core = and_parts (nat_lt 0 f && nat_le f (most_frames version)) (nat_le c f) (and_parts (nat_lt 0 f && nat_le f (most_frames version) && nat_le c f) (nat_lt 0 l) leaves.0).0 in
       let frames : f ≤ frame_limit = few-frames version f (leb-true f (most_frames version) (and_parts (nat_lt 0 f) _ core.0).1) in
-      name-to size_line refl refl (word-to _ (number-to f (omega (arith, frames))) (word-to _ (number-to c (omega (arith, leb-true c f core.1, frames))) (word-to _ (number-to l (omega (arith, leb-true l leaf_limit leaves.1))) (end-to _))))
+      name-to size_line refl refl (word-to _ (number-to f (omega (arith, frames))) (word-to _ (number-to c (omega (arith, leb-true c f core.1, frames))) (word-to _ (number-to l (omega (arith, leb-true l (most_leaves version) leaves.1, few-leaves version))) (end-to _))))
   words-to (FreeOf ends) is = name-to free_line refl refl (mapped-to FreeOf (ends-to ends is))
   words-to (VmOf v p ends) is = let q = and_parts (nat_lt v (slots_of version)) _ is in name-to vm_line refl refl (word-to _ (slot-to v q.0) (word-to _ (phase-to p) (mapped-to (VmOf v p) (ends-to ends q.1))))
   words-to (LeafOf v i r) is =
-      let p = and_parts (nat_lt v (slots_of version) && nat_lt i byte_limit) (nat_lt r leaf_entries) is in
+      let p = and_parts (nat_lt v (slots_of version) && nat_lt i byte_limit) (nat_lt r (roots_of version)) is in
       let q = and_parts (nat_lt v (slots_of version)) (nat_lt i byte_limit) p.0 in
-      name-to leaf_line refl refl (word-to _ (slot-to v q.0) (word-to _ (number-to i (omega (arith, ltb-true i byte_limit q.1))) (word-to _ (number-to r (omega (arith, ltb-true r leaf_entries p.1))) (end-to _))))
+      name-to leaf_line refl refl (word-to _ (slot-to v q.0) (word-to _ (number-to i (omega (arith, ltb-true i byte_limit q.1))) (word-to _ (number-to r (omega (arith, ltb-true r (roots_of version) p.1, few-roots version))) (end-to _))))
   words-to (EntryOf v e) is =
-      let p = and_parts (nat_lt v (slots_of version) && nat_lt e.0 gfn_limit) (nat_lt e.1 n) is in
-      let q = and_parts (nat_lt v (slots_of version)) (nat_lt e.0 gfn_limit) p.0 in
-      name-to entry_line refl refl (word-to _ (slot-to v q.0) (word-to _ (below-to gfn_limit e.0 (omega arith) (ltb-true e.0 gfn_limit q.1)) (word-to _ (below-to frame_limit e.1 (omega arith) (omega (arith, ltb-true e.1 n p.1, few))) (end-to _))))
+      let p = and_parts (nat_lt v (slots_of version) && nat_lt e.0 (gfns_of version)) (nat_lt e.1 n) is in
+      let q = and_parts (nat_lt v (slots_of version)) (nat_lt e.0 (gfns_of version)) p.0 in
+      name-to entry_line refl refl (word-to _ (slot-to v q.0) (word-to _ (below-to gfn_limit e.0 (omega arith) (omega (arith, ltb-true e.0 (gfns_of version) q.1, few-gfns version))) (word-to _ (below-to frame_limit e.1 (omega arith) (omega (arith, ltb-true e.1 n p.1, few))) (end-to _))))
   words-to (FrameOf f l) is = let q = and_parts (nat_lt f n) _ is in name-to frame_line refl refl (word-to _ (number-to f (omega (arith, ltb-true f n q.0, few))) (mapped-to (FrameOf f) (frame-to l q.1)))
 
   pub bare-one-line : (l : DumpLine) → in_range version n l ≡ true → IsOneLine (bare l)

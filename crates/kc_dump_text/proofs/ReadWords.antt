@@ -21,7 +21,7 @@ use Rattle.kc_lines.proofs.Words.{is_word, map_some, then_some, chosen, name_is,
 use Rattle.kc_dump.specs.Ranges.{is_below, is_owner}
 use Rattle.kc_dump_text.specs.DumpText.{or_dash, bit, phase_word, owner_word}
 use Rattle.kc_dump_text.specs.Words.{under, below_of, choose, nothing, or_dash_of, bit_of, phase_of, owner_of}
-use Rattle.kc_dump_text.proofs.Limits.{few-slots}
+use Rattle.kc_types.proofs.Ranges.{few-slots}
 
 -- ---- readers of a word, and of words
 

@@ -1,7 +1,7 @@
 -- Which line may come after which.
 use Rattle.std.specs.Prelude.{ℕ, ◌+◌, ◌==◌, ◌&&◌, ◌||◌, not, nat_lt, nat_le, Bool, true, false, List, [], ◌∷◌}
-use Rattle.kc_types.specs.Limits.{byte_limit, leaf_limit, leaf_entries}
-use Rattle.kc_types.specs.Configuration.{most_frames, slots_of}
+use Rattle.kc_types.specs.Limits.{byte_limit}
+use Rattle.kc_types.specs.Configuration.{most_frames, slots_of, roots_of, most_leaves}
 use Rattle.kc_types.specs.declared.version.Version.{Version}
 use Rattle.kc_dump.specs.Ranges.{are_ends, is_entry, is_frame}
 use Rattle.kc_dump_text.specs.declared.place.Place.{Place}
@@ -10,10 +10,10 @@ use Rattle.kc_dump_text.specs.declared.dump_line.DumpLine.TheVariants.{SizeOf, F
 
 -- the numbers of a line are in range; no slot shows more leaves than a text of a gigabyte can name
 abbrev pub in_range : Version → ℕ → DumpLine → Bool
-in_range version n (SizeOf frames core leaves) = nat_lt 0 frames && nat_le frames (most_frames version) && nat_le core frames && nat_lt 0 leaves && nat_le leaves leaf_limit
+in_range version n (SizeOf frames core leaves) = nat_lt 0 frames && nat_le frames (most_frames version) && nat_le core frames && nat_lt 0 leaves && nat_le leaves (most_leaves version)
 in_range version n (FreeOf ends) = are_ends n ends
 in_range version n (VmOf v phase ends) = nat_lt v (slots_of version) && are_ends n ends
-in_range version n (LeafOf v i root) = nat_lt v (slots_of version) && nat_lt i byte_limit && nat_lt root leaf_entries
+in_range version n (LeafOf v i root) = nat_lt v (slots_of version) && nat_lt i byte_limit && nat_lt root (roots_of version)
 in_range version n (EntryOf v entry) = is_entry version n v entry
 in_range version n (FrameOf f frame) = nat_lt f n && is_frame version n frame
 

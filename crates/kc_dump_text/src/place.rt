@@ -4,7 +4,7 @@ ghost use Rattle.kc_dump_text.specs.Places.{start, section, in_range, comes, may
 
 use crate::dump_line::DumpLine;
 use crate::ranges::{are_ends, are_sizes, is_entry, is_frame};
-use kc_types::{BYTE_LIMIT, LEAF_ENTRIES, Version};
+use kc_types::{BYTE_LIMIT, Version};
 
 /// The version, and the number of frames that there should be.
 #[derive(Clone, Copy, Debug)]
@@ -52,7 +52,7 @@ fn in_range(sizes: Sizes, line: &DumpLine) -> bool
         DumpLine::FreeOf(ends) => are_ends(sizes.frames, ends),
         DumpLine::VmOf(vm, _, ends) => *vm < slots && are_ends(sizes.frames, ends),
         DumpLine::LeafOf(vm, number, root) => {
-            *vm < slots && (*number as usize) < BYTE_LIMIT && *root < LEAF_ENTRIES as u32
+            *vm < slots && (*number as usize) < BYTE_LIMIT && *root < sizes.version.roots()
         }
         DumpLine::EntryOf(vm, (gfn, frame)) => {
             is_entry(sizes.version, sizes.frames, *vm, *gfn, *frame)

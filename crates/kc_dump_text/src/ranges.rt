@@ -1,12 +1,11 @@
 //! Which numbers a line may have.
 ghost use Rattle.std.specs.Prelude.{◌≡◌, ◌==◌, nat_lt, nat_le, ◌&&◌, length};
 ghost use Rattle.std.specs.List.{list_all};
-ghost use Rattle.kc_types.specs.Limits.{leaf_limit, gfn_limit};
-ghost use Rattle.kc_types.specs.Configuration.{most_frames};
+ghost use Rattle.kc_types.specs.Configuration.{gfns_of, most_frames, most_leaves};
 ghost use Rattle.kc_dump.specs.Ranges.{is_below, are_ends, is_entry, is_owner, is_frame};
 
 use kc_dump::FrameLine;
-use kc_types::{Ends, FrameNo, GFN_LIMIT, Gfn, LEAF_LIMIT, Owner, SHARE_LIMIT, Version};
+use kc_types::{Ends, FrameNo, Gfn, Owner, SHARE_LIMIT, Version};
 
 fn is_below(limit: u32, frame: Option<FrameNo>) -> bool
     ensures { result ≡ is_below limit frame }
@@ -24,19 +23,19 @@ pub fn are_ends(frames: u32, ends: &Ends) -> bool
 }
 
 pub fn are_sizes(version: Version, frames: u32, core: u32, leaves: u32) -> bool
-    ensures { result ≡ (nat_lt 0 frames && nat_le frames (most_frames version) && nat_le core frames && nat_lt 0 leaves && nat_le leaves leaf_limit) }
+    ensures { result ≡ (nat_lt 0 frames && nat_le frames (most_frames version) && nat_le core frames && nat_lt 0 leaves && nat_le leaves (most_leaves version)) }
 {
     0 < frames
         && frames <= version.most_frames()
         && core <= frames
         && 0 < leaves
-        && leaves <= LEAF_LIMIT
+        && leaves <= version.most_leaves()
 }
 
 pub fn is_entry(version: Version, frames: u32, vm: u32, gfn: Gfn, frame: FrameNo) -> bool
     ensures { result ≡ is_entry version frames vm (gfn, frame) }
 {
-    vm < version.slots() && gfn.number() < GFN_LIMIT && frame.number() < frames
+    vm < version.slots() && gfn.number() < version.gfns() && frame.number() < frames
 }
 
 fn is_owner(version: Version, owner: &Owner) -> bool
@@ -48,11 +47,11 @@ fn is_owner(version: Version, owner: &Owner) -> bool
     }
 }
 
-fn is_gfn(gfn: Option<Gfn>) -> bool
-    ensures { result ≡ is_below gfn_limit gfn }
+fn is_gfn(version: Version, gfn: Option<Gfn>) -> bool
+    ensures { result ≡ is_below (gfns_of version) gfn }
 {
     match gfn {
-        Some(gfn) => gfn.number() < GFN_LIMIT,
+        Some(gfn) => gfn.number() < version.gfns(),
         None => true,
     }
 }
@@ -75,7 +74,7 @@ pub fn is_frame(version: Version, frames: u32, frame: &FrameLine) -> bool
 {
     is_owner(version, &frame.owner)
         && frame.share <= SHARE_LIMIT
-        && is_gfn(frame.gfn)
+        && is_gfn(version, frame.gfn)
         && is_below(frames, frame.prev)
         && is_below(frames, frame.next)
         && is_long(&frame.digest)

@@ -11,7 +11,7 @@ use Rattle.kc_types.specs.declared.link.Link.{Link}
 use Rattle.kc_types.specs.declared.owner.Owner.{Owner}
 use Rattle.kc_types.specs.declared.owner.Owner.TheVariants.{Core, Host, Free, Vm}
 use Rattle.kc_types.specs.declared.slot.Phase.TheVariants.{Empty}
-use Rattle.kc_model.specs.State.{State, Frame, Slot, frame_at, slot_at, untouched, empty_slot}
+use Rattle.kc_model.specs.State.{State, Frame, Slot, frame_at, slot_at, untouched, no_slot}
 use Rattle.kc_model.specs.Lawful.{IsLawful, IsLawfulSlot, same_owner, times_in, ListsOnce}
 use Rattle.kc_model.specs.Links.{first_of, link_after, link_in, link_at, list_of}
 use Rattle.kc_model.specs.Linked.{ends_of}
@@ -118,7 +118,7 @@ module _ (m : State) (is : IsLawful m) where
   }
 
   pub slot-low : (v : ℕ) → v < length (dump_of m).slots → dumps.slot_dump_at (dump_of m) v ≡ slot_dump (slot_at m v)
-  slot-low v low = get_or-map slot_dump m.slots v empty_slot empty_dump (rw (length-map m.slots slot_dump) at low)
+  slot-low v low = get_or-map slot_dump m.slots v no_slot empty_dump (rw (length-map m.slots slot_dump) at low)
 
   in-no-list : (f : ℕ) (owner : Owner) → (frame_at m f).owner ≡ owner → list_of m owner ≡ [] → link_at m f ≡ unlinked
   in-no-list f owner mine none = ap (λ fs. link_in fs f) (ap (list_of m) mine ∙ none)
@@ -151,7 +151,7 @@ module _ (m : State) (is : IsLawful m) where
     empty = λ none. ap slot_dump (lawful.empty none) ∙ empty-dumped;
   }
     where
-      empty-dumped : slot_dump empty_slot ≡ empty_dump
+      empty-dumped : slot_dump no_slot ≡ empty_dump
       empty-dumped = λ i. record { phase = Empty; list = no_ends; leaves = []; entries = empty-entries i }
 
   gfn-same : (f : ℕ) → (line_at lines f).gfn ≡ (frame_at m f).gfn

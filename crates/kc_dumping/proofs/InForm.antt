@@ -1,5 +1,5 @@
 -- A state in a form keeps everything but bytes.
-use Rattle.std.proofs.Common.{ℕ, ◌≡◌, true, false, List, [], length, map, refl, sym, ap, ◌∙◌, cond}
+use Rattle.std.proofs.Common.{ℕ, ◌≡◌, false, List, [], length, map, refl, sym, ap, ◌∙◌, cond}
 use Rattle.std.proofs.lemmas.List.{length-map}
 use Rattle.kc_types.specs.declared.owner.Owner.{Owner}
 use Rattle.kc_types.specs.declared.owner.Owner.TheVariants.{Core, Host, Free, Vm}
@@ -68,10 +68,6 @@ dump_in Blank m = refl
 
 blank_bytes : (m : State) (f : ℕ) (owner : Owner) → owner ≡ (frame_at m f).owner → (frame_at (blank_state m) f).bytes ≡ cond (is_guests m owner) zero_page (frame_at m f).bytes
 blank_bytes m f owner is = ap (λ (x : Frame). x.bytes) (frame_blank m f) ∙ sym (ap (λ (o : Owner). cond (is_guests m o) zero_page (frame_at m f).bytes) is)
-
--- a page of an active VM is blank, and any other is as it was
-pub zero_there : (m : State) (f : ℕ) (owner : Owner) → owner ≡ (frame_at m f).owner → is_guests m owner ≡ true → (frame_at (blank_state m) f).bytes ≡ zero_page
-zero_there m f owner is guests = blank_bytes m f owner is ∙ ap (λ b. cond b zero_page (frame_at m f).bytes) guests
 
 pub same_there : (m : State) (f : ℕ) (owner : Owner) → owner ≡ (frame_at m f).owner → is_guests m owner ≡ false → (frame_at (blank_state m) f).bytes ≡ (frame_at m f).bytes
 same_there m f owner is guests = blank_bytes m f owner is ∙ ap (λ b. cond b zero_page (frame_at m f).bytes) guests

@@ -7,8 +7,8 @@ use Rattle.std.proofs.lemmas.List.Elements.{All-get_or}
 use Rattle.std.specs.Ordering.{nat_cmp}
 use Rattle.std.specs.FinMap.{entries, entries_sorted}
 use Rattle.std.specs.FinMap.Entries.{is_sorted, below_all}
-use Rattle.kc_types.specs.Configuration.{slot_count, slots_of}
-use Rattle.kc_types.specs.Limits.{leaf_entries, gfn_limit}
+use Rattle.kc_types.specs.Configuration.{slot_count, slots_of, gfns_of, roots_of}
+use Rattle.kc_types.proofs.Ranges.{few-leaves}
 use Rattle.kc_types.specs.declared.link.Link.{Link}
 use Rattle.kc_types.specs.declared.owner.Owner.{Owner}
 use Rattle.kc_types.specs.declared.owner.Owner.TheVariants.{Core, Host, Free, Vm}
@@ -95,9 +95,9 @@ module _ (m : State) (is : IsLawful m) where
   owner-in f Free mine low = refl
   owner-in f (Vm v) mine low = lt-ltb v (slots_of m.config.version) ((is.each_frame f (rw is.frames low)).slot v mine)
 
-  gfn-in : (f : ℕ) (gfn : Option ℕ) → (frame_at m f).gfn ≡ gfn → f < m.config.frames → is_below gfn_limit gfn ≡ true
+  gfn-in : (f : ℕ) (gfn : Option ℕ) → (frame_at m f).gfn ≡ gfn → f < m.config.frames → is_below (gfns_of m.config.version) gfn ≡ true
   gfn-in f None mine low = refl
-  gfn-in f (Some g) mine low = lt-ltb g gfn_limit ((is.each_frame f (rw is.frames low)).gfn g mine)
+  gfn-in f (Some g) mine low = lt-ltb g (gfns_of m.config.version) ((is.each_frame f (rw is.frames low)).gfn g mine)
 
   entry-in : (v : ℕ) (n : ℕ) → v < slot_count m.config → n < length (entries (slot_at m v).mapped) → is_entry m.config.version m.config.frames v (get_or (entries (slot_at m v).mapped) n (0, 0)) ≡ true
   unfolding slot_count
@@ -106,7 +106,7 @@ module _ (m : State) (is : IsLawful m) where
       let there = (entry-get (slot_at m v).mapped e.0 e.1).0 (place-entry (entries (slot_at m v).mapped) n (0, 0) within) in
       let frame = (is.mapped v e.0 e.1 low).0 there in
       let exists = below m is e.1 (λ core. let clash : Vm v ≡ Core = sym frame.0 ∙ core in cc) in
-      and_from _ _ (and_from _ _ (lt-ltb v (slots_of m.config.version) low) (lt-ltb e.0 gfn_limit ((is.each_frame e.1 (rw is.frames exists)).gfn e.0 frame.1))) (lt-ltb e.1 m.config.frames exists)
+      and_from _ _ (and_from _ _ (lt-ltb v (slots_of m.config.version) low) (lt-ltb e.0 (gfns_of m.config.version) ((is.each_frame e.1 (rw is.frames exists)).gfn e.0 frame.1))) (lt-ltb e.1 m.config.frames exists)
 
   pub dump-in-range : IsDump (dump_of m)
   unfolding slot_count
@@ -125,11 +125,11 @@ module _ (m : State) (is : IsLawful m) where
       | inl low ↦
           let few = (is.each_slot v (rw (slots m is) at low)).few_leaves in
           let most = is.config.few_leaves in
-          let here = ap (λ (s : SlotDump). length s.leaves) (slot-low m is v low) in omega (arith, few, most, here)
+          let here = ap (λ (s : SlotDump). length s.leaves) (slot-low m is v low) in omega (arith, few, most, here, few-leaves m.config.version)
       | inr past ↦ let here = ap (λ (s : SlotDump). length s.leaves) (get_or_past (dump_of m).slots v empty_dump past) in omega (arith, here)
     ];
     roots = λ v n low. (let exists : v < slot_count m.config = rw (slots m is) at low in
-        subst (λ (s : SlotDump). n < length s.leaves → get_or s.leaves n 0 < leaf_entries) (sym (slot-low m is v low)) (λ within. All-get_or (λ root. root < 512) (slot_at m v).leaves n 0 within (is.each_slot v exists).each_leaf));
+        subst (λ (s : SlotDump). n < length s.leaves → get_or s.leaves n 0 < roots_of m.config.version) (sym (slot-low m is v low)) (λ within. All-get_or (λ root. root < roots_of m.config.version) (slot_at m v).leaves n 0 within (is.each_slot v exists).each_leaf));
     entries = λ v n low. (let exists : v < slot_count m.config = rw (slots m is) at low in
         subst (λ (s : SlotDump). n < length s.entries → is_entry m.config.version (length (dump_of m).frames) v (get_or s.entries n (0, 0)) ≡ true) (sym (slot-low m is v low))
         (λ within. ap (λ k. is_entry m.config.version k v (get_or (entries (slot_at m v).mapped) n (0, 0))) (long m is) ∙ entry-in v n exists within));

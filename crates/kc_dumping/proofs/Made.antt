@@ -4,7 +4,7 @@ use Rattle.std.specs.List.{range_with_len}
 use Rattle.std.proofs.lemmas.List.{ext_get_or, get_or-map, length-map, map-append, take_more}
 use Rattle.std.proofs.lemmas.List.FromFn.{map-range_with_len_more, get_or-map-range_with_len, length-map-range_with_len}
 use Rattle.kc_types.specs.Configuration.{slot_count}
-use Rattle.kc_model.specs.State.{State, Frame, frame_at, slot_at, untouched, empty_slot}
+use Rattle.kc_model.specs.State.{State, Frame, frame_at, slot_at, untouched, no_slot}
 use Rattle.kc_model.specs.Links.{link_at}
 use Rattle.kc_model.specs.Lawful.{IsLawful}
 use Rattle.kc_page.specs.declared.page.Page.{Page}
@@ -37,7 +37,7 @@ pub slots-made : (m : State) → IsLawful m → slot_dumps m (slot_count m.confi
 slots-made m is = ext_get_or empty_dump _ _ (length-map-range_with_len (λ v. slot_dump (slot_at m v)) 0 (slot_count m.config) ∙ sym (length-map m.slots slot_dump ∙ is.slots)) (λ i low.
     let within : i < slot_count m.config = rw (length-map-range_with_len (λ v. slot_dump (slot_at m v)) 0 (slot_count m.config)) at low in
     get_or-map-range_with_len (λ v. slot_dump (slot_at m v)) 0 (slot_count m.config) i i empty_dump within (omega arith)
-    ∙ sym (get_or-map slot_dump m.slots i empty_slot empty_dump (rw is.slots within)))
+    ∙ sym (get_or-map slot_dump m.slots i no_slot empty_dump (rw is.slots within)))
 
 pub line-made : (m : State) (f : ℕ) (meta : PageRecord) (digest : List ℕ) → IsRecordOf m f meta → digest ≡ sha256 (frame_at m f).bytes
     → ◌≡◌ {A = FrameLine} (record { owner = meta.owner; share = meta.share; gfn = meta.gfn; present = meta.present; prev = meta.prev; next = meta.next; digest = digest }) (frame_line (frame_at m f) (link_at m f))

@@ -33,12 +33,12 @@ fn lines(alloc: Global, core: &KCore, digests: &Digests) -> Result<Vec<FrameLine
     for number in 0..core.config().frames() {
         let meta = core.page_record(number).unwrap();
         lines.push(FrameLine {
-            owner: meta.owner,
-            share: meta.share,
-            gfn: meta.gfn,
+            owner: meta.owner.get(),
+            share: u32::from(meta.share),
+            gfn: meta.gfn.get(),
             present: meta.present,
-            prev: meta.prev,
-            next: meta.next,
+            prev: meta.prev.get(),
+            next: meta.next.get(),
             digest: each[number as usize],
         })?;
     }

@@ -45,7 +45,7 @@ fn owner_of(core: &KCore, frame: u32) -> Owner
     ensures { result ≡ (frame_at core.now frame).owner }
 {
     match core.page_record(frame) {
-        Some(record) => record.owner,
+        Some(record) => record.owner.get(),
         None => unreachable!(),
     }
 }

@@ -5,7 +5,7 @@ use Rattle.std.proofs.lemmas.Bool.{cond_both, ltb-true}
 use Rattle.std.proofs.lemmas.Bool.Decides.{nat_tests}
 use Rattle.std.proofs.lemmas.List.{get_or-map}
 use Rattle.std.proofs.Math.Bool.{or_assoc}
-use Rattle.kc_waves.specs.Planned.{ComesJustAfter}
+use Rattle.kc_footprints.specs.Planned.{ComesJustAfter}
 use Rattle.kc_types.specs.Configuration.{Configuration, slot_count}
 use Rattle.kc_types.specs.declared.call.Call.{Call}
 use Rattle.kc_types.specs.declared.call.Call.TheVariants.{Give, HostFault, HostRead, HostWrite, Remap, Map, Drop, Clear}

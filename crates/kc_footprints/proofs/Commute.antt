@@ -7,7 +7,7 @@ use Rattle.kc_model.proofs.Local.Agreeing.{agrees-next, keeps-rest}
 use Rattle.kc_model.proofs.Footprints.Reaches.{need-within, footprint-keeps, not-held}
 use Rattle.kc_model.proofs.Local.LinksKept.{links-kept}
 use Rattle.kc_model.proofs.Lawful.LawfulTraces.{lawful-at, orderly-at, lists-all}
-use Rattle.kc_waves.proofs.Laws.{commutes}
+use Rattle.kc_footprints.proofs.OrderLaws.{commutes}
 use Rattle.kc_footprints.specs.Commuting.{IsCommuting, IsCommutingLinked, HasNeeds}
 use Rattle.kc_footprints.specs.Stepping.{IsStepping}
 

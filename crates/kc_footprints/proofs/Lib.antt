@@ -8,8 +8,11 @@ pub mod Kept
 pub mod Listed
 pub mod Listing
 pub mod Near
+pub mod OrderLaws
+pub mod PlannedWaves
 pub mod Plans
 pub mod Reordered
+pub mod Reorders
 pub mod Shapes
 pub mod Starts
 pub mod Steps

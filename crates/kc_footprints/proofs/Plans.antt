@@ -5,7 +5,7 @@ use Rattle.std.specs.Prelude.{eqb}
 use Rattle.std.proofs.Math.Nat.{eq-or-lt_of_le}
 use Rattle.std.proofs.lemmas.Bool.{and_parts, eqb-true}
 use Rattle.std.proofs.lemmas.List.{get_or_push, get_or_append_left, length-replicate}
-use Rattle.kc_waves.specs.Planned.{ComesJustAfter}
+use Rattle.kc_footprints.specs.Planned.{ComesJustAfter}
 use Rattle.kc_types.specs.declared.resource.Resource.TheVariants as resource
 use Rattle.kc_model.specs.Resources.{Resource}
 use Rattle.kc_model.proofs.States.Slots.{get_or-same}

@@ -2,7 +2,7 @@
 use Rattle.std.proofs.Common.{ℕ, zero, suc, ◌≡◌, ◌<◌, Bool, true, false, List, [], ◌∷◌, length, refl, sym, ap, subst, ◌∙◌, arith}
 use Rattle.kc_types.specs.declared.call.Call.{Call}
 use Rattle.kc_types.specs.declared.owner.Owner.TheVariants.{Core}
-use Rattle.kc_model.specs.State.{State, empty_slot, untouched}
+use Rattle.kc_model.specs.State.{State, no_slot, untouched}
 use Rattle.kc_model.specs.Lawful.{IsLawful}
 use Rattle.kc_model.specs.Next.{next, state_after}
 use Rattle.kc_model.specs.Resources.{Resource, IsWithin, need, pick, merged, part_of}
@@ -14,8 +14,8 @@ use Rattle.kc_model.proofs.Local.Parts.{need-merged}
 use Rattle.kc_model.proofs.States.Places.{state_at-end}
 use Rattle.kc_model.proofs.Footprints.Reaches.{footprint-keeps}
 use Rattle.kc_model.proofs.Lawful.LawfulTraces.{orderly-at}
-use Rattle.kc_waves.specs.Reorder.{with_number, IsDue, IsTaken, IsReordering}
-use Rattle.kc_waves.proofs.Reorders.{left_by, all_done, rest, due_finds, due_leaves, due_keeps, by_waves}
+use Rattle.kc_footprints.specs.Reorder.{with_number, IsDue, IsTaken, IsReordering}
+use Rattle.kc_footprints.proofs.Reorders.{left_by, all_done, rest, due_finds, due_leaves, due_keeps, by_waves}
 use Rattle.kc_footprints.specs.Stepping.{IsStep}
 use Rattle.kc_footprints.specs.Reordering.{after_order, AnswersAlike, IsOrderFree, IsWaveOrderFree, IsReadiness}
 use Rattle.kc_footprints.proofs.Commute.{has_needs, is_stepping}
@@ -25,7 +25,7 @@ pick-all d [] ys = refl
 pick-all d (x ∷ xs) ys = ap (λ rest. x ∷ rest) (pick-all d xs _)
 
 merged-all : (m other : State) → merged (λ r. true) m other ≡ m
-merged-all m other = rw (pick-all (untouched Core) m.frames other.frames, pick-all empty_slot m.slots other.slots) refl
+merged-all m other = rw (pick-all (untouched Core) m.frames other.frames, pick-all no_slot m.slots other.slots) refl
 
 -- states of one size that have the same parts are the same
 same-state : (m other : State) → IsSameSize m other → ((r : Resource) → part_of other r ≡ part_of m r) → other ≡ m

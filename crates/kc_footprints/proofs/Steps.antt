@@ -3,7 +3,7 @@ use Rattle.std.proofs.Common.{◌≡◌, ℕ, zero, suc, ◌+◌, ◌-◌, ◌<�
 use Rattle.std.specs.Prelude.{◌⊎◌}
 use Rattle.std.proofs.Math.Nat.{eq-or-lt_of_le}
 use Rattle.std.proofs.lemmas.Bool.{cases_Bool}
-use Rattle.kc_waves.specs.Planned.{ComesJustAfter}
+use Rattle.kc_footprints.specs.Planned.{ComesJustAfter}
 use Rattle.kc_types.specs.declared.resource.Resource.TheVariants.{Frame}
 use Rattle.kc_model.specs.Resources.{Resource}
 use Rattle.kc_footprints.specs.LastWaves.{Stamps, frame_wave, principal_wave, reach_wave, IsFound, IsNoted}

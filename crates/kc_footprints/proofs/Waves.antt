@@ -3,8 +3,8 @@ use Rattle.std.proofs.Common.{ℕ, ◌<◌, List, length, map}
 use Rattle.std.specs.Prelude.{nat_lt, IfSome, Option, Some, None}
 use Rattle.std.proofs.lemmas.Bool.{cond_both, ltb-true}
 use Rattle.std.proofs.lemmas.List.{length-map}
-use Rattle.kc_waves.specs.Planned.{ComesJustAfter}
-use Rattle.kc_waves.proofs.Plans.{is_plan}
+use Rattle.kc_footprints.specs.Planned.{ComesJustAfter}
+use Rattle.kc_footprints.proofs.PlannedWaves.{is_plan}
 use Rattle.kc_types.specs.Configuration.{Configuration, slot_count}
 use Rattle.kc_types.specs.declared.call.Call.{Call}
 use Rattle.kc_types.specs.Slots.{slot_of}

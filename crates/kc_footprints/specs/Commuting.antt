@@ -6,7 +6,7 @@ use Rattle.kc_model.specs.Lawful.{IsLawful}
 use Rattle.kc_model.specs.Resources.{need, IsWithin}
 use Rattle.kc_model.specs.Linked.{linked_part_at}
 use Rattle.kc_model.specs.Footprints.{call_at, state_at, part_at, footprint}
-use Rattle.kc_waves.specs.Order.{IsPlan, Commutes}
+use Rattle.kc_footprints.specs.Order.{IsPlan, Commutes}
 
 -- what a call needs lies in its footprint
 abbrev pub HasNeeds : Type 0

@@ -3,7 +3,7 @@ use Rattle.std.specs.Prelude.{◌≡◌, ◌≢◌, ℕ, ◌<◌, ◌≤◌, ◌
 use Rattle.std.specs.List.{list_any, IsDistinct}
 use Rattle.kc_footprints.specs.declared.names.Names.{Names}
 use Rattle.kc_footprints.specs.Reach.{has_member, is_at, names_principal, gains_by, may_have, touches}
-use Rattle.kc_waves.specs.Planned.{ComesJustAfter}
+use Rattle.kc_footprints.specs.Planned.{ComesJustAfter}
 pub use Rattle.kc_footprints.specs.LastWaves.{Stamps}
 use Rattle.kc_footprints.specs.LastWaves.{IsFound, IsNoted}
 use Rattle.kc_footprints.specs.Plan.{wave_of}

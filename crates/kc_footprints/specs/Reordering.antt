@@ -6,7 +6,7 @@ use Rattle.kc_model.specs.Lawful.{IsLawful}
 use Rattle.kc_model.specs.Resources.{need, IsWithin}
 use Rattle.kc_model.specs.Next.{next, state_after}
 use Rattle.kc_model.specs.Footprints.{call_at, reply_at, footprint}
-use Rattle.kc_waves.specs.Reorder.{IsDue, IsTaken, IsReordering, IsByWaves}
+use Rattle.kc_footprints.specs.Reorder.{IsDue, IsTaken, IsReordering, IsByWaves}
 use Rattle.kc_footprints.specs.Commuting.{IsWaves}
 
 -- the store after the calls of these numbers, in this order

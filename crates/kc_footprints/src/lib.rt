@@ -5,7 +5,8 @@
 //!   `src/footprints.rt`
 //! - their waves: `src/planner.rt`; the calls of a wave: `src/plan.rt`
 //! - why the order within a wave changes nothing: `specs/Commuting.antt`, `specs/Stepping.antt`,
-//!   `specs/Reordering.antt`
+//!   `specs/Reordering.antt`, over laws of calls in waves that hold for any resources and parts: `specs/Order.antt`,
+//!   `specs/Reorder.antt`, `specs/Planned.antt`
 #![tactic(auto)]
 
 mod footprints;

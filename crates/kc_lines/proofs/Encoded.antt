@@ -1,26 +1,9 @@
 -- Digits written in pairs.
-use Rattle.std.proofs.Common.{◌≡◌, ◌<◌, ◌+◌, ◌*◌, ◌%◌, ◌/◌, ℕ, true, false, cond, List, [], ◌∷◌, ◌++◌, length, get_or, set, take, refl, sym, ap, ◌∙◌, arith, append_assoc}
-use Rattle.std.specs.Prelude.{◌==◌, nat_lt}
-use Rattle.std.proofs.lemmas.List.{take_more, take_more_set, take_all, length-set}
-use Rattle.std.proofs.lemmas.Bool.{eqb-true}
+use Rattle.std.proofs.Common.{◌≡◌, ◌<◌, ◌+◌, ◌*◌, ◌%◌, ◌/◌, ℕ, List, [], ◌∷◌, ◌++◌, length, get_or, set, take, refl, sym, ap, ◌∙◌, arith, append_assoc}
+use Rattle.std.specs.Prelude.{◌==◌}
+use Rattle.std.proofs.lemmas.List.{take_more, take_more_set, length-set}
 use Rattle.hex.specs.Hex.{encode_lower, encode_with, lower_digits}
-use Rattle.kc_lines.proofs.Digits.{all_below, at_below, encode_lower-append}
-
-low_digits : all_below (λ v. 48 + v == get_or lower_digits v 0) 10 ≡ true
-unfolding all_below
-low_digits = refl
-
-high_digits : all_below (λ v. cond (nat_lt v 10) true (87 + v == get_or lower_digits v 0)) 16 ≡ true
-unfolding all_below
-high_digits = refl
-
-pub low_digit : (v : ℕ) → v < 10 → 48 + v ≡ get_or lower_digits v 0
-low_digit v lt = eqb-true _ _ (at_below (λ k. 48 + k == get_or lower_digits k 0) 10 v low_digits lt)
-
-pub high_digit : (v : ℕ) → nat_lt v 10 ≡ false → v < 16 → 87 + v ≡ get_or lower_digits v 0
-high_digit v past lt =
-    let t = at_below (λ k. cond (nat_lt k 10) true (87 + k == get_or lower_digits k 0)) 16 v high_digits lt in
-    eqb-true _ _ (rw past at t)
+use Rattle.kc_lines.proofs.Digits.{encode_lower-append}
 
 -- this many bytes are written
 pub record IsEncoded (bytes digits : List ℕ) (i : ℕ) : Type 0 where
@@ -55,7 +38,3 @@ next_encoded bytes digits i high low within high_is low_is before =
           ∙ ap encode_lower (sym (take_more bytes i 0 within));
       size = omega (arith, one, two, size);
     }
-
-pub all_encoded : (bytes digits : List ℕ) → IsEncoded bytes digits (length bytes) → digits ≡ encode_lower bytes
-all_encoded bytes digits whole =
-    sym (take_all (2 * length bytes) digits (omega (arith, whole.size))) ∙ whole.written ∙ ap encode_lower (take_all (length bytes) bytes (omega arith))

@@ -40,9 +40,6 @@ digit_at word i all lt =
 more_is : (word : List ℕ) (i : ℕ) → list_all is_ascii_digit word ≡ true → i < length word → digits_value 10 (take (i + 1) word) ≡ digits_value 10 (take i word) * 10 + get_or word i 0 % 16
 more_is word i all lt = digits_value_more 10 word i lt ∙ ap (λ d. digits_value 10 (take i word) * 10 + d) (value_of_digit (get_or word i 0) (digit_at word i all lt))
 
-pub none_cut : (word : List ℕ) → IsCut (digits_value 10 (take 0 word)) 0
-none_cut word = record { below = λ lt. refl; above = λ le. absurd (omega (arith, le)) }
-
 kept : (n m d v w : ℕ) → m ≡ n * 10 + d → w ≡ v * 10 + d → w ≤ 2 ^ 32 → IsCut n v → IsCut m w
 kept n m d v w m_is w_is le cut =
     elim (cases_lt n (2 ^ 32)) [
@@ -61,13 +58,6 @@ next_kept word i v w all lt is le cut = kept _ _ (get_or word i 0 % 16) v w (mor
 
 pub next_cut : (word : List ℕ) (i v w : ℕ) → list_all is_ascii_digit word ≡ true → i < length word → w ≡ v * 10 + get_or word i 0 % 16 → 2 ^ 32 < w → IsCut (digits_value 10 (take i word)) v → IsCut (digits_value 10 (take (i + 1) word)) (2 ^ 32)
 next_cut word i v w all lt is gt cut = cut_off _ _ (get_or word i 0 % 16) v w (more_is word i all lt) is gt cut
-
-pub small_is : (n v : ℕ) → IsCut n v → v ≤ 2 ^ 32
-small_is n v cut =
-    elim (cases_lt n (2 ^ 32)) [
-      | inl lt ↦ omega (arith, cut.below lt, lt)
-      | inr past ↦ omega (arith, cut.above past)
-    ]
 
 -- a number that was not cut off
 pub value_is : (word : List ℕ) (v : ℕ) → is_numeral word ≡ true → IsCut (digits_value 10 word) v → v < 2 ^ 32 → Some v ≡ number_in word

@@ -8,8 +8,8 @@ use Rattle.std.proofs.lemmas.List.Elements.{All-nil, All-append}
 use Rattle.sha2.specs.Sha256.{sha256, digest_bytes}
 use Rattle.sha2.proofs.Facts256.{length-sha256}
 use Rattle.kc_types.specs.declared.version.Version.{Version}
-use Rattle.kc_types.specs.Limits.{leaf_limit, digest_limit}
-use Rattle.kc_types.specs.Configuration.{Configuration, IsConfiguration, most_frames}
+use Rattle.kc_types.specs.Limits.{digest_limit}
+use Rattle.kc_types.specs.Configuration.{Configuration, IsConfiguration, most_frames, most_leaves}
 use Rattle.kc_types.specs.ConfigFaults.{fault_of}
 use Rattle.kc_model.specs.Volumes.{IsDigest}
 use Rattle.kc_trace.specs.declared.header.Header.{Header}
@@ -59,11 +59,6 @@ head_first config is digests = record { config = is; digests = digests; position
 pub header_first : (config : Configuration) → IsConfiguration config → AllByRecursion IsDigest config.approved → IsHeaderOf 0 config (header_at config (Some First))
 header_first config is digests = (head_first config is digests, refl, refl, refl)
 
-pub header_may : (number : ℕ) (config : Configuration) (header : Header) → IsHeaderOf number config header → MayRecord header
-header_may number config One is = absurd is
-header_may number config Two is = tt
-header_may number config (Three head) is = is.0
-
 pub header_next : (number : ℕ) (config : Configuration) (header : Header) (digest : List ℕ) → IsHeaderOf number config header → IsDigest digest → IsHeaderOf (number_after number) config (next_header header digest)
 header_next number config One digest is whole = absurd is
 header_next number config Two digest is whole = omega (arith, is)
@@ -93,7 +88,7 @@ no_fault c is =
       le-ltb (most_frames c.version) c.frames is.few_frames,
       le-ltb c.frames (c.core + c.host) is.within,
       ne_eqb c.leaves 0 (λ z. absurd (omega (arith, one, z))),
-      le-ltb leaf_limit c.leaves is.few_leaves,
+      le-ltb (most_leaves c.version) c.leaves is.few_leaves,
       le-ltb digest_limit (length c.approved) is.few_digests,
     ) refl
 

@@ -3,20 +3,23 @@ use Rattle.std.proofs.Common.{◌≡◌, ℕ, zero, suc, ◌+◌, ◌<◌, Bool,
 use Rattle.std.specs.List.{position_from}
 use Rattle.std.specs.Option.{option_map_or}
 use Rattle.std.proofs.lemmas.Iterator.Adapters.{position_from-zero}
+use Rattle.kc_types.specs.Configuration.{Configuration}
 use Rattle.kc_types.specs.declared.call.Call.{Call}
 use Rattle.kc_types.specs.declared.call.Actor.{Actor}
 use Rattle.kc_types.specs.Actors.{actor}
 use Rattle.kc_live.specs.declared.receipt.Entry.{Entry}
 use Rattle.kc_live.specs.declared.receipt.Receipt.{Receipt}
 use Rattle.kc_live.specs.declared.program.ThreadStop.{ThreadStop}
+use Rattle.kc_live.specs.declared.stop.LiveCause.{LiveCause}
+use Rattle.kc_live.specs.declared.stop.LiveCause.TheVariants.{NotYours, HistoryFull, Memory, Start, Unsettled, BadActor}
 use Rattle.kc_live.specs.Program.{ProgramView}
 use Rattle.kc_live.specs.Book.{VolumeView}
 use Rattle.kc_live.specs.Settling.{IsSettled}
 use Rattle.kc_live.specs.Program.{receipt_calls, ActorsApart, actors_of, HasCalls, HasBeginnings, HasNoOthers}
-use Rattle.kc_live.specs.Stops.{run_cause}
+use Rattle.kc_live.specs.Stops.{run_cause, IsCauseOf, IsLate}
 use Rattle.kc_live.specs.Threads.{AreBeginnings}
 use Rattle.kc_model.specs.Histories.{same_actor}
-use Rattle.kc_live.specs.Plans.{stranger_in, stranger_from}
+use Rattle.kc_live.specs.Plans.{stranger_in, stranger_from, MayRunTogether}
 use Rattle.kc_live.proofs.Actors.{OwnedBy, OwnedRows, AllBy, same_actor-true, settled_by_actors}
 
 none_first : (b : Bool) (i : ℕ) (rest : Option ℕ) → cond (not b) (Some i) rest ≡ None → (b ≡ true) × (rest ≡ None)
@@ -109,3 +112,12 @@ pub no_cause : (stop : Option ThreadStop) (is_settled : Bool) → run_cause stop
 no_cause None true none = (refl, refl)
 no_cause None false none = cc
 no_cause (Some stop) is_settled none = cc
+
+-- a cause that shows only in a run is the cause of programs that may run
+pub late_cause : (config : Configuration) (ps : List ProgramView) (cause : LiveCause) → IsLate cause → MayRunTogether config ps → IsCauseOf config ps cause
+late_cause config ps (BadActor i) late sound = absurd late
+late_cause config ps (NotYours i call) late sound = absurd late
+late_cause config ps HistoryFull late sound = absurd late
+late_cause config ps Memory late sound = sound
+late_cause config ps Start late sound = sound
+late_cause config ps Unsettled late sound = sound

@@ -71,7 +71,8 @@ IsHeaderOf number config One = ⊥
 IsHeaderOf number config Two = 2 ^ 32 ≤ number + 1
 IsHeaderOf number config (Three head) = IsHead head × (head.config ≡ config) × (number_of head.position ≡ number + 1) × (head.is_host_redacted ≡ false)
 
--- one thread could have made the volume, from a state in which it may start, and its header is that of its machine and number
+-- linearizable: one thread could have made the volume, from a state in which it may start; its header is that of its
+-- machine and number. That calls which do not overlap come in the order of time is due to the lock: no clause says it
 pub record IsLegal (v : VolumeView) : Type 0 where
   pub start : State
   pub may : MayStart v.number start
@@ -160,7 +161,7 @@ abbrev pub moved : Header → Option Position → Header
 moved (Three head) position = header_at head.config position
 moved header position = header
 
--- the header of the volume after one with this header, whose redacted trace has this digest
+-- the header of the volume after one with this header, whose redacted trace has this digest; heads form a hash chain
 abbrev pub next_header : Header → List ℕ → Header
 next_header header digest = moved header (position_after header (Some digest))
 
@@ -168,16 +169,16 @@ next_header header digest = moved header (position_after header (Some digest))
 abbrev pub next_recording : Recording → Recording
 next_recording r = record { header = next_header r.header (digest_of r); log = next_volume r.log }
 
--- where a volume with this header comes, if it has a head
+-- the position of a volume with this header, if it has a head
 abbrev pub position_of : Header → Option Position
 position_of (Three head) = Some head.position
 position_of header = None
 
--- where the volume comes that goes on from the state after these entries of a volume with this header and this digest: it is the same volume if there are none yet, and otherwise the next
+-- the position of the volume that goes on after these entries of a volume with this header and this digest: that of the same volume if there are no entries yet, and otherwise that of the next
 abbrev pub onward_from : List Entry → Header → List ℕ → Option Position
 onward_from [] header digest = position_of header
 onward_from (entry ∷ entries) header digest = position_after header (Some digest)
 
--- where the volume comes that goes on from the state that the recording is in, if it has a head
+-- the position of the volume that goes on from the state that the recording is in, if it has a head
 abbrev pub onward : Recording → Option Position
 onward r = onward_from r.log.entries r.header (digest_of r)

@@ -2,8 +2,8 @@
 use Rattle.std.specs.Prelude.{◌≡◌, ℕ, ◌<◌, ◌≤◌, ◌+◌, sum_by, not, Option, Some, None, List, [], ◌∷◌, take, length, position, slice_get}
 use Rattle.std.specs.Option.{option_map_or}
 use Rattle.kc_types.specs.Actors.{actor}
-use Rattle.kc_types.specs.Configuration.{Configuration, slot_count}
-use Rattle.kc_types.specs.Limits.{call_limit, vcpu_limit}
+use Rattle.kc_types.specs.Configuration.{Configuration, slot_count, vcpus_of}
+use Rattle.kc_types.specs.Limits.{call_limit}
 use Rattle.kc_types.specs.declared.call.Actor.{Actor}
 use Rattle.kc_types.specs.declared.call.Actor.TheVariants.{Host, Vcpu}
 use Rattle.kc_model.specs.Histories.{same_actor}
@@ -12,7 +12,7 @@ use Rattle.kc_live.specs.Program.{ProgramView, NoneIs, ActorsApart, actors_of}
 -- the slot exists, and the number is one of a virtual processor
 abbrev pub IsActor : Configuration → Actor → Type 0
 IsActor config Host = Unit {0}
-IsActor config (Vcpu v c) = (v < slot_count config) × (c < vcpu_limit)
+IsActor config (Vcpu v c) = (v < slot_count config) × (c < vcpus_of config.version)
 
 abbrev pub AreActors : Configuration → List Actor → Type 0
 AreActors config [] = Unit {0}

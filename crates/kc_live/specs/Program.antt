@@ -29,7 +29,7 @@ abbrev pub ActorsApart : List Actor → Type 0
 ActorsApart [] = Unit {0}
 ActorsApart (a ∷ rest) = NoneIs a rest × ActorsApart rest
 
--- the history has just the calls of each program by its actor, in order
+-- the history has just the calls of each program by its actor, in order (program order)
 abbrev pub HasCalls : List Entry → List ProgramView → Type 0
 HasCalls h [] = Unit {0}
 HasCalls h (p ∷ ps) = (calls_by p.actor (calls_of h) ≡ p.calls) × HasCalls h ps

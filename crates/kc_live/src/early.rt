@@ -7,7 +7,7 @@ ghost use Rattle.kc_live.specs.Program.{NoneIs, actors_of};
 ghost use Rattle.kc_live.specs.Plans.{IsActor, HaveActors, MayJoin, IsFirstBad, stranger_from, stranger_in, count_of};
 
 use crate::program::Program;
-use kc_types::{Actor, CALL_LIMIT, Call, Config, VcpuId, actor_of};
+use kc_types::{Actor, CALL_LIMIT, Call, Config, actor_of};
 
 /// Whether none of the programs has this actor.
 fn is_free(programs: &[Program], actor: Actor) -> bool
@@ -27,7 +27,7 @@ pub fn is_actor(config: &Config, actor: Actor) -> bool
 {
     match actor {
         Actor::Host => true,
-        Actor::Vcpu(vm, vcpu) => config.vm(vm).is_some() && VcpuId::try_new(vcpu).is_some(),
+        Actor::Vcpu(vm, vcpu) => config.vm(vm).is_some() && config.vcpu(vcpu).is_some(),
     }
 }
 

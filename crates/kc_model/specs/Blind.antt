@@ -56,7 +56,7 @@ grants_secret s _ = false
 abbrev pub IsPrivate : Secret → State → Type 0
 IsPrivate s m = (f : ℕ) → is_secret s (is_running m s.vm) (frame_at m f) ≡ true → (frame_at m f).share ≡ 0
 
--- the states differ only in secret bytes
+-- the states differ only in secret bytes (low equivalence), and no frame that has them is shared
 pub record AreAlike (s : Secret) (m n : State) : Type 0 where
   pub same : hidden s m ≡ hidden s n
   pub private : IsPrivate s m
@@ -76,7 +76,8 @@ pub record SeesTheSame (s : Secret) (m n : State) (calls others : List Call) : T
   pub replies : SameReplies s calls (replies_from m calls) (replies_from n others)
   pub states : AreAlike s (state_after m calls) (state_after n others)
 
--- for every slot and every set of secret guest frames, a trace that grants none of them shows nothing of their bytes
+-- noninterference (confidentiality), with declassification by grant: for every slot and every set of secret guest
+-- frames, a trace that grants none of them shows nothing of their bytes
 abbrev pub HostIsBlind : State → List Call → Type 0
 HostIsBlind m calls = (s : Secret) (n : State) (others : List Call) → IsLawful n → AreAlike s m n → AlikeTraces s calls others
     → AllByRecursion (λ call. grants_secret s call ≡ false) calls → SeesTheSame s m n calls others

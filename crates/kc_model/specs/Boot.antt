@@ -10,7 +10,7 @@ boot_frame c f = untouched (boot_owner c f)
 
 -- the slots of a core without VMs
 unfoldable pub no_vms : Configuration → List Slot
-no_vms c = replicate (slot_count c) empty_slot
+no_vms c = replicate (slot_count c) (empty_slot c.version)
 
 abbrev pub boot : Configuration → State
 boot c = record {

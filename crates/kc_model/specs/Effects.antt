@@ -143,7 +143,7 @@ abbrev pub cleared : State → ℕ → State
 cleared m v = record m {
   frames = scrubbed m.frames (slot_at m v).frames;
   free = m.free ++ (slot_at m v).frames;
-  slots = slice_set m.slots v empty_slot;
+  slots = slice_set m.slots v (empty_slot m.config.version);
 }
 
 abbrev pub effect : State → Call → Outcome

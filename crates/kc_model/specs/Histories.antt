@@ -8,7 +8,7 @@ use Rattle.kc_types.specs.declared.reply.Reply.{Reply}
 use Rattle.kc_model.specs.State.{State}
 use Rattle.kc_model.specs.Next.{replies_from}
 
--- one thread that makes these calls from this state on gets these replies
+-- one thread that makes these calls from this state on gets these replies: a legal sequential history
 abbrev pub IsLegalHistory : State → List Call → List Reply → Type 0
 IsLegalHistory start calls replies = replies ≡ replies_from start calls
 

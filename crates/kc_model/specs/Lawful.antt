@@ -2,8 +2,9 @@
 use Rattle.std.specs.Prelude.{ℕ, ◌+◌, ◌/◌, ◌≡◌, ◌≤◌, ◌<◌, ◌⊎◌, ◌↔◌, ◌==◌, ◌&&◌, nat_le, nat_lt, Bool, true, false, List, [], ◌∷◌, length, Some, is_some, IsTrue, All, slice_index_or, if◌then◌else◌}
 use Rattle.std.specs.List.{list_any}
 use Rattle.std.specs.FinMap as map
-use Rattle.kc_types.specs.Limits.{page_size, share_limit, gfn_limit, image_limit, image_size_limit, leaf_entries, vcpu_limit}
-use Rattle.kc_types.specs.Configuration.{Configuration, IsConfiguration, slot_count}
+use Rattle.kc_types.specs.Limits.{page_size, share_limit, leaf_entries}
+use Rattle.kc_types.specs.Configuration.{Configuration, IsConfiguration, slot_count, vcpus_of, gfns_of, roots_of, most_images, most_image_bytes}
+use Rattle.kc_types.specs.declared.version.Version.{Version}
 use Rattle.kc_types.specs.declared.owner.Owner.{Owner}
 use Rattle.kc_types.specs.declared.owner.Owner.TheVariants.{Core, Host, Free, Vm}
 use Rattle.kc_types.specs.declared.slot.Phase.{Phase}
@@ -50,16 +51,16 @@ pub record IsLawfulFrame (config : Configuration) (f : ℕ) (frame : Frame) : Ty
   pub page : IsPage frame.bytes
   -- the slot and the guest frame that it names exist
   pub slot : (v : ℕ) → frame.owner ≡ Vm v → v < slot_count config
-  pub gfn : (g : ℕ) → frame.gfn ≡ Some g → g < gfn_limit
+  pub gfn : (g : ℕ) → frame.gfn ≡ Some g → g < gfns_of config.version
 
 -- whether the guest frame is one of the image's pages so far
 abbrev pub holds : ℕ → Image → Bool
 holds g image = nat_le image.base g && nat_lt g (image.base + image.pages)
 
-pub record IsLawfulImage (image : Image) : Type 0 where
+pub record IsLawfulImage (version : Version) (image : Image) : Type 0 where
   pub some : 0 < image.len
-  pub small : image.len ≤ image_size_limit
-  pub within : image.base + pages_of image.len ≤ gfn_limit
+  pub small : image.len ≤ most_image_bytes version
+  pub within : image.base + pages_of image.len ≤ gfns_of version
   pub pages : image.pages ≤ pages_of image.len
 
 -- no two images share a guest frame
@@ -68,10 +69,10 @@ Apart [] = Unit {0}
 Apart (image ∷ images) = (list_any (overlaps image.base image.len) images ≡ false) × Apart images
 
 -- only a registered virtual processor of an active slot waits, for a guest frame that exists
-pub record IsLawfulVcpu (phase : Phase) (vcpu : Vcpu) : Type 0 where
+pub record IsLawfulVcpu (version : Version) (phase : Phase) (vcpu : Vcpu) : Type 0 where
   pub registered : (g : ℕ) → vcpu.fault ≡ Some g → vcpu.registered ≡ true
   pub active : (g : ℕ) → vcpu.fault ≡ Some g → phase ≡ Active
-  pub gfn : (g : ℕ) → vcpu.fault ≡ Some g → g < gfn_limit
+  pub gfn : (g : ℕ) → vcpu.fault ≡ Some g → g < gfns_of version
 
 -- whether the root slot of the guest frame has a leaf
 abbrev pub has_leaf : List ℕ → ℕ → Bool
@@ -79,21 +80,22 @@ has_leaf leaves g = list_any (λ root. root == g / leaf_entries) leaves
 
 -- what holds of a slot alone
 pub record IsLawfulSlot (config : Configuration) (slot : Slot) : Type 0 where
-  pub vcpus : length slot.vcpus ≡ vcpu_limit
-  pub each_vcpu : (c : ℕ) → IsLawfulVcpu slot.phase (slice_index_or slot.vcpus c absent_vcpu)
-  pub few_images : length slot.images ≤ image_limit
-  pub each_image : All IsLawfulImage slot.images
+  pub vcpus : length slot.vcpus ≡ vcpus_of config.version
+  pub each_vcpu : (c : ℕ) → IsLawfulVcpu config.version slot.phase (slice_index_or slot.vcpus c absent_vcpu)
+  pub few_images : length slot.images ≤ most_images config.version
+  pub each_image : All (IsLawfulImage config.version) slot.images
   pub apart : Apart slot.images
   pub few_leaves : length slot.leaves ≤ config.leaves
   pub leaves_once : (root : ℕ) → times_in slot.leaves root ≤ 1
-  pub each_leaf : All (λ root. root < leaf_entries) slot.leaves
+  pub each_leaf : All (λ root. root < roots_of config.version) slot.leaves
   -- a mapped guest frame has a leaf
   pub rooted : (g f : ℕ) → map.get slot.mapped g ≡ Some f → has_leaf slot.leaves g ≡ true
   -- during boot the images' pages so far are mapped, and nothing else
   pub booting : slot.phase ≡ Booting → (g : ℕ) → is_some (map.get slot.mapped g) ≡ list_any (holds g) slot.images
   -- an empty slot is as at boot
-  pub empty : slot.phase ≡ Empty → slot ≡ empty_slot
+  pub empty : slot.phase ≡ Empty → slot ≡ empty_slot config.version
 
+-- the invariant: every boot state has it, and every call keeps it
 pub record IsLawful (m : State) : Type 0 where
   pub config : IsConfiguration m.config
   pub frames : length m.frames ≡ m.config.frames

@@ -15,7 +15,8 @@ use Rattle.kc_types.specs.Configuration.{slot_count}
 abbrev pub outcome_merged : Resources → Outcome → State → Outcome
 outcome_merged here outcome rest = (outcome.0, merged here outcome.1 rest)
 
--- the call does with the resources what it does with the whole state, and leaves the rest as it is, whatever it is
+-- the frame property: the call does with the resources what it does with the whole state, and leaves the rest as it
+-- is, whatever it is
 abbrev pub IsLocal : Resources → State → State → Call → Type 0
 IsLocal here m rest call = next (merged here m rest) call ≡ outcome_merged here (next m call) rest
 

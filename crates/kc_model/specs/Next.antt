@@ -13,6 +13,8 @@ abbrev pub unless_refused : Option Refusal → State → Call → Outcome
 unless_refused (Some refusal) m call = (reply.Refused refusal, m)
 unless_refused None m call = effect m call
 
+-- one call, a deterministic step of the specification; the code is a refinement of it: on the state of its parts,
+-- `apply` of kc_core has this outcome
 unfoldable pub next : State → Call → Outcome
 next m call = unless_refused (refusal m call) m call
 

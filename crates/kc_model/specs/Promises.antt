@@ -17,7 +17,7 @@ use Rattle.kc_model.specs.Blind.{HostIsBlind}
 use Rattle.kc_model.specs.Undisturbed.{IsUndisturbed}
 
 -- the host is blind from each call of the trace on: what is private there, even if only since its last revoke, is
--- secret until it is granted
+-- secret until a grant declassifies it
 abbrev pub HostStaysBlind : State → List Call → Type 0
 HostStaysBlind m calls = (i : ℕ) → i ≤ length calls → HostIsBlind (state_at m calls i) (drop i calls)
 

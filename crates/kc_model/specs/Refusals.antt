@@ -11,8 +11,8 @@ use Rattle.kc_types.specs.declared.slot.Phase.{Phase}
 use Rattle.kc_types.specs.declared.slot.Phase.TheVariants.{Empty, Booting, Active}
 use Rattle.kc_model.specs.State.{State, Image, frame_at, slot_at, vcpu_at, image_at, mapped_at}
 use Rattle.kc_model.specs.Slot.{next_gfn_of}
-use Rattle.kc_types.specs.Configuration.{slot_count}
-use Rattle.kc_types.specs.Limits.{page_size, vcpu_limit, gfn_limit, leaf_entries, image_limit, image_size_limit, share_limit, range_limit}
+use Rattle.kc_types.specs.Configuration.{slot_count, vcpus_of, gfns_of, most_images, most_image_bytes}
+use Rattle.kc_types.specs.Limits.{page_size, leaf_entries, share_limit, range_limit}
 
 -- the refusal if the condition holds
 abbrev pub when : Bool → Refusal → Option Refusal
@@ -49,14 +49,14 @@ pages_of len = (len + (page_size - 1)) / page_size
 abbrev pub bad_vm : State → ℕ → Option Refusal
 bad_vm m v = when (nat_le (slot_count m.config) v) BadVm
 
-abbrev pub bad_vcpu : ℕ → Option Refusal
-bad_vcpu c = when (nat_le vcpu_limit c) BadVcpu
+abbrev pub bad_vcpu : State → ℕ → Option Refusal
+bad_vcpu m c = when (nat_le (vcpus_of m.config.version) c) BadVcpu
 
 abbrev pub bad_frame : State → ℕ → Option Refusal
 bad_frame m f = when (nat_le m.config.frames f) BadFrame
 
-abbrev pub bad_gfn : ℕ → Option Refusal
-bad_gfn g = when (nat_le gfn_limit g) BadGfn
+abbrev pub bad_gfn : State → ℕ → Option Refusal
+bad_gfn m g = when (nat_le (gfns_of m.config.version) g) BadGfn
 
 abbrev pub bad_range : ℕ → ℕ → Option Refusal
 bad_range off len = when (len == 0 || nat_lt page_size (off + len)) BadRange
@@ -111,11 +111,11 @@ pending m v c = backing (vcpu_at m v c).fault
 
 -- why a virtual processor's read or write is refused
 abbrev pub guest_access : State → ℕ → ℕ → ℕ → ℕ → ℕ → List (Option Refusal)
-guest_access m v c g off len = bad_vm m v ∷ bad_vcpu c ∷ bad_gfn g ∷ bad_range off len ∷ no_vm m v ∷ not_active m v ∷ no_vcpu m v c ∷ []
+guest_access m v c g off len = bad_vm m v ∷ bad_vcpu m c ∷ bad_gfn m g ∷ bad_range off len ∷ no_vm m v ∷ not_active m v ∷ no_vcpu m v c ∷ []
 
 -- why a virtual processor's call on a mapped guest frame is refused; `last` is the condition of its own
 abbrev pub guest_frame : State → ℕ → ℕ → ℕ → Option Refusal → List (Option Refusal)
-guest_frame m v c g last = bad_vm m v ∷ bad_vcpu c ∷ bad_gfn g ∷ no_vm m v ∷ not_active m v ∷ no_vcpu m v c ∷ not_mapped m v g ∷ last ∷ []
+guest_frame m v c g last = bad_vm m v ∷ bad_vcpu m c ∷ bad_gfn m g ∷ no_vm m v ∷ not_active m v ∷ no_vcpu m v c ∷ not_mapped m v g ∷ last ∷ []
 
 -- whether one of `n` numbers from `g` on passes the test
 abbrev pub any_from : ℕ → ℕ → (ℕ → Bool) → Bool
@@ -123,8 +123,8 @@ any_from g n test = list_any test (range_with_len g n)
 
 -- the same of a call on `n` mapped guest frames from `g` on
 abbrev pub guest_range : State → ℕ → ℕ → ℕ → ℕ → Option Refusal → List (Option Refusal)
-guest_range m v c g n last = bad_vm m v ∷ bad_vcpu c
-    ∷ when (nat_le gfn_limit g || nat_lt gfn_limit (g + n)) BadGfn
+guest_range m v c g n last = bad_vm m v ∷ bad_vcpu m c
+    ∷ when (nat_le (gfns_of m.config.version) g || nat_lt (gfns_of m.config.version) (g + n)) BadGfn
     ∷ when (n == 0 || nat_lt range_limit n) BadRange
     ∷ no_vm m v ∷ not_active m v ∷ no_vcpu m v c
     ∷ when (any_from g n (λ h. is_none (mapped_at m v h))) NotMapped
@@ -138,12 +138,12 @@ conditions m (HostFault f) = bad_frame m f ∷ when (not (is_host (frame_at m f)
 conditions m (HostRead f off len) = bad_frame m f ∷ bad_range off len ∷ not_present m f ∷ []
 conditions m (HostWrite f off bytes) = bad_frame m f ∷ bad_range off (length bytes) ∷ not_present m f ∷ []
 conditions m (RegisterVm v) = bad_vm m v ∷ when (not (is_empty (slot_at m v).phase)) SlotUsed ∷ []
-conditions m (RegisterVcpu v c) = bad_vm m v ∷ bad_vcpu c ∷ no_vm m v ∷ not_booting m v ∷ when (vcpu_at m v c).registered VcpuUsed ∷ []
+conditions m (RegisterVcpu v c) = bad_vm m v ∷ bad_vcpu m c ∷ no_vm m v ∷ not_booting m v ∷ when (vcpu_at m v c).registered VcpuUsed ∷ []
 conditions m (SetBoot v base len) = bad_vm m v
-    ∷ when (nat_le gfn_limit base || nat_lt gfn_limit (base + pages_of len)) BadGfn
-    ∷ when (len == 0 || nat_lt image_size_limit len) BadRange
+    ∷ when (nat_le (gfns_of m.config.version) base || nat_lt (gfns_of m.config.version) (base + pages_of len)) BadGfn
+    ∷ when (len == 0 || nat_lt (most_image_bytes m.config.version) len) BadRange
     ∷ no_vm m v ∷ not_booting m v
-    ∷ when (nat_le image_limit (length (slot_at m v).images)) ImagesFull
+    ∷ when (nat_le (most_images m.config.version) (length (slot_at m v).images)) ImagesFull
     ∷ when (list_any (overlaps base len) (slot_at m v).images) Overlap ∷ []
 conditions m (Remap v i f) = bad_vm m v ∷ bad_frame m f ∷ no_vm m v ∷ not_booting m v
     ∷ when (nat_le (length (slot_at m v).images) i) NoImage
@@ -151,7 +151,7 @@ conditions m (Remap v i f) = bad_vm m v ∷ bad_frame m f ∷ no_vm m v ∷ not_
     ∷ not_host m f ∷ tables_full m v (next_gfn m v i) ∷ []
 conditions m (Verify v) = bad_vm m v ∷ no_vm m v ∷ not_booting m v
     ∷ when (length (slot_at m v).images == 0 || list_any is_short (slot_at m v).images) ImageShort ∷ []
-conditions m (Map v c f) = bad_vm m v ∷ bad_vcpu c ∷ bad_frame m f ∷ no_vm m v ∷ not_active m v ∷ no_vcpu m v c
+conditions m (Map v c f) = bad_vm m v ∷ bad_vcpu m c ∷ bad_frame m f ∷ no_vm m v ∷ not_active m v ∷ no_vcpu m v c
     ∷ when (is_none (vcpu_at m v c).fault) NoFault
     ∷ when (is_some (mapped_at m v (pending m v c))) Mapped
     ∷ not_host m f ∷ tables_full m v (pending m v c) ∷ []

@@ -4,12 +4,12 @@ use Rattle.std.specs.Prelude.{ℕ, suc, ◌≡◌, Bool, true, false, cond, ◌&
 use Rattle.std.specs.List.{list_any}
 use Rattle.kc_types.specs.Slots.{slot_of}
 use Rattle.kc_types.specs.declared.call.Call.{Call}
-use Rattle.kc_types.specs.declared.call.Call.TheVariants.{Take, Give, HostFault, HostRead, HostWrite, RegisterVm, RegisterVcpu, SetBoot, Remap, Verify, Map, GuestRead, GuestWrite, Grant, Revoke, GrantRange, RevokeRange, Drop, Clear}
+use Rattle.kc_types.specs.declared.call.Call.TheVariants.{Take, Give, HostFault, HostRead, HostWrite, Remap, Map, Drop, Clear}
 use Rattle.kc_types.specs.Configuration.{Configuration, slot_count}
 use Rattle.kc_types.specs.declared.owner.Owner.{Owner}
 use Rattle.kc_types.specs.declared.owner.Owner.TheVariants.{Core, Host, Free, Vm}
 pub use Rattle.kc_types.specs.declared.resource.Resource.{Resource}
-use Rattle.kc_model.specs.State.{State, Frame, Slot, frame_at, slot_at, untouched, empty_slot}
+use Rattle.kc_model.specs.State.{State, Frame, Slot, frame_at, slot_at, untouched, no_slot}
 use Rattle.kc_types.specs.declared.resource.Resource.TheVariants as resource
 
 -- the two resources are the same
@@ -46,7 +46,7 @@ merged here m rest = record {
   config = m.config;
   frames = pick (λ f. here (resource.Frame f)) (untouched Core) m.frames rest.frames;
   free = cond (here resource.Free) m.free rest.free;
-  slots = pick (λ v. here (resource.Vm v)) empty_slot m.slots rest.slots;
+  slots = pick (λ v. here (resource.Vm v)) no_slot m.slots rest.slots;
 }
 
 -- what a resource has in a state

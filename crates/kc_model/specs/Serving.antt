@@ -1,10 +1,9 @@
 -- Whose calls are served, what a VM can always do, and that it takes back what it shared.
 use Rattle.std.specs.Prelude.{ℕ, ◌≡◌, ◌<◌, ◌+◌, true, List, Some}
-use Rattle.kc_types.specs.Limits.{share_limit}
 use Rattle.kc_types.specs.Actors.{actor}
 use Rattle.kc_types.specs.declared.call.Actor.TheVariants.{Vcpu}
 use Rattle.kc_types.specs.declared.call.Call.{Call}
-use Rattle.kc_types.specs.declared.call.Call.TheVariants.{Grant, Revoke, Drop}
+use Rattle.kc_types.specs.declared.call.Call.TheVariants.{Revoke, Drop}
 use Rattle.kc_types.specs.declared.reply.Reply.{Reply}
 use Rattle.kc_types.specs.declared.reply.Reply.TheVariants as reply
 use Rattle.kc_model.specs.State.{State, frame_at, vcpu_at, mapped_at}

@@ -3,7 +3,8 @@
 use Rattle.std.specs.Prelude.{ℕ, ◌+◌, false, List, [], ◌∷◌, ◌++◌, replicate, slice_index_or, slice_set, Option, None}
 use Rattle.std.specs.Ordering.{nat_cmp}
 use Rattle.std.specs.FinMap as map
-use Rattle.kc_types.specs.Limits.{vcpu_limit}
+use Rattle.kc_types.specs.Configuration.{vcpus_of}
+use Rattle.kc_types.specs.declared.version.Version.{Version}
 pub use Rattle.kc_types.specs.declared.slot.Vcpu.{Vcpu}
 pub use Rattle.kc_types.specs.declared.slot.Image.{Image}
 use Rattle.kc_types.specs.declared.slot.Phase.{Phase}
@@ -25,12 +26,17 @@ Slot = SlotOf (List ℕ)
 abbrev pub absent_vcpu : Vcpu
 absent_vcpu = record { registered = false; fault = None }
 
-unfoldable pub no_vcpus : List Vcpu
-no_vcpus = replicate vcpu_limit absent_vcpu
+-- what is read where there is no slot
+abbrev pub no_slot : Slot
+no_slot = record { phase = Empty; vcpus = []; images = []; frames = []; mapped = map.empty; leaves = [] }
+
+-- as many as a VM of the version has, none of them registered
+unfoldable pub no_vcpus : Version → List Vcpu
+no_vcpus version = replicate (vcpus_of version) absent_vcpu
 
 -- a slot as at boot
-abbrev pub empty_slot : Slot
-empty_slot = record { phase = Empty; vcpus = no_vcpus; images = []; frames = []; mapped = map.empty; leaves = [] }
+abbrev pub empty_slot : Version → Slot
+empty_slot version = record no_slot { vcpus = no_vcpus version }
 
 -- what the slot has under a number
 abbrev pub vcpu_of : {Frames : Type 0} → SlotOf Frames → ℕ → Vcpu

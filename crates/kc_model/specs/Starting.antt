@@ -22,7 +22,8 @@ pub record IsItsImages (m : State) (v : ℕ) : Type 0 where
   pub approved : list_all (is_approved m v) (slot_at m v).images ≡ true
   pub padded : All (IsPadded m v) (slot_at m v).images
 
--- if a call makes a slot active, the slot runs what was measured and approved, and nothing else
+-- measured boot (and verified boot, since nothing else starts): if a call makes a slot active, the slot runs what was
+-- measured and approved, and nothing else
 abbrev pub StartsMeasured : State → Call → Reply → State → Type 0
 StartsMeasured old call answer new = (v : ℕ) → (IsActive old v → ⊥) → IsActive new v → IsItsImages new v
 

@@ -5,7 +5,7 @@ use Rattle.kc_types.specs.Limits.{page_size}
 use Rattle.kc_types.specs.Configuration.{Configuration}
 use Rattle.kc_types.specs.declared.owner.Owner.{Owner}
 use Rattle.kc_types.specs.declared.owner.Owner.TheVariants.{Core}
-pub use Rattle.kc_model.specs.Slot.{SlotOf, Slot, Vcpu, Image, absent_vcpu, empty_slot, vcpu_of, image_of, with_vcpu}
+pub use Rattle.kc_model.specs.Slot.{SlotOf, Slot, Vcpu, Image, absent_vcpu, no_slot, empty_slot, vcpu_of, image_of, with_vcpu}
 unfoldable pub use Rattle.kc_model.specs.Slot.{no_vcpus}
 use Rattle.kc_model.specs.Bytes.{as_bytes}
 
@@ -36,7 +36,7 @@ abbrev pub frame_at : State → ℕ → Frame
 frame_at m f = slice_index_or m.frames f (untouched Core)
 
 abbrev pub slot_at : State → ℕ → Slot
-slot_at m v = slice_index_or m.slots v empty_slot
+slot_at m v = slice_index_or m.slots v no_slot
 
 abbrev pub vcpu_at : State → ℕ → ℕ → Vcpu
 vcpu_at m v c = vcpu_of (slot_at m v) c

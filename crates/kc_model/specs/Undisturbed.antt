@@ -122,8 +122,9 @@ pub record IsTreatedAlike (s : ℕ → Bool) (v : ℕ) (m n : State) (calls othe
   pub told : answers s v m calls ≡ answers s v n others
   pub states : HasTheSame s v (state_after m calls) (state_after n others)
 
--- for every VM and every choice of watched guest frames: two traces by which the same reaches it, from states in which
--- it has the same, answer it the same and leave it the same, whatever else the host and the other VMs do in them
+-- noninterference (integrity): for every VM and every choice of watched guest frames, two traces by which the same
+-- reaches it, from states in which it has the same, answer it the same and leave it the same, whatever else the host
+-- and the other VMs do in them
 abbrev pub TreatsAlike : State → List Call → Type 0
 TreatsAlike m calls = (s : ℕ → Bool) (v : ℕ) (n : State) (others : List Call) → IsLawful n → HasTheSame s v m n
     → inputs s v m calls ≡ inputs s v n others → IsMeasuredWhole s v calls → IsTreatedAlike s v m n calls others

@@ -6,7 +6,7 @@ ghost use Rattle.kc_page.specs.Page.{scrubbed_page};
 ghost use Rattle.kc_page.specs.PageBytes.{zeroed_from};
 
 use crate::page_memory::{PageMemory, ZEROS};
-use kc_types::{Data, FrameNo, Gfn, Memory, Owner, PAGE_SIZE, ReplyBuffer};
+use kc_types::{Data, MaybeFrame, MaybeGfn, Memory, OwnerCode, PAGE_SIZE, ReplyBuffer};
 use rayon::prelude::par_chunks_mut_for_each;
 use std::alloc::Global;
 use std::marker::Model;
@@ -136,21 +136,23 @@ impl PageBytes {
     }
 }
 
-/// What the core records of a frame besides its bytes.
+/// What the core records of a frame besides its bytes, in 16 bytes.
 #[derive(Clone, Copy, Debug, PartialEq, Eq)]
 pub struct PageRecord {
-    pub owner: Owner,
+    pub owner: OwnerCode,
     /// How often its VM has granted the host access, 0 to 100.
-    pub share: u32,
-    /// The guest frame at which its VM sees it.
-    pub gfn: Option<Gfn>,
+    pub share: u8,
     /// Whether the host's access is mapped.
     pub present: bool,
+    /// The guest frame at which its VM sees it.
+    pub gfn: MaybeGfn,
     /// The frame before it in the list of its owner.
-    pub prev: Option<FrameNo>,
+    pub prev: MaybeFrame,
     /// The frame after it in the list of its owner.
-    pub next: Option<FrameNo>,
+    pub next: MaybeFrame,
 }
+
+const _: () = prove!(size_of::<PageRecord>() == 16);
 
 /// A page: the record of a frame, and its bytes.
 #[derive(Drop)]

@@ -18,7 +18,7 @@ use Rattle.kc_model.specs.Links.{link_in, list_of}
 use Rattle.kc_model.specs.Linked.{frame_and_link, slot_and_ends, linked_slot, linked_part_of}
 use Rattle.kc_model.proofs.Lawful.AtBoot.{lawful-boot, slot_at-boot}
 use Rattle.kc_page.specs.declared.page.Page.{Page}
-use Rattle.kc_vms.specs.Vm.{VmSlot, empty_vm}
+use Rattle.kc_vms.specs.Vm.{capacity_of, VmSlot, empty_vm}
 use Rattle.kc_parts.specs.Parts.{Held, page_at, vm_at}
 use Rattle.kc_parts.specs.Cuts.HeldPart.{page_part, slot_part}
 use Rattle.kc_parts.specs.States.{state_of, IsLinked}
@@ -33,13 +33,13 @@ module _ (config : Configuration) where
   pages = map (boot_page config) (range_with_len 0 config.frames)
 
   abbrev vms : List (Option VmSlot)
-  vms = replicate (slot_count config) (Some (empty_vm config.leaves))
+  vms = replicate (slot_count config) (Some (empty_vm (capacity_of config)))
 
   many-pages : length pages ≡ config.frames
   many-pages = length-map-range_with_len (boot_page config) 0 config.frames
 
   many-vms : length vms ≡ slot_count config
-  many-vms = length-replicate (slot_count config) (Some (empty_vm config.leaves))
+  many-vms = length-replicate (slot_count config) (Some (empty_vm (capacity_of config)))
 
   abbrev pub booted : Held
   booted = parts_of pages vms (boot_ends config)
@@ -52,8 +52,8 @@ module _ (config : Configuration) where
   page-none : (f : ℕ) → config.frames ≤ f → page_at booted f ≡ None
   page-none f past = page-past booted (length pages) f refl refl (omega (arith, past, many-pages))
 
-  vm-boot : (v : ℕ) → v < slot_count config → vm_at booted v ≡ Some (empty_vm config.leaves)
-  vm-boot v low = whole-vm pages vms (boot_ends config) v ∙ get_or-replicate (slot_count config) v (Some (empty_vm config.leaves)) None low
+  vm-boot : (v : ℕ) → v < slot_count config → vm_at booted v ≡ Some (empty_vm (capacity_of config))
+  vm-boot v low = whole-vm pages vms (boot_ends config) v ∙ get_or-replicate (slot_count config) v (Some (empty_vm (capacity_of config))) None low
 
   vm-none : (v : ℕ) → slot_count config ≤ v → vm_at booted v ≡ None
   vm-none v past = whole-vm pages vms (boot_ends config) v ∙ get_or_past vms v None (omega (arith, past, many-vms))
@@ -82,14 +82,14 @@ module _ (config : Configuration) where
       parts (resource.Vm v) = elim (cases_lt v (slot_count config)) [
         | inl low ↦
             rw (lt-ltb v (slot_count config) low)
-            (ap (λ there. option_map seen_part (option_map slot_part there)) (vm-boot v low) ∙ ap (λ slot. Some (slot_and_ends (linked_slot slot))) (sym (slot_at-boot config v)))
+            (ap (λ there. option_map seen_part (option_map slot_part there)) (vm-boot v low) ∙ ap (λ slot. Some (slot_and_ends (linked_slot slot))) (sym (slot_at-boot config v low)))
         | inr past ↦ rw (le-ltb v (slot_count config) past) (ap (λ there. option_map seen_part (option_map slot_part there)) (vm-none v past))
       ]
       parts resource.Free = refl
 
-      capacities : (v : ℕ) (vm : VmSlot) → vm_at booted v ≡ Some vm → vm.capacity ≡ config.leaves
+      capacities : (v : ℕ) (vm : VmSlot) → vm_at booted v ≡ Some vm → vm.capacity ≡ capacity_of config
       capacities v vm at = elim (cases_lt v (slot_count config)) [
-        | inl low ↦ rw (same_Some vm (empty_vm config.leaves) (sym at ∙ vm-boot v low)) refl
+        | inl low ↦ rw (same_Some vm (empty_vm (capacity_of config)) (sym at ∙ vm-boot v low)) refl
         | inr past ↦ let no : Some vm ≡ None = sym at ∙ vm-none v past in cc
       ]
 
@@ -103,7 +103,7 @@ module _ (config : Configuration) where
   whole-boot = whole-parts pages vms (boot_ends config) config (sym many-pages) (sym many-vms) filled
     where
       filled : All (λ (vm : Option VmSlot). is_some vm ≡ true) vms
-      filled v d low = ap is_some (get_or-replicate (slot_count config) v (Some (empty_vm config.leaves)) d (omega (arith, low, many-vms)))
+      filled v d low = ap is_some (get_or-replicate (slot_count config) v (Some (empty_vm (capacity_of config))) d (omega (arith, low, many-vms)))
 
   -- the parts made one by one
   pub made : (parts : Held) (ps : List Page) (vs : List (Option VmSlot)) (free : Ends)

@@ -4,7 +4,7 @@ use Rattle.std.proofs.lemmas.Bool.{lt-ltb}
 use Rattle.kc_types.specs.Configuration.{slot_count}
 use Rattle.kc_types.specs.declared.owner.Owner.{Owner}
 use Rattle.kc_types.specs.declared.owner.Owner.TheVariants.{Core, Host, Free, Vm}
-use Rattle.kc_model.specs.State.{State, frame_at, untouched, empty_slot}
+use Rattle.kc_model.specs.State.{State, frame_at, untouched, no_slot}
 use Rattle.kc_model.specs.Lawful.{IsLawful}
 use Rattle.kc_model.specs.Resources.{Resource, is_in, pick}
 use Rattle.kc_model.specs.Local.{cut}
@@ -33,7 +33,7 @@ cut-whole m is = λ i. record {
   config = m.config;
   frames = pick-whole (λ f. nat_lt f m.config.frames) (untouched Core) m.frames (λ f low. lt-ltb f m.config.frames (rw is.frames at low)) i;
   free = m.free;
-  slots = pick-whole (λ v. nat_lt v (slot_count m.config)) empty_slot m.slots (λ v low. lt-ltb v (slot_count m.config) (rw is.slots at low)) i;
+  slots = pick-whole (λ v. nat_lt v (slot_count m.config)) no_slot m.slots (λ v low. lt-ltb v (slot_count m.config) (rw is.slots at low)) i;
 }
 
 module _ (m : State) (h : Held) (lawful : IsLawful m) (restricted : IsRestricted m (exists_in m.config) h) where

@@ -138,7 +138,7 @@ module _ (old : Held) (v : ℕ) (vm : VmSlot) (at : vm_at old v ≡ Some vm) whe
         ];
         state = λ config linked low. only.state config (loose-reset config linked).here
             ∙ ap (λ (m : State). record m { frames = scrubbed m.frames fs }) (state-vm config old v vm (empty_vm vm.capacity) at)
-            ∙ (λ i. record (state_of config old) { frames = scrubbed (state_of config old).frames (sym same i); slots = set (state_of config old).slots v (unlinked_slot (empty_vm vm.capacity).slot (listed-none (links_of old) i)) });
+            ∙ (λ i. record (state_of config old) { frames = scrubbed (state_of config old).frames (sym same i); slots = set (state_of config old).slots v (unlinked_slot (empty_vm (linked.vms v vm at i)).slot (listed-none (links_of old) i)) });
         linked = λ config linked. let loose = loose-reset config linked in record {
           frames = λ f here. linked.frames f (sym (only.here f) ∙ here);
           vms = λ w there is. loose.linked.vms w there (sym (ap (λ h. vm_at h w) only.rest) ∙ is);

@@ -12,9 +12,8 @@ use Rattle.std.proofs.lemmas.Bool.{cases_lt}
 use Rattle.kc_types.specs.declared.refusal.Refusal.TheVariants.{TablesFull}
 use Rattle.kc_model.specs.Refusals.{when, tables_full}
 use Rattle.kc_vms.specs.Stage2.{fits}
-use Rattle.kc_vms.specs.Vm.{VmSlot, slot_table}
-use Rattle.kc_model.specs.State.{State, Slot, frame_at, slot_at, untouched, absent_vcpu, empty_slot}
-use Rattle.kc_model.proofs.States.Slots.{at-no_vcpus}
+use Rattle.kc_vms.specs.Vm.{VmSlot, Capacity, capacity_of, slot_table}
+use Rattle.kc_model.specs.State.{State, Slot, frame_at, slot_at, untouched, absent_vcpu, no_slot}
 use Rattle.kc_page.specs.declared.page.Page.{Page}
 use Rattle.kc_page.specs.declared.page.PageRecord.{PageRecord}
 use Rattle.kc_parts.specs.Parts.{Held, page_at, vm_at, links_of}
@@ -42,16 +41,16 @@ record-linked config h f meta linked is = elim (cases_lt f config.frames) [
     by_page past None at is = is
     by_page past (Some page) at is = let low = linked.frames f (ap is_some at) in absurd (omega (arith, low, past))
 
--- an empty slot has no virtual processor and no mapped guest frame
-pub vcpu-none : (slot : Slot) (c : ℕ) → slot ≡ empty_slot → absent_vcpu ≡ get_or slot.vcpus c absent_vcpu
-vcpu-none slot c is = sym (ap (λ (there : Slot). get_or there.vcpus c absent_vcpu) is ∙ at-no_vcpus c)
+-- where there is no slot, there is no virtual processor and no mapped guest frame
+pub vcpu-none : (slot : Slot) (c : ℕ) → slot ≡ no_slot → absent_vcpu ≡ get_or slot.vcpus c absent_vcpu
+vcpu-none slot c is = sym (ap (λ (there : Slot). get_or there.vcpus c absent_vcpu) is)
 
-pub mapped-none : (slot : Slot) (g : ℕ) → slot ≡ empty_slot → None ≡ map.get slot.mapped g
+pub mapped-none : (slot : Slot) (g : ℕ) → slot ≡ no_slot → None ≡ map.get slot.mapped g
 mapped-none slot g is = sym (ap (λ (there : Slot). map.get there.mapped g) is ∙ map.get-empty nat_cmp g)
 
 -- a slot's table takes a guest frame if the state says so
-pub fits-seen : (m : State) (v g : ℕ) (vm : VmSlot) (frames : List ℕ) → slot_at m v ≡ unlinked_slot vm.slot frames → vm.capacity ≡ m.config.leaves → tables_full m v g ≡ when (not (fits (slot_table vm) g)) TablesFull
-fits-seen m v g vm frames is capacity = rw is (ap (λ full. when full TablesFull) (rw (← capacity) (turned (list_any (λ root. root == g / 512) vm.slot.leaves) vm.capacity (length vm.slot.leaves))))
+pub fits-seen : (m : State) (v g : ℕ) (vm : VmSlot) (frames : List ℕ) → slot_at m v ≡ unlinked_slot vm.slot frames → vm.capacity ≡ capacity_of m.config → tables_full m v g ≡ when (not (fits (slot_table vm) g)) TablesFull
+fits-seen m v g vm frames is capacity = rw is (ap (λ full. when full TablesFull) (rw (← ap (λ (made : Capacity). made.leaves) capacity) (turned (list_any (λ root. root == g / 512) vm.slot.leaves) vm.capacity.leaves (length vm.slot.leaves))))
   where
     past : (n k : ℕ) → nat_le n k ≡ not (nat_lt k n)
     past n k = elim (cases_lt k n) [

@@ -12,7 +12,7 @@ use Rattle.kc_types.specs.declared.link.Link.{Link}
 use Rattle.kc_types.specs.declared.owner.Owner.{Owner}
 use Rattle.kc_types.specs.declared.owner.Owner.TheVariants.{Core, Host, Free, Vm}
 use Rattle.kc_types.specs.declared.resource.Resource.TheVariants as resource
-use Rattle.kc_model.specs.State.{State, Frame, frame_at, slot_at, empty_slot, untouched}
+use Rattle.kc_model.specs.State.{State, Frame, frame_at, slot_at, no_slot, untouched}
 use Rattle.kc_model.specs.Lawful.{IsLawful, same_owner}
 use Rattle.kc_model.specs.Resources.{Resource, Resources, is_in, pick}
 use Rattle.kc_model.specs.Local.{cut}
@@ -43,7 +43,7 @@ link_shown _ = unlinked
 
 abbrev pub slot_shown : LinkedPart → LinkedSlot
 slot_shown (slot_and_ends slot) = slot
-slot_shown _ = linked_slot empty_slot
+slot_shown _ = linked_slot no_slot
 
 abbrev pub ends_shown : LinkedPart → Ends
 ends_shown (free_ends ends) = ends
@@ -63,14 +63,6 @@ pub record IsShown {A : Type 0} (part : A → LinkedPart) (there : Option A) (sh
   pub it : A
   pub is : there ≡ Some it
   pub same : part it ≡ shown
-
-pub shown-some : {A : Type 0} (part : A → LinkedPart) (there : Option A) (x : LinkedPart) → option_map part there ≡ Some x → IsShown part there x
-shown-some part None x e = cc
-shown-some part (Some a) x e = record { it = a; is = refl; same = same_Some (part a) x e }
-
-pub shown-none : {A : Type 0} (part : A → LinkedPart) (there : Option A) → option_map part there ≡ None → there ≡ None
-shown-none part None e = refl
-shown-none part (Some a) e = cc
 
 module _ (m : State) (here : Resources) (h : Held) (is : IsLawful m) (closed : IsClosed m here) (cut_is : IsRestricted m here h) where
   by-here : (r : Resource) (b : Bool) → here r ≡ b → seen_at h r ≡ cond b (Some (linked_part_of m r)) None
@@ -234,10 +226,10 @@ module _ (m : State) (here : Resources) (h : Held) (is : IsLawful m) (closed : I
       by_test true e = let page = page-shown f e in ap frame_in page.is ∙ ap frame_shown page.same
       by_test false e = ap frame_in (page-none f e)
 
-  slot-cut : (v : ℕ) → slot_in (links_of h) (vm_at h v) ≡ cond (here (resource.Vm v)) (slot_at m v) empty_slot
+  slot-cut : (v : ℕ) → slot_in (links_of h) (vm_at h v) ≡ cond (here (resource.Vm v)) (slot_at m v) no_slot
   slot-cut v = by_test (here (resource.Vm v)) refl
     where
-      by_test : (b : Bool) → here (resource.Vm v) ≡ b → slot_in (links_of h) (vm_at h v) ≡ cond b (slot_at m v) empty_slot
+      by_test : (b : Bool) → here (resource.Vm v) ≡ b → slot_in (links_of h) (vm_at h v) ≡ cond b (slot_at m v) no_slot
       by_test true e =
           let vm = vm-shown v e in
           let same : vm.it.slot ≡ linked_slot (slot_at m v) = ap slot_shown vm.same in
@@ -259,5 +251,5 @@ module _ (m : State) (here : Resources) (h : Held) (is : IsLawful m) (closed : I
     config = m.config;
     frames = picked (λ f. here (resource.Frame f)) (untouched Core) m.frames (λ f. frame_in (page_at h f)) 0 m.config.frames (sym is.frames) (λ f low. let same : 0 + f ≡ f = omega arith in ap (λ g. frame_in (page_at h g)) same ∙ frame-cut f) i;
     free = free-cut i;
-    slots = picked (λ v. here (resource.Vm v)) empty_slot m.slots (λ v. slot_in (links_of h) (vm_at h v)) 0 (slot_count m.config) (sym is.slots) (λ v low. let same : 0 + v ≡ v = omega arith in ap (λ w. slot_in (links_of h) (vm_at h w)) same ∙ slot-cut v) i;
+    slots = picked (λ v. here (resource.Vm v)) no_slot m.slots (λ v. slot_in (links_of h) (vm_at h v)) 0 (slot_count m.config) (sym is.slots) (λ v low. let same : 0 + v ≡ v = omega arith in ap (λ w. slot_in (links_of h) (vm_at h w)) same ∙ slot-cut v) i;
   }

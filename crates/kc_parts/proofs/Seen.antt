@@ -9,7 +9,7 @@ use Rattle.kc_types.specs.declared.link.Ends.{Ends}
 use Rattle.kc_types.specs.declared.owner.Owner.{Owner}
 use Rattle.kc_types.specs.declared.owner.Owner.TheVariants.{Core, Host, Free, Vm}
 use Rattle.kc_model.specs.Lawful.{times_in}
-use Rattle.kc_model.specs.State.{frame_at, slot_at, with_frame, untouched, empty_slot}
+use Rattle.kc_model.specs.State.{frame_at, slot_at, with_frame, untouched, no_slot}
 use Rattle.kc_page.specs.declared.page.Page.{Page}
 use Rattle.kc_page.specs.Page.{frame_of}
 use Rattle.kc_links.specs.Chain.{unlinked}
@@ -46,7 +46,7 @@ frame-seen config h f low = get_or-map-range_with_len (λ g. frame_in (page_at h
 
 -- the slot of a number
 pub slot-seen : (config : Configuration) (h : Held) (v : ℕ) → v < slot_count config → slot_at (state_of config h) v ≡ slot_in (links_of h) (vm_at h v)
-slot-seen config h v low = get_or-map-range_with_len (λ w. slot_in (links_of h) (vm_at h w)) 0 (slot_count config) v v empty_slot low (omega arith)
+slot-seen config h v low = get_or-map-range_with_len (λ w. slot_in (links_of h) (vm_at h w)) 0 (slot_count config) v v no_slot low (omega arith)
 
 -- a page that is here, and keeps its links, is the frame of its number
 pub state-page : (config : Configuration) (h : Held) (f : ℕ) (old new : Page) → page_at h f ≡ Some old → link_of new ≡ link_of old → state_of config (with_page h f new) ≡ with_frame (state_of config h) f (frame_of new)

@@ -8,7 +8,7 @@ use Rattle.kc_types.specs.declared.owner.Owner.TheVariants.{Core, Host, Free, Vm
 use Rattle.kc_types.specs.declared.resource.Resource.{Resource}
 use Rattle.kc_types.specs.declared.resource.Resource.TheVariants as resource
 use Rattle.kc_model.specs.State.{with_slot}
-use Rattle.kc_vms.specs.Vm.{VmSlot}
+use Rattle.kc_vms.specs.Vm.{VmSlot, Capacity}
 use Rattle.kc_links.specs.Ending.{listed}
 use Rattle.kc_parts.specs.Parts.{Held, vm_at, links_of, ends_at, with_vm}
 use Rattle.kc_parts.specs.States.{slot_in, unlinked_slot, state_of, here_of, owner_at, IsLinked}
@@ -69,6 +69,6 @@ linked-vm config h v old new linked is same capacity = record {
   lists = lists-same (links_of h) (links_of h) (ends_at h) (ends_at (with_vm h v new)) (owner_at h) (owner_at h) refl (ends-vm h v old new is same) (λ g. refl) linked.lists;
 }
   where
-    capacity-in : Option VmSlot → ℕ
+    capacity-in : Option VmSlot → Capacity
     capacity-in (Some vm) = vm.capacity
-    capacity-in None = 0
+    capacity-in None = new.capacity

@@ -11,7 +11,7 @@ use Rattle.kc_types.specs.declared.resource.Resource.{Resource}
 use Rattle.kc_types.specs.declared.resource.Resource.TheVariants as resource
 use Rattle.kc_model.specs.Lawful.{times_in}
 use Rattle.kc_model.specs.State.{Frame}
-use Rattle.kc_vms.specs.Vm.{VmSlot}
+use Rattle.kc_vms.specs.Vm.{VmSlot, Capacity, capacity_of}
 use Rattle.kc_model.specs.Effects.{without}
 use Rattle.kc_links.proofs.Others.{without-same, without-other}
 use Rattle.kc_links.specs.Chain.{unlinked}
@@ -65,15 +65,15 @@ module _ (old mid : Held) (v : ℕ) (vm : VmSlot) (e' : Ends) (frames : List ℕ
   owners-same : (f : ℕ) → owner_at moved f ≡ owner_at old f
   owners-same f = ap (λ (frame : Frame). frame.owner) (frames-stay old mid (Vm v) frames rest are keeps owned f)
 
-  capacity-same : (w : ℕ) (there : VmSlot) → vm_at moved w ≡ Some there → (n : ℕ) → ((u : ℕ) (was : VmSlot) → vm_at old u ≡ Some was → was.capacity ≡ n) → there.capacity ≡ n
+  capacity-same : (w : ℕ) (there : VmSlot) → vm_at moved w ≡ Some there → (n : Capacity) → ((u : ℕ) (was : VmSlot) → vm_at old u ≡ Some was → was.capacity ≡ n) → there.capacity ≡ n
   capacity-same w there is n capacities = elim (cases_eq w v) [
     | inl same ↦ sym (ap capacity-in (sym at-moved ∙ ap (vm_at moved) (sym same) ∙ is)) ∙ capacities v vm at
     | inr other ↦ capacities w there (sym (vms-others w other) ∙ is)
   ]
     where
-      capacity-in : Option VmSlot → ℕ
+      capacity-in : Option VmSlot → Capacity
       capacity-in (Some vm) = vm.capacity
-      capacity-in None = 0
+      capacity-in None = vm.capacity
 
   pub slot-moved : IsList (links_of mid) e' → ((f : ℕ) → 0 < times_in (listed (links_of mid) e') f → 0 < times_in frames f) → IsSlotMove v old moved
   slot-moved list within = record {
@@ -92,7 +92,7 @@ module _ (old mid : Held) (v : ℕ) (vm : VmSlot) (e' : Ends) (frames : List ℕ
     };
     linked = λ config linked. record {
       frames = λ f here. linked.frames f (sym (here-all (resource.Frame f)) ∙ here);
-      vms = λ w there is. capacity-same w there is config.leaves linked.vms;
+      vms = λ w there is. capacity-same w there is (capacity_of config) linked.vms;
       lists = lists-same (links_of mid) (links_of mid) (ends_at moved) (ends_at moved) (owner_at old) (owner_at moved) refl (λ p. refl) owners-same
           (lists-moved (links_of old) (links_of mid) (ends_at old) (ends_at moved) (owner_at old) (Vm v) frames are keeps owned e' (ap (option_map (λ (vm : VmSlot). vm.slot.frames)) at-moved) ends-others (λ is. cc) list within);
     };

@@ -39,5 +39,5 @@ pub record IsEmptied (v : ℕ) (old new : Held) : Type 0 where
   pub owners : (config : Configuration) → IsLinked config old → (f : ℕ) → 0 < times_in (listed_frames old v) f → owner_at new f ≡ Free
   pub away : (config : Configuration) → IsLinked config old → (f : ℕ) → is_away old f ≡ true → owner_at new f ≡ owner_at old f
   pub state : (config : Configuration) → IsLinked config old → v < slot_count config
-      → state_of config new ≡ record (state_of config old) { frames = scrubbed (state_of config old).frames (listed_frames old v); slots = slice_set (state_of config old).slots v empty_slot }
+      → state_of config new ≡ record (state_of config old) { frames = scrubbed (state_of config old).frames (listed_frames old v); slots = slice_set (state_of config old).slots v (empty_slot config.version) }
   pub linked : (config : Configuration) → IsLinked config old → IsLinked config new

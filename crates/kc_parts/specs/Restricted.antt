@@ -11,7 +11,7 @@ use Rattle.kc_model.specs.Resources.{Resource, Resources, IsWithin, is_in}
 use Rattle.kc_model.specs.Links.{list_of}
 use Rattle.kc_model.specs.Linked.{LinkedPart, frame_and_link, slot_and_ends, free_ends, linked_part_of}
 use Rattle.kc_page.specs.Page.{frame_of}
-use Rattle.kc_vms.specs.Vm.{VmSlot}
+use Rattle.kc_vms.specs.Vm.{VmSlot, capacity_of}
 use Rattle.kc_links.specs.Chain.{unlinked}
 use Rattle.kc_parts.specs.Parts.{Held, vm_at, link_of}
 use Rattle.kc_parts.specs.Cuts.{HeldPart, held_at}
@@ -40,7 +40,7 @@ exists_in config resource.Free = true
 -- the parts are those of the state at the resources, and nothing else
 pub record IsRestricted (m : State) (here : Resources) (h : Held) : Type 0 where
   pub parts : (r : Resource) → seen_at h r ≡ cond (here r) (Some (linked_part_of m r)) None
-  pub capacities : (v : ℕ) (vm : VmSlot) → vm_at h v ≡ Some vm → vm.capacity ≡ m.config.leaves
+  pub capacities : (v : ℕ) (vm : VmSlot) → vm_at h v ≡ Some vm → vm.capacity ≡ capacity_of m.config
 
 -- the ends of the owner's list are among the resources
 abbrev pub has_ends : Resources → Owner → Bool

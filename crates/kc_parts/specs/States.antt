@@ -6,13 +6,13 @@ use Rattle.kc_types.specs.declared.link.Ends.{Ends}
 use Rattle.kc_types.specs.declared.owner.Owner.{Owner}
 use Rattle.kc_types.specs.declared.owner.Owner.TheVariants.{Core, Host, Free, Vm}
 use Rattle.kc_types.specs.declared.resource.Resource.TheVariants as resource
-use Rattle.kc_model.specs.State.{State, Frame, Slot, untouched, empty_slot, with_slot}
+use Rattle.kc_model.specs.State.{State, Frame, Slot, untouched, no_slot, with_slot}
 use Rattle.kc_model.specs.Resources.{Resource, Resources}
 use Rattle.kc_model.specs.Lawful.{times_in}
 use Rattle.kc_model.specs.Linked.{LinkedSlot}
 use Rattle.kc_page.specs.declared.page.Page.{Page}
 use Rattle.kc_page.specs.Page.{frame_of}
-use Rattle.kc_vms.specs.Vm.{VmSlot}
+use Rattle.kc_vms.specs.Vm.{VmSlot, capacity_of}
 use Rattle.kc_links.specs.Chain.{Links, unlinked}
 use Rattle.kc_links.specs.Ending.{listed, IsList}
 use Rattle.kc_parts.specs.Parts.{Held, page_at, vm_at, links_of, ends_at}
@@ -32,7 +32,7 @@ unlinked_slot slot frames = record { phase = slot.phase; vcpus = slot.vcpus; ima
 
 abbrev pub slot_in : Links → Option VmSlot → Slot
 slot_in links (Some vm) = unlinked_slot vm.slot (listed links vm.slot.frames)
-slot_in links None = empty_slot
+slot_in links None = no_slot
 
 abbrev pub state_of : Configuration → Held → State
 state_of config h = record {
@@ -74,7 +74,7 @@ pub record AreLists (links : Links) (ends_at : Owner → Option Ends) (owner_at 
 -- the parts fit the configuration, and their links and ends are those of lists
 pub record IsLinked (config : Configuration) (h : Held) : Type 0 where
   pub frames : (f : ℕ) → is_some (page_at h f) ≡ true → f < config.frames
-  pub vms : (v : ℕ) (vm : VmSlot) → vm_at h v ≡ Some vm → vm.capacity ≡ config.leaves
+  pub vms : (v : ℕ) (vm : VmSlot) → vm_at h v ≡ Some vm → vm.capacity ≡ capacity_of config
   pub lists : AreLists (links_of h) (ends_at h) (owner_at h)
 
 -- the free list, if its ends are here

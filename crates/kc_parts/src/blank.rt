@@ -3,7 +3,7 @@ ghost use Rattle.std.specs.Prelude.{◌≡◌, IfOk};
 ghost use Rattle.kc_parts.specs.Parts.{blank_page};
 
 use kc_page::{Page, PageBytes, PageRecord};
-use kc_types::{Memory, Owner};
+use kc_types::{MaybeFrame, MaybeGfn, Memory, Owner, OwnerCode};
 use std::alloc::Global;
 use std::marker::Model;
 
@@ -32,12 +32,12 @@ impl Blank {
         ensures { IfOk result (λ blank. blank ≡ blank_page) }
     {
         let meta = PageRecord {
-            owner: Owner::Core,
+            owner: OwnerCode::of(Owner::Core),
             share: 0,
-            gfn: None,
             present: false,
-            prev: None,
-            next: None,
+            gfn: MaybeGfn::of(None),
+            prev: MaybeFrame::of(None),
+            next: MaybeFrame::of(None),
         };
         let bytes = PageBytes::zeroed(alloc)?;
         Ok(Blank {

@@ -3,11 +3,11 @@ ghost use Rattle.std.specs.Prelude.{◌≡◌, ◌<◌, ◌≤◌, length, map, 
 ghost use Rattle.std.specs.List.{range_with_len};
 ghost use Rattle.kc_types.specs.Configuration.{IsConfiguration, slot_count};
 ghost use Rattle.kc_types.specs.Limits.{slot_limit};
-ghost use Rattle.kc_vms.specs.Vm.{empty_vm};
+ghost use Rattle.kc_vms.specs.Vm.{capacity_of, empty_vm};
 ghost use Rattle.kc_parts.specs.Booting.{boot_link, boot_page, boot_ends};
 
 use kc_page::{Page, PageBytes, PageRecord};
-use kc_types::{Config, Ends, FrameNo, Link, Memory};
+use kc_types::{Config, Ends, FrameNo, Link, MaybeFrame, MaybeGfn, Memory, OwnerCode};
 use kc_vms::Vm;
 use std::alloc::Global;
 
@@ -37,12 +37,12 @@ fn boot_page(alloc: Global, config: &Config, frame: u32) -> Result<Page, Memory>
 {
     let link = boot_link(config, frame);
     let meta = PageRecord {
-        owner: config.owner_at_boot(frame),
+        owner: OwnerCode::of(config.owner_at_boot(frame)),
         share: 0,
-        gfn: None,
         present: false,
-        prev: link.prev,
-        next: link.next,
+        gfn: MaybeGfn::of(None),
+        prev: MaybeFrame::of(link.prev),
+        next: MaybeFrame::of(link.next),
     };
     let bytes = PageBytes::zeroed(alloc)?;
     Ok(Page { meta, bytes })
@@ -79,12 +79,12 @@ pub fn all_filled(alloc: Global, count: u32) -> Result<Vec<bool>, Memory>
 
 /// Makes all slots, empty.
 pub fn boot_vms(alloc: Global, config: &Config) -> Result<Vec<Option<Vm>>, Memory>
-    ensures vms { IfOk result (λ vms. vms.items ≡ replicate (slot_count config.now) (Some (empty_vm config.now.leaves))) }
+    ensures vms { IfOk result (λ vms. vms.items ≡ replicate (slot_count config.now) (Some (empty_vm (capacity_of config.now)))) }
     ensures few { IfOk result (λ vms. length vms.items ≤ slot_limit) }
 {
     let mut vms = Vec::with_capacity(alloc, config.slots() as usize)?;
     for _ in 0..config.slots() {
-        vms.push(Some(Vm::try_new(alloc, config.leaves() as u8)?))?;
+        vms.push(Some(Vm::try_new(alloc, config.version(), config.leaves())?))?;
     }
     Ok(vms)
 }

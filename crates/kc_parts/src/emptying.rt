@@ -7,7 +7,7 @@ ghost use Rattle.kc_parts.specs.Emptying.{with_scrubbed, all_scrubbed, IsEmptied
 
 use crate::Parts;
 use kc_links::LinkStore;
-use kc_types::{Ends, FrameNo, Owner, VmId};
+use kc_types::{Ends, FrameNo, MaybeGfn, Owner, OwnerCode, VmId};
 
 impl Parts {
     /// The frame after one in its list.
@@ -22,9 +22,9 @@ impl Parts {
         ensures { self.new ≡ with_scrubbed self.old frame }
     {
         if let Some(page) = self.try_page_mut(frame) {
-            page.meta.owner = Owner::Free;
+            page.meta.owner = OwnerCode::of(Owner::Free);
             page.meta.share = 0;
-            page.meta.gfn = None;
+            page.meta.gfn = MaybeGfn::of(None);
             page.meta.present = false;
             page.bytes.scrub();
         }

@@ -1,7 +1,7 @@
 //! The links of the frames that are here, kept in their records.
 use crate::Parts;
 use kc_links::LinkStore;
-use kc_types::{FrameNo, Link};
+use kc_types::{FrameNo, Link, MaybeFrame};
 
 impl LinkStore for Parts {
     ghost use Rattle.kc_parts.specs.Parts.{links_of};
@@ -14,8 +14,8 @@ impl LinkStore for Parts {
     fn link(&self, frame: FrameNo) -> Option<Link> {
         match self.try_page(frame) {
             Some(page) => Some(Link {
-                prev: page.meta.prev,
-                next: page.meta.next,
+                prev: page.meta.prev.get(),
+                next: page.meta.next.get(),
             }),
             None => None,
         }
@@ -23,8 +23,8 @@ impl LinkStore for Parts {
 
     fn set_link(&mut self, frame: FrameNo, link: Link) {
         if let Some(page) = self.try_page_mut(frame) {
-            page.meta.prev = link.prev;
-            page.meta.next = link.next;
+            page.meta.prev = MaybeFrame::of(link.prev);
+            page.meta.next = MaybeFrame::of(link.next);
         }
     }
 

@@ -1,7 +1,8 @@
 //! Looking up by number: what is not here counts as untouched.
-ghost use Rattle.std.specs.Prelude.{◌≡◌, ◌<◌, not, IfOk, Some};
+ghost use Rattle.std.specs.Prelude.{◌≡◌, ◌<◌, not, false, IfOk, IfSome, Some, None};
+ghost use Rattle.kc_types.specs.declared.owner.Owner.TheVariants.{Core};
 ghost use Rattle.std.specs.Option.{option_copied};
-ghost use Rattle.kc_types.specs.Configuration.{slot_count};
+ghost use Rattle.kc_types.specs.Configuration.{gfns_of, slot_count};
 ghost use Rattle.kc_types.specs.Refusals.{Answers};
 ghost use Rattle.kc_model.specs.State.{slot_at, vcpu_at, mapped_at};
 ghost use Rattle.kc_types.specs.declared.refusal.Refusal.TheVariants.{TablesFull};
@@ -15,18 +16,24 @@ ghost use Rattle.kc_parts.specs.LookUps.{IsMetaOf};
 
 use crate::Parts;
 use kc_page::PageRecord;
-use kc_types::{Config, FrameNo, Gfn, Owner, Phase, Refusal, VcpuId, VmId};
+use kc_types::{
+    Config, FrameNo, Gfn, MaybeFrame, MaybeGfn, Owner, OwnerCode, Phase, Refusal, VcpuId, VmId,
+};
 use kc_vms::Vm;
 
 /// The record of an untouched frame of the core's.
-const UNTOUCHED: PageRecord = PageRecord {
-    owner: Owner::Core,
-    share: 0,
-    gfn: None,
-    present: false,
-    prev: None,
-    next: None,
-};
+fn untouched() -> PageRecord
+    ensures { result ≡ record { owner = Core; share = 0; present = false; gfn = None; prev = None; next = None } }
+{
+    PageRecord {
+        owner: OwnerCode::of(Owner::Core),
+        share: 0,
+        present: false,
+        gfn: MaybeGfn::of(None),
+        prev: MaybeFrame::of(None),
+        next: MaybeFrame::of(None),
+    }
+}
 
 impl Parts {
     /// The record of a frame.
@@ -35,7 +42,7 @@ impl Parts {
     {
         match self.try_page(frame) {
             Some(page) => page.meta,
-            None => UNTOUCHED,
+            None => untouched(),
         }
     }
 
@@ -72,8 +79,10 @@ impl Parts {
 
     /// The guest frame that a virtual processor of a slot waits for.
     pub fn pending_of(&self, config: &Config, vm: VmId, vcpu: VcpuId) -> Option<Gfn>
-        requires { vm < slot_count config.now }
-        ensures { result ≡ (vcpu_at (state_of config.now self.now) vm vcpu).fault }
+        requires low { vm < slot_count config.now }
+        requires linked { IsLinked config.now self.now }
+        ensures value { result ≡ (vcpu_at (state_of config.now self.now) vm vcpu).fault }
+        ensures within { IfSome result (λ gfn. gfn < gfns_of config.now.version) }
     {
         match self.slot_of(config, vm) {
             Some(slot) => match slot.vcpu(vcpu).fault {
@@ -86,9 +95,11 @@ impl Parts {
 
     /// The guest frame of the next page of a slot's image, or why there is none.
     pub fn next_page_of(&self, config: &Config, vm: VmId, image: u32) -> Result<Gfn, Refusal>
-        requires { vm < slot_count config.now }
+        requires low { vm < slot_count config.now }
+        requires linked { IsLinked config.now self.now }
         ensures answer { Answers result (next_page_refusal (linked_slot (slot_at (state_of config.now self.now) vm)) image) }
         ensures gfn { IfOk result (λ gfn. gfn ≡ next_gfn (state_of config.now self.now) vm image) }
+        ensures within { IfOk result (λ gfn. gfn < gfns_of config.now.version) }
     {
         match self.slot_of(config, vm) {
             Some(slot) => slot.next_page(image),

@@ -1,5 +1,5 @@
 //! What is said of the calls that a trace's machine refused or rejected.
-use kc_cli::{Answered, Denials, refusals};
+use kc_remarks::{Answered, Denials, refusals};
 use std::fmt;
 
 /// How many calls were denied for each reason, in the order of the reasons' numbers, after a colon; nothing if none was.

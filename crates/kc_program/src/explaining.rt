@@ -1,14 +1,15 @@
 //! What is said of a fault after its line.
 use crate::asked::Kind;
 use crate::folder::{Folder, Named, Opened};
-use kc_cli::{Source, Std, TextFault};
 use kc_config_text::ConfigTextFault;
 use kc_dump_text::DumpFault;
 use kc_explain::{
     Header, LineFault, LineFinder, Masked, Noted, TextLine, TraceLine, explain_config,
     fault_of_line, fault_of_text_line, look_of,
 };
+use kc_faults::TextFault;
 use kc_state_text::StateFault;
+use kc_texts::{Source, Std};
 use kc_trace::{HeaderFault, TraceFault};
 use kc_types::{Actor, BYTE_LIMIT, ConfigFault};
 use std::fs::{File, OpenFile};

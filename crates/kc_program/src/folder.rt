@@ -3,9 +3,9 @@ ghost use Rattle.std.specs.Prelude.{◌≡◌, false, None, option_map, string_b
 ghost use Rattle.kc_program.specs.Opened.{has_failed};
 
 use crate::asked::{Asked, Kind};
-use kc_cli::{Ahead, Failed, Headed, ReadFault, Source, Std};
 use kc_explain::{Awaited, Masked, Noted, Progress, Shown};
 use kc_run::{Files, Unopened};
+use kc_texts::{Ahead, Failed, Headed, ReadFault, Source, Std};
 use kc_trace::Head;
 use std::alloc::Global;
 use std::fmt;

@@ -13,5 +13,4 @@ mod explaining;
 mod folder;
 mod running;
 
-pub use kc_cli::Lanes;
 pub use running::run;

@@ -1,8 +1,7 @@
 -- The redacted calls of a trace make a trace under the same header.
-use Rattle.std.proofs.Common.{ℕ, zero, suc, ◌≡◌, ◌+◌, ◌-◌, ◌*◌, Bool, true, false, List, [], ◌∷◌, ◌++◌, take, length, replicate, refl, sym, ap, ◌∙◌, arith, append_assoc, append-nil}
+use Rattle.std.proofs.Common.{ℕ, zero, suc, ◌≡◌, ◌+◌, ◌-◌, ◌*◌, Bool, true, false, List, [], ◌∷◌, ◌++◌, take, length, replicate, refl, ap, ◌∙◌, arith}
 use Rattle.std.proofs.lemmas.List.{length-replicate, length-map, take_all}
 use Rattle.std.specs.Prelude.{if◌then◌else◌}
-use Rattle.std.specs.List.{flat_map}
 use Rattle.hex.specs.Hex.{encode_lower, encode_with}
 use Rattle.kc_types.specs.Bytes.{IsData}
 use Rattle.kc_trace.specs.declared.header.Header.{Header}
@@ -18,9 +17,9 @@ use Rattle.kc_model.proofs.Redaction.Traces.{bytes_decide_nothing}
 use Rattle.kc_model.proofs.Redaction.Blank.{told_alike, keeps-all, wholly-differ}
 use Rattle.kc_remarks.proofs.Unread.{unread, notes_redacted}
 use Rattle.kc_trace.specs.Header.{IsHeader, host_redacted}
-use Rattle.kc_trace.specs.Spelling.{lines_of, text_of, is_allowed_in}
+use Rattle.kc_trace.specs.Spelling.{text_of, is_allowed_in}
 use Rattle.kc_trace.specs.Trace.{IsCallOf, AreCalls, IsTrace}
-use Rattle.kc_redact.specs.Redacted.{blanked, redacted_call, redacted_line, redacted, redacted_in, redacted_from, all_frames, DifferInBytes, IsRedaction, IsHostRedaction}
+use Rattle.kc_redact.specs.Redacted.{blanked, redacted_call, redacted, redacted_in, redacted_from, all_frames, DifferInBytes, IsRedaction, IsHostRedaction}
 
 -- ---- zeros as digits
 
@@ -145,13 +144,3 @@ is_host_redaction m text other calls is read written = record {
   custody = λ n lawful differ. (told-from m n calls is lawful differ).custody;
   notes = λ n lawful differ. unread m calls is all_frames n (redacted_from m calls) lawful differ (wholly-differ m calls) (keeps-all calls);
 }
-
--- ---- line by line
-
-pub lines-redacted : (calls : List Call) → flat_map redacted_line calls ≡ lines_of (redacted calls)
-lines-redacted [] = refl
-lines-redacted (call ∷ calls) = ap (λ rest. redacted_line call ++ rest) (lines-redacted calls)
-
-pub lines-then : (calls : List Call) (call : Call) → lines_of (redacted (calls ++ call ∷ [])) ≡ lines_of (redacted calls) ++ redacted_line call
-lines-then [] call = append-nil (redacted_line call)
-lines-then (first ∷ calls) call = ap (λ rest. redacted_line first ++ rest) (lines-then calls call) ∙ sym (append_assoc (redacted_line first) (lines_of (redacted calls)) (redacted_line call))

@@ -15,7 +15,8 @@ witness_header One = Two
 witness_header Two = Two
 witness_header (Three head) = Three head
 
--- the redacted trace of these calls after this header
+-- an append-only log: the redacted trace of these calls after this header. It is tamper-evident once its digest is
+-- published, unless SHA-256 has a collision
 abbrev pub witnessed : Header → List Call → List ℕ
 witnessed header calls = text_of (witness_header header) (redacted calls)
 

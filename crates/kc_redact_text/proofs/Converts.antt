@@ -1,5 +1,5 @@
 -- A trace that has no head is given one.
-use Rattle.std.proofs.Common.{ℕ, zero, suc, ◌≡◌, ◌≢◌, ◌<◌, ◌+◌, ◌^◌, Bool, true, false, All, List, [], ◌∷◌, ◌++◌, length, take, drop, get_or, Option, Some, None, Result, Ok, Err, inl, inr, refl, sym, ap, subst, ◌∙◌, append_assoc, arith}
+use Rattle.std.proofs.Common.{ℕ, zero, suc, ◌≡◌, ◌≢◌, ◌<◌, ◌+◌, ◌^◌, Bool, true, false, All, List, [], ◌∷◌, ◌++◌, length, take, get_or, Option, Some, None, Result, Err, inl, inr, refl, sym, ap, subst, ◌∙◌, append_assoc, arith}
 use Rattle.std.specs.Prelude.{IfOk, IfErr, IfSome, nat_lt, if◌then◌else◌}
 use Rattle.std.specs.List.{AllByRecursion}
 use Rattle.std.specs.Io.KnownBytes.{Appends, Consumes, IsAtEnd}
@@ -24,14 +24,13 @@ use Rattle.kc_trace.specs.declared.header.Header.TheVariants.{One, Two, Three}
 use Rattle.kc_trace.specs.declared.header.Position.{Position}
 use Rattle.kc_trace.specs.declared.header.Position.TheVariants.{First, Later}
 use Rattle.kc_trace.specs.declared.expected.HeaderFault.{HeaderFault}
-use Rattle.kc_trace.specs.declared.expected.HeaderFault.TheVariants.{Unexpected}
 use Rattle.kc_trace.specs.declared.fault.TraceFault.{TraceFault}
 use Rattle.kc_trace.specs.declared.fault.TraceFault.TheVariants.{NoHeader, BadLine, NoNewline, TooManyCalls, Misplaced, Memory}
-use Rattle.kc_trace.specs.Header.{IsHead, IsHeader, IsPosition, has_head, trace_header}
+use Rattle.kc_trace.specs.Header.{IsHead, IsPosition, trace_header}
 use Rattle.kc_trace.specs.declared.expected.Expected.TheVariants.{After, AfterNumber}
 use Rattle.kc_trace.specs.Expected.{MayHave, number_of, position_after}
 use Rattle.kc_trace.specs.Spelling.{line_of, lines_of, text_of}
-use Rattle.kc_trace.specs.Trace.{AreCalls, IsTrace, IsTraceUnder, IsRefused}
+use Rattle.kc_trace.specs.Trace.{AreCalls, IsTraceUnder, IsRefused}
 use Rattle.kc_texts.specs.Ends.{Seen, ReadFailed, HasFailedRead, HasFailed}
 use Rattle.kc_texts.specs.Written.{Writes, Begins}
 use Rattle.kc_faults.specs.declared.fault.TextFault.{TextFault}
@@ -179,28 +178,10 @@ digit_is (Three head) rest = refl
 same_digit : (text : List ℕ) (one other : Header) (rest more : List ℕ) → text ≡ trace_header one ++ rest → text ≡ trace_header other ++ more → digit_of one ≡ digit_of other
 same_digit text one other rest more a b = sym (digit_is one rest) ∙ ap (λ (t : List ℕ). get_or t 12 0) (sym a ∙ b) ∙ digit_is other more
 
-after_one : (text rest : List ℕ) → text ≡ trace_header One ++ rest → drop 14 text ≡ rest
-after_one text rest e = ap (drop 14) e
-
-after_two : (text rest : List ℕ) → text ≡ trace_header Two ++ rest → drop 14 text ≡ rest
-after_two text rest e = ap (drop 14) e
-
-pub bare_cut : (found header : Header) (text lines : List ℕ) (calls : List Call) → has_head found ≡ false → text ≡ trace_header found ++ lines → IsTraceUnder header text calls → AreLines text lines
-bare_cut One One text lines calls bare e read = (calls, (One, refl, read), sym (after_one text lines e) ∙ after_one text (lines_of calls) read.whole)
-bare_cut Two Two text lines calls bare e read = (calls, (Two, refl, read), sym (after_two text lines e) ∙ after_two text (lines_of calls) read.whole)
-bare_cut One Two text lines calls bare e read = absurd (let never = same_digit text One Two lines (lines_of calls) e read.whole in omega (arith, never))
-bare_cut Two One text lines calls bare e read = absurd (let never = same_digit text Two One lines (lines_of calls) e read.whole in omega (arith, never))
-bare_cut One (Three head) text lines calls bare e read = absurd (let never = same_digit text One (Three head) lines (lines_of calls) e read.whole in omega (arith, never))
-bare_cut Two (Three head) text lines calls bare e read = absurd (let never = same_digit text Two (Three head) lines (lines_of calls) e read.whole in omega (arith, never))
-bare_cut (Three head) header text lines calls bare e read = absurd cc
-
 headed : (head : Head) (header : Header) (text lines : List ℕ) (calls : List Call) → text ≡ trace_header (Three head) ++ lines → IsTraceUnder header text calls → (h : Head) × (c : List Call) × IsTraceUnder (Three h) text c
 headed head (Three other) text lines calls e read = (other, calls, read)
 headed head One text lines calls e read = absurd (let never = same_digit text (Three head) One lines (lines_of calls) e read.whole in omega (arith, never))
 headed head Two text lines calls e read = absurd (let never = same_digit text (Three head) Two lines (lines_of calls) e read.whole in omega (arith, never))
-
-pub refused_headed : (head : Head) (text lines : List ℕ) (fault : TraceFault) → text ≡ trace_header (Three head) ++ lines → ((calls : List Call) × IsTrace text calls) → fault ≡ Misplaced Unexpected → IsRefusedBare text fault
-refused_headed head text lines fault e trace same = subst (λ (f : TraceFault). IsRefusedBare text f) (sym same) (refl, headed head trace.1.0 text lines trace.0 e trace.1.1)
 
 refused_bare : (text : List ℕ) (fault : TraceFault) → IsRefused text fault → IsRefusedBare text fault
 refused_bare text NoHeader h = h
@@ -212,10 +193,6 @@ refused_bare text Memory h = h
 
 pub judged_bare : (text : List ℕ) (fault : TraceFault) → IsRefused text fault → IsRefusedBare text fault
 judged_bare text fault h = refused_bare text fault h
-
--- a trace begins with a header
-pub has_header : (text : List ℕ) → ((calls : List Call) × IsTrace text calls) → ((header : Header) (rest : List ℕ) → IsHeader header → text ≡ trace_header header ++ rest → ⊥) → ⊥
-has_header text trace none = none trace.1.0 (lines_of trace.0) trace.1.1.valid trace.1.1.whole
 
 -- ---- two texts, one after the other
 

@@ -2,6 +2,7 @@
 use Rattle.std.proofs.Common.{◌≡◌, ◌≢◌, ℕ, List, Option, Some, None, Result, Ok, Err, subst}
 use Rattle.std.specs.Prelude.{IfSome, IfErr}
 use Rattle.std.specs.Io.KnownBytes.{IsAtEnd}
+use Rattle.std.proofs.lemmas.Option.{same_Some}
 use Rattle.kc_types.specs.Configuration.{Configuration}
 use Rattle.kc_types.specs.declared.call.Call.{Call}
 use Rattle.kc_model.specs.State.{State}
@@ -24,9 +25,6 @@ use Rattle.kc_faults.proofs.Told.{texts_ok, texts_trace}
 use Rattle.kc_redact_text.specs.Made.{config_of}
 use Rattle.kc_redact_text.specs.Reading.{IsHeaderAndCalls, IsReadingFault}
 
-some_is : {X : Type 0} (x y : X) → Some x ≡ Some y → x ≡ y
-some_is x y e = cc
-
 -- ---- before and after the calls
 
 -- a text that is not a trace is not one that may go on there
@@ -46,7 +44,7 @@ pub misplaced : (before after : Option State) (source : Option (List ℕ)) (expe
 misplaced None after source expected header kept denials wrong same is read = tt
 misplaced (Some m) None source expected header kept denials wrong same is read = absurd cc
 misplaced (Some m) (Some n) source expected header kept denials wrong same is read =
-    read_misplaced m source expected header kept denials wrong (subst (λ (config : Configuration). IsHeaderFault config expected header wrong) (some_is n.config m.config same) is) read
+    read_misplaced m source expected header kept denials wrong (subst (λ (config : Configuration). IsHeaderFault config expected header wrong) (same_Some n.config m.config same) is) read
 
 -- ---- by where the calls begin
 

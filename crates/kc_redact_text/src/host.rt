@@ -17,8 +17,9 @@ ghost use Rattle.kc_redact_text.specs.Redacts.{IsHostRedacted, IsHostRedactFault
 use crate::calls::RedactedCall;
 use crate::engine::give_redacted;
 use crate::reading::read_redacted;
-use kc_cli::{Lanes, Start, read_start};
+use kc_cli::{Start, read_start};
 use kc_core::KCore;
+use kc_digests::Lanes;
 use kc_faults::{Origin, TextFault};
 use kc_remarks::{Answered, Denials};
 use kc_texts::{Sink, Source};

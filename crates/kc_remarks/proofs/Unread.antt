@@ -10,7 +10,7 @@ use Rattle.kc_types.specs.declared.reply.Reply.{Reply}
 use Rattle.kc_types.specs.declared.reply.Reply.TheVariants as reply
 use Rattle.kc_types.specs.declared.custody.Custody.{Custody}
 use Rattle.kc_types.specs.declared.custody.Event.{Event}
-use Rattle.kc_model.specs.State.{State, Slot, empty_slot}
+use Rattle.kc_model.specs.State.{State, Slot, no_slot}
 use Rattle.kc_model.specs.Next.{next}
 use Rattle.kc_model.specs.Lawful.{IsLawful}
 use Rattle.kc_model.specs.Custody.{first_line}
@@ -33,13 +33,13 @@ frame-alike kept m n None differ = refl
 frame-alike kept m n (Some f) differ = ap₂ (λ (c : Configuration) (y : Custody). cond (nat_lt f c.frames) (Some (record { frame = f; owner = y.owner; gfn = y.gfn })) None) differ.config (differ.frames f).custody
 
 number-state : (m n : State) (call : Call) → n.slots ≡ m.slots → number_named n call ≡ number_named m call
-number-state m n (GuestRead v c g off len) same = ap (λ (slots : List Slot). maps.get (get_or slots v empty_slot).mapped g) same
-number-state m n (GuestWrite v c g off bytes) same = ap (λ (slots : List Slot). maps.get (get_or slots v empty_slot).mapped g) same
-number-state m n (Grant v c g) same = ap (λ (slots : List Slot). maps.get (get_or slots v empty_slot).mapped g) same
-number-state m n (Revoke v c g) same = ap (λ (slots : List Slot). maps.get (get_or slots v empty_slot).mapped g) same
-number-state m n (GrantRange v c g k) same = ap (λ (slots : List Slot). maps.get (get_or slots v empty_slot).mapped g) same
-number-state m n (RevokeRange v c g k) same = ap (λ (slots : List Slot). maps.get (get_or slots v empty_slot).mapped g) same
-number-state m n (Drop v c g) same = ap (λ (slots : List Slot). maps.get (get_or slots v empty_slot).mapped g) same
+number-state m n (GuestRead v c g off len) same = ap (λ (slots : List Slot). maps.get (get_or slots v no_slot).mapped g) same
+number-state m n (GuestWrite v c g off bytes) same = ap (λ (slots : List Slot). maps.get (get_or slots v no_slot).mapped g) same
+number-state m n (Grant v c g) same = ap (λ (slots : List Slot). maps.get (get_or slots v no_slot).mapped g) same
+number-state m n (Revoke v c g) same = ap (λ (slots : List Slot). maps.get (get_or slots v no_slot).mapped g) same
+number-state m n (GrantRange v c g k) same = ap (λ (slots : List Slot). maps.get (get_or slots v no_slot).mapped g) same
+number-state m n (RevokeRange v c g k) same = ap (λ (slots : List Slot). maps.get (get_or slots v no_slot).mapped g) same
+number-state m n (Drop v c g) same = ap (λ (slots : List Slot). maps.get (get_or slots v no_slot).mapped g) same
 number-state m n _ same = refl
 
 number-redacted : (kept : ℕ → Bool) (m : State) (call : Call) → number_named m (redacted_in kept m call) ≡ number_named m call

@@ -17,7 +17,7 @@ use Rattle.kc_model.proofs.Local.Parts.{need-merged}
 use Rattle.kc_model.proofs.Local.LinksKept.{links-kept, needs-free, needs-slot}
 use Rattle.kc_footprints.proofs.Reordered.{size-at}
 use Rattle.kc_model.proofs.Lawful.LawfulTraces.{lawful-at, orderly-at, lists-all}
-use Rattle.kc_vms.specs.Vm.{VmSlot}
+use Rattle.kc_vms.specs.Vm.{VmSlot, capacity_of}
 use Rattle.kc_parts.specs.Parts.{Held, vm_at}
 use Rattle.kc_parts.specs.Cuts.{HeldPart, held_at, IsSplit, IsJoin, either}
 use Rattle.kc_parts.specs.Cuts.HeldPart.{slot_part}
@@ -133,7 +133,7 @@ module _ (m : State) (calls : List Call) (footprints : ℕ → Resources) (is : 
     parts = λ r.
         step-taken (footprints k r) (out footprints ks r) (exists_in m.config r) (seen_at h r) (seen_at got r) (linked_part_of m r) (linked_part_of (state_at m calls k) r) (free r) (are.exist k low r) (left.parts r)
         (ap (option_map seen_part) (split.taken_is r) ∙ shown-split (footprints k r) (held_at h r)) (finds k r low);
-    capacities = λ v vm at. left.capacities v vm (of-slot (footprints k (resource.Vm v)) (vm_at h v) (vm_at got v) vm (split.taken_is (resource.Vm v)) at) ∙ ap (λ config. config.leaves) (sym (config-at k));
+    capacities = λ v vm at. left.capacities v vm (of-slot (footprints k (resource.Vm v)) (vm_at h v) (vm_at got v) vm (split.taken_is (resource.Vm v)) at) ∙ ap capacity_of (sym (config-at k));
   }
     where
       of-slot : (b : Bool) (was there : Option VmSlot) (vm : VmSlot) → option_map slot_part there ≡ cond b (option_map slot_part was) None → there ≡ Some vm → was ≡ Some vm
@@ -162,7 +162,7 @@ module _ (m : State) (calls : List Call) (footprints : ℕ → Resources) (is : 
   pub all-out : (ks : List ℕ) (h : Held) → ((k : ℕ) (r : Resource) → k < length calls → footprints k r ≡ true → out footprints ks r ≡ true) → IsRest m footprints ks h → IsRest (state_at m calls (length calls)) footprints ks h
   all-out ks h all left = record {
     parts = λ r. left.parts r ∙ by_out r (out footprints ks r) refl;
-    capacities = λ v vm at. left.capacities v vm at ∙ ap (λ config. config.leaves) (sym (config-at (length calls)));
+    capacities = λ v vm at. left.capacities v vm at ∙ ap capacity_of (sym (config-at (length calls)));
   }
     where
       end : State
@@ -193,10 +193,10 @@ module _ (m : State) (calls : List Call) (footprints : ℕ → Resources) (is : 
     parts = λ r.
         step-back (footprints k r) (out footprints ks r) (exists_in (state_at m calls (length calls)).config r) (seen_at h r) (seen_at done r) (seen_at joined r) (linked_part_of (state_at m calls (length calls)) r) (linked_part_of (state_at m calls (suc k)) r)
         (free r) (λ e. ap (λ config. exists_in config r) (config-at (length calls)) ∙ are.exist k low r e) (left.parts r) (is_done.parts r) (leaves k r low) (ap (option_map seen_part) (join r) ∙ shown-join (held_at h r) (held_at done r));
-    capacities = λ v vm at. of-slot (vm_at h v) (vm_at done v) (vm_at joined v) vm (join (resource.Vm v)) at (left.capacities v vm) (λ e. is_done.capacities v vm e ∙ ap (λ config. config.leaves) (config-at (suc k) ∙ sym (config-at (length calls))));
+    capacities = λ v vm at. of-slot (vm_at h v) (vm_at done v) (vm_at joined v) vm (join (resource.Vm v)) at (left.capacities v vm) (λ e. is_done.capacities v vm e ∙ ap capacity_of (config-at (suc k) ∙ sym (config-at (length calls))));
   }
     where
-      of-slot : (a b there : Option VmSlot) (vm : VmSlot) → option_map slot_part there ≡ either (option_map slot_part a) (option_map slot_part b) → there ≡ Some vm → (a ≡ Some vm → vm.capacity ≡ (state_at m calls (length calls)).config.leaves) → (b ≡ Some vm → vm.capacity ≡ (state_at m calls (length calls)).config.leaves) → vm.capacity ≡ (state_at m calls (length calls)).config.leaves
+      of-slot : (a b there : Option VmSlot) (vm : VmSlot) → option_map slot_part there ≡ either (option_map slot_part a) (option_map slot_part b) → there ≡ Some vm → (a ≡ Some vm → vm.capacity ≡ capacity_of (state_at m calls (length calls)).config) → (b ≡ Some vm → vm.capacity ≡ capacity_of (state_at m calls (length calls)).config) → vm.capacity ≡ capacity_of (state_at m calls (length calls)).config
       of-slot (Some a) b None vm join at first second = cc
       of-slot (Some a) b (Some t) vm join at first second = first cc
       of-slot None None None vm join at first second = cc

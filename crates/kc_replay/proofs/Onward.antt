@@ -14,9 +14,9 @@ use Rattle.kc_model.specs.Next.{next, replies_from, state_after}
 use Rattle.kc_model.specs.Footprints.{call_at, state_at, reply_at, footprint}
 use Rattle.kc_model.proofs.States.Places.{state_at-rest}
 use Rattle.kc_model.proofs.Lawful.Keeps.{lawful-next}
-use Rattle.kc_waves.specs.Order.{IsPlan}
-use Rattle.kc_waves.specs.Reorder.{with_number, IsDue, IsTaken}
-use Rattle.kc_waves.proofs.Reorders.{due_by_wave}
+use Rattle.kc_footprints.specs.Order.{IsPlan}
+use Rattle.kc_footprints.specs.Reorder.{with_number, IsDue, IsTaken}
+use Rattle.kc_footprints.proofs.Reorders.{due_by_wave}
 use Rattle.kc_footprints.specs.Commuting.{IsWaves}
 use Rattle.kc_footprints.specs.Reordering.{after_order, AnswersAlike}
 use Rattle.kc_footprints.proofs.Reordered.{alike, is_order_free}

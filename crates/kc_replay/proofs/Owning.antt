@@ -1,7 +1,7 @@
 -- The owners at the start.
 use Rattle.std.proofs.Common.{◌≡◌, ℕ, ◌+◌, ◌<◌, Bool, true, false, ◌&&◌, ◌||◌, nat_lt, cond, List, [], ◌∷◌, ◌++◌, length, get_or, refl, sym, ◌∙◌, ap, subst, arith, inl, inr, length-append}
 use Rattle.std.specs.Prelude.{eqb, Option, Some, None}
-use Rattle.std.proofs.lemmas.Bool.{and_parts, cases_lt, ltb-true, eq-eqb, eqb-true}
+use Rattle.std.proofs.lemmas.Bool.{and_parts, cases_lt, eq-eqb, eqb-true}
 use Rattle.std.proofs.lemmas.Bool.Decides.{nat_tests}
 use Rattle.std.proofs.lemmas.List.{get_or_append_left}
 use Rattle.std.proofs.lemmas.List.Folds.{list_any-append}
@@ -13,7 +13,7 @@ use Rattle.kc_model.specs.State.{State, frame_at}
 use Rattle.kc_model.specs.Lawful.{IsLawful, same_owner}
 use Rattle.kc_model.proofs.States.Changes.{exists}
 use Rattle.kc_footprints.specs.Reach.{is_at}
-use Rattle.kc_footprints.specs.Planner.{HasOneOwnerEach, HaveFramesBelow, has_pair}
+use Rattle.kc_footprints.specs.Planner.{HasOneOwnerEach, has_pair}
 use Rattle.kc_footprints.specs.Owned.{IsOwned, principal_of}
 use Rattle.kc_footprints.proofs.Carried.{at_below, low_too, not_past, differs}
 
@@ -81,9 +81,6 @@ one_more m n q pairs after some pushed so_far = rw pushed record {
         tidy false true = refl
         tidy false false = refl
 
-pub none_yet : (m : State) → IsOwnedBelow m 0 []
-none_yet m = record { has = λ p f. let no : nat_lt f 0 ≡ false = grind (arith, nat_tests) in rw no refl; low = λ i low. absurd (omega arith) }
-
 of_slot : (n : ℕ) (o : Owner) (v : ℕ) → v < n → is_at (principal_of n o) v ≡ same_owner o (owner.Vm v)
 of_slot n owner.Core v low = refl
 of_slot n owner.Host v low = refl
@@ -127,7 +124,3 @@ one_owner m n pairs so_far = record {
       (and_parts (nat_lt f n) (is_at (principal_of (slot_count m.config) (frame_at m f).owner) p) (sym (so_far.has p f) ∙ h)).1
       (and_parts (nat_lt f n) (is_at (principal_of (slot_count m.config) (frame_at m f).owner) q) (sym (so_far.has q f) ∙ g)).1;
 }
-
-pub all_exist : (m : State) (n : ℕ) (pairs : List (ℕ × ℕ)) → n ≡ m.config.frames → IsOwnedBelow m n pairs → HaveFramesBelow m.config.frames pairs
-all_exist m n pairs all so_far p f h =
-    rw all at (ltb-true f n (and_parts (nat_lt f n) (is_at (principal_of (slot_count m.config) (frame_at m f).owner) p) (sym (so_far.has p f) ∙ h)).0)

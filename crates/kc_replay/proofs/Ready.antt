@@ -13,8 +13,8 @@ use Rattle.kc_model.specs.Next.{next}
 use Rattle.kc_model.specs.Resources.{Resource, Resources, IsWithin, need, names_frame, uses_free, of_slot, exists_slot}
 use Rattle.kc_model.specs.Footprints.{call_at, reach, footprint}
 use Rattle.kc_model.proofs.States.Sizes.{sized-next}
-use Rattle.kc_waves.specs.Reorder.{IsDue, IsTaken}
-use Rattle.kc_waves.proofs.Laws.{rises}
+use Rattle.kc_footprints.specs.Reorder.{IsDue, IsTaken}
+use Rattle.kc_footprints.proofs.OrderLaws.{rises}
 use Rattle.kc_footprints.specs.Commuting.{IsWaves}
 use Rattle.kc_footprints.specs.Reordering.{after_order}
 use Rattle.kc_footprints.proofs.Reordered.{is_ready}

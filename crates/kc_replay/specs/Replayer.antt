@@ -23,7 +23,8 @@ pub record IsFed (before after : Replaying) (calls : List Call) (replies : List 
   pub fed : after.fed ≡ before.fed + length calls
   pub workers : after.workers ≡ before.workers
 
--- the replies and the core are those of one thread that makes the calls in order, and neither shows what no VM granted
+-- deterministic replay, by whatever number of workers: the replies and the core are those of one thread that makes the
+-- calls in order, and neither shows what no VM granted
 pub record IsReplayOf (m : State) (calls : List Call) (outcome : Outcome) : Type 0 where
   pub replies : outcome.replies.items ≡ replies_from m calls
   pub state : outcome.core ≡ state_after m calls

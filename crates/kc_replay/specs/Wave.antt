@@ -12,7 +12,7 @@ use Rattle.kc_types.specs.declared.reply.Reply.TheVariants.{Done}
 use Rattle.kc_model.specs.Lawful.{IsLawful}
 use Rattle.kc_model.specs.Footprints.{call_at, state_at, reply_at}
 use Rattle.kc_footprints.specs.Spans.{Footprints, footprint_has, footprint_at}
-use Rattle.kc_vms.specs.Vm.{VmSlot}
+use Rattle.kc_vms.specs.Vm.{VmSlot, capacity_of}
 use Rattle.kc_page.specs.declared.page.Page.{Page}
 use Rattle.kc_parts.specs.Parts.{Held, HasPlace, page_at, vm_at}
 use Rattle.kc_parts.specs.Restricted.{seen_at, exists_in, IsRestricted}
@@ -36,7 +36,7 @@ out footprints ks r = list_any (λ k. footprints k r) ks
 -- the store lacks what the calls may touch, and has everything else of the state
 pub record IsRest (m : State) (footprints : ℕ → Resources) (ks : List ℕ) (h : Held) : Type 0 where
   pub parts : (r : Resource) → seen_at h r ≡ cond (out footprints ks r) None (cond (exists_in m.config r) (Some (linked_part_of m r)) None)
-  pub capacities : (v : ℕ) (vm : VmSlot) → vm_at h v ≡ Some vm → vm.capacity ≡ m.config.leaves
+  pub capacities : (v : ℕ) (vm : VmSlot) → vm_at h v ≡ Some vm → vm.capacity ≡ capacity_of m.config
 
 -- the store has a place for everything in the configuration
 pub record HasPlaces (config : Configuration) (h : Held) : Type 0 where

@@ -1,6 +1,6 @@
 //! Who makes the calls of a trace, and which of them.
 
-use crate::Gate;
+use kc_core::Gate;
 use kc_footprints::Footprints;
 use kc_types::Call;
 use std::alloc::Global;

@@ -25,8 +25,6 @@ mod wave;
 mod work;
 
 pub use fault::ReplayFault;
-pub use kc_core::{Gate, OpenGate};
-pub use kc_footprints::{Footprints, Plan};
 pub use replayer::{Replayer, replay};
 pub use segment::Outcome;
 pub use trace::footprints;

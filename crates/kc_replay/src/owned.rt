@@ -32,7 +32,7 @@ pub(crate) fn owned_frames(alloc: Global, core: &KCore) -> Result<Vec<(usize, u3
         let Some(record) = core.page_record(frame) else {
             unreachable!()
         };
-        if let Some(principal) = principal_of(record.owner, slots) {
+        if let Some(principal) = principal_of(record.owner.get(), slots) {
             pairs.push((principal, frame))?;
         }
     }

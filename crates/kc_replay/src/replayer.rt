@@ -10,12 +10,11 @@ ghost use Rattle.kc_model.specs.Next.{replies_from, state_after};
 ghost use Rattle.kc_replay.specs.Replayer.{IsFed};
 ghost use Rattle.kc_replay.specs.declared.fault.ReplayFault.TheVariants.{BadWorkers, Broken};
 
-use crate::Gate;
 use crate::budget::Budget;
 use crate::crew::Crew;
 use crate::fault::ReplayFault;
 use crate::segment::{Outcome, answer_segment};
-use kc_core::KCore;
+use kc_core::{Gate, KCore};
 use kc_types::{CALL_LIMIT, Call, Config, Reply, WORKER_LIMIT};
 use std::alloc::Global;
 use std::marker::Model;

@@ -11,13 +11,12 @@ ghost use Rattle.kc_replay.specs.Replayer.{IsReplayOf};
 ghost use Rattle.kc_replay.specs.Wave.{IsWave, IsWiped, AreReplied, wave_calls, footprint_of};
 ghost use Rattle.kc_footprints.specs.Plan.{AreCallNumbers};
 
-use crate::Gate;
 use crate::budget::Budget;
 use crate::crew::{Crew, WaveCalls};
 use crate::failed::Failed;
 use crate::trace::footprints;
 use crate::wave::run_wave;
-use kc_core::KCore;
+use kc_core::{Gate, KCore};
 use kc_footprints::{Footprints, Plan};
 use kc_types::{Call, Memory, Reply};
 use std::alloc::Global;

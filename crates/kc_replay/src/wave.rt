@@ -7,12 +7,12 @@ ghost use Rattle.kc_parts.specs.States.{state_of};
 ghost use Rattle.kc_replay.specs.Dealing.{AreDealt};
 ghost use Rattle.kc_replay.specs.Wave.{Wave, IsWave, IsRest, HasPlaces, IsTaskAt, IsFinishedAt, AreReplied, IsWiped, wave_calls, wave_from, footprint_of, footprints_at, down_from};
 
-use crate::Gate;
 use crate::crew::{Crew, WaveCalls};
 use crate::dealing::{deal, no_tasks, take_back};
 use crate::fault::ReplayFault;
 use crate::task::{Finished, Task};
 use crate::work::run_workers;
+use kc_core::Gate;
 use kc_parts::Parts;
 use kc_types::{Config, Memory, Reply};
 use std::alloc::Global;

@@ -6,11 +6,10 @@ ghost use Rattle.kc_types.specs.Configuration.{Configuration};
 ghost use Rattle.kc_types.specs.declared.call.Call.{Call};
 ghost use Rattle.kc_replay.specs.Working.{Finishes, AnswersAll, IsTaskOf, no_config};
 
-use crate::Gate;
 use crate::crew::Crew;
 use crate::fault::ReplayFault;
 use crate::task::{Finished, Task};
-use kc_core::apply;
+use kc_core::{Gate, apply};
 use kc_types::{Call, Config, Memory, ReplyBuffer};
 use std::alloc::Global;
 use std::marker::{Brand, PhantomData};

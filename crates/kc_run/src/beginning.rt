@@ -5,7 +5,9 @@ ghost use Rattle.kc_texts.specs.Headed.{IsHeadOf};
 ghost use Rattle.kc_run.specs.Opening.{IsOpenFault, IsHeaderOf, IsUnnamed, IsUnseenFault};
 
 use crate::files::{Files, Unopened};
-use kc_cli::{DEFAULT_CONFIG, Failed, Headed, Source, TextFault};
+use kc_cli::DEFAULT_CONFIG;
+use kc_faults::TextFault;
+use kc_texts::{Failed, Headed, Source};
 use kc_trace::{Header, LONGEST_CALL, push_header};
 use std::alloc::Global;
 

@@ -10,8 +10,9 @@ ghost use Rattle.kc_run.specs.Endings.{Takes, took, status_after, fault_in, answ
 use arrayvec::ArrayString;
 use itoa::Buffer;
 use kc_args::Clash;
-use kc_cli::{Answered, Sink, TextFault, tell, write_whole};
-use kc_faults::tell_volume;
+use kc_faults::{TextFault, tell, tell_volume};
+use kc_remarks::Answered;
+use kc_texts::{Sink, write_whole};
 use kc_trace::TraceFault;
 
 /// How a job ends that meets no fault.

@@ -11,12 +11,13 @@ use crate::beginning::{StartText, header_text, open, unnamed_text};
 use crate::ending::Ending;
 use crate::files::Files;
 use kc_args::Start;
-use kc_cli::{
-    Answered, Compared, Headed, Lanes, ReplayOrder, Sink, Source, TextFault, audit_text, live_text,
-    replay_text, replay_to_text,
-};
+use kc_cli::{Compared, ReplayOrder, audit_text, live_text, replay_text, replay_to_text};
+use kc_core::OpenGate;
+use kc_digests::Lanes;
+use kc_faults::TextFault;
 use kc_redact_text::{Converted, convert_after_text, convert_text, redact_host_text, redact_text};
-use kc_replay::OpenGate;
+use kc_remarks::Answered;
+use kc_texts::{Headed, Sink, Source};
 use kc_trace::{HeaderFault, TraceFault};
 use std::alloc::Global;
 use std::sync::Wait;

@@ -1,7 +1,7 @@
 //! The files that a job names.
 ghost use Rattle.std.specs.Prelude.{◌≡◌, false, List, ℕ, Option, Some, None, Err, IfOk, OnOk};
 
-use kc_cli::Headed;
+use kc_texts::Headed;
 
 /// Why a file is not open.
 #[derive(Clone, Copy, Debug, PartialEq, Eq)]

@@ -11,9 +11,9 @@ use crate::engines::{System, audit, convert, convert_after, live, redact, redact
 use crate::files::Files;
 use crate::reporting::report;
 use kc_args::{Action, Job};
-use kc_cli::{
-    CustodyAccount, CustodyOrder, Headed, LinesOrder, ReplayAccount, ReplayOrder, Sink, TextFault,
-};
+use kc_cli::{CustodyAccount, CustodyOrder, LinesOrder, ReplayAccount, ReplayOrder};
+use kc_faults::TextFault;
+use kc_texts::{Headed, Sink};
 use std::sync::Wait;
 use std::thread::Threads;
 

@@ -14,7 +14,9 @@ use crate::ending::Ending;
 use crate::engines::{System, counted};
 use crate::files::Files;
 use kc_args::Start;
-use kc_cli::{Account, Headed, Sink, Source, TextFault};
+use kc_cli::Account;
+use kc_faults::TextFault;
+use kc_texts::{Headed, Sink, Source};
 use std::sync::Wait;
 use std::thread::Threads;
 

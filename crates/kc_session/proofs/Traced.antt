@@ -3,7 +3,6 @@ use Rattle.std.proofs.Common.{◌≡◌, ◌≤◌, List, [], ◌∷◌, ◌++�
 use Rattle.std.specs.Prelude.{slice_get, option_map}
 use Rattle.std.specs.List.{AllByRecursion, concat}
 use Rattle.std.proofs.lemmas.Option.{slice_get-map}
-use Rattle.std.proofs.lemmas.List.{length-map}
 use Rattle.kc_types.specs.Limits.{call_limit}
 use Rattle.kc_types.specs.declared.call.Call.{Call}
 use Rattle.kc_trace.specs.declared.header.Header.{Header}
@@ -55,9 +54,6 @@ is_trace kept may ranged short = record {
 pub with_one_more : (entries : List Entry) (entry : Entry) → AllByRecursion IsRanged (calls_of entries) → IsRanged entry.call → AllByRecursion IsRanged (calls_of (entries ++ entry ∷ []))
 with_one_more [] entry all one = (one, tt)
 with_one_more (first ∷ entries) entry all one = (all.0, with_one_more entries entry all.1 one)
-
-pub count_of_lines : (kept : Kept) → length (trace_lines kept) ≡ length kept.log.entries + 1
-count_of_lines kept = omega (arith, length-map kept.log.entries (λ (entry : Entry). line_of entry.call ++ 10 ∷ []))
 
 pub line_after : (form : Form) (kept : Kept) (number place : ℕ) → number ≡ place + 1 → slice_get (lines_in form kept) number ≡ option_map (λ entry. line_in form entry.call) (slice_get kept.log.entries place)
 line_after form kept number place is =

@@ -11,11 +11,11 @@ use Rattle.kc_types.specs.Configuration.{Configuration, slot_count, slots_of}
 use Rattle.kc_types.specs.declared.link.Ends.{Ends}
 use Rattle.kc_types.specs.declared.owner.Owner.{Owner}
 use Rattle.kc_types.specs.declared.owner.Owner.TheVariants.{Core, Host, Free, Vm}
-use Rattle.kc_model.specs.State.{State, Frame, Slot, frame_at, slot_at, zero_page, no_vcpus, untouched, empty_slot}
+use Rattle.kc_model.specs.State.{State, Frame, Slot, frame_at, slot_at, zero_page, untouched, no_slot}
 use Rattle.kc_model.specs.Links.{link_at}
 use Rattle.kc_page.specs.declared.page.Page.{Page}
 use Rattle.kc_page.specs.Page.{frame_of}
-use Rattle.kc_vms.specs.Vm.{VmSlot}
+use Rattle.kc_vms.specs.Vm.{VmSlot, Capacity, capacity_for}
 use Rattle.kc_parts.specs.Parts.{Held, page_at, vm_at, links_of}
 use Rattle.kc_parts.specs.States.{frame_in, slot_in, unlinked_slot, state_of}
 use Rattle.kc_parts.specs.Booting.{parts_of, IsWhole}
@@ -40,7 +40,7 @@ use Rattle.kc_state.proofs.Shown.{core-shown}
 
 -- what is there if there is no slot
 abbrev no_rest : SlotRest
-no_rest = record { vcpus = no_vcpus; images = [] }
+no_rest = record { vcpus = []; images = [] }
 
 -- the neighbours of a page's frame are those of its line: the core's and the host's frames have none
 module _ (core f : ℕ) (line : FrameLine) (bytes : List ℕ) (is : IsSoundFrame core f line) where
@@ -69,6 +69,9 @@ module _ (t : Told) (sized : IsSized t) (judged : IsJudged t) (vms : List (Optio
   abbrev config : Configuration
   config = config_of t
 
+  abbrev capacity : Capacity
+  capacity = capacity_for d.version d.leaves
+
   abbrev page_made : ℕ → Page
   page_made f = page_told (line_at d.frames f) (page_of t.rest.pages f)
 
@@ -91,10 +94,10 @@ module _ (t : Told) (sized : IsSized t) (judged : IsJudged t) (vms : List (Optio
   page-here : (f : ℕ) → f < length d.frames → page_at h f ≡ Some (page_made f)
   page-here f low = whole-page pages vms d.free f (page_made f) (rw long low) ∙ ap Some (get_or-map-range_with_len page_made 0 (length d.frames) f f (page_made f) low (omega arith))
 
-  vm-told : (v : ℕ) (vm : VmSlot) → v < length d.slots → vm_at h v ≡ Some vm → IsVmTold d.leaves (slot_dump_at d v) (slot_rest_at t.rest.slots v) vm
-  vm-told v vm low at = subst (IsPlaceTold d.leaves (slot_dump_at d v) (slot_rest_at t.rest.slots v)) (sym (whole-vm pages vms d.free v) ∙ at) (each v low)
+  vm-told : (v : ℕ) (vm : VmSlot) → v < length d.slots → vm_at h v ≡ Some vm → IsVmTold capacity (slot_dump_at d v) (slot_rest_at t.rest.slots v) vm
+  vm-told v vm low at = subst (IsPlaceTold capacity (slot_dump_at d v) (slot_rest_at t.rest.slots v)) (sym (whole-vm pages vms d.free v) ∙ at) (each v low)
 
-  some-told : (v : ℕ) (there : Option VmSlot) → IsPlaceTold d.leaves (slot_dump_at d v) (slot_rest_at t.rest.slots v) there → is_some there ≡ true
+  some-told : (v : ℕ) (there : Option VmSlot) → IsPlaceTold capacity (slot_dump_at d v) (slot_rest_at t.rest.slots v) there → is_some there ≡ true
   some-told v (Some vm) is = refl
   some-told v None is = absurd is
 
@@ -165,7 +168,7 @@ module _ (t : Told) (sized : IsSized t) (judged : IsJudged t) (vms : List (Optio
       let inside : v < length d.slots = rw slots-long at within in
       let here = vm-of v inside in
       let told = vm-told v here.0 inside here.1 in
-      get_or-map slot_rest m.slots v empty_slot no_rest within ∙ ap slot_rest (slot-same v here.0 inside here.1) ∙ (λ i. record { vcpus = told.vcpus i; images = told.images i }))
+      get_or-map slot_rest m.slots v no_slot no_rest within ∙ ap slot_rest (slot-same v here.0 inside here.1) ∙ (λ i. record { vcpus = told.vcpus i; images = told.images i }))
 
   slots-told : map slot_dump m.slots ≡ d.slots
   slots-told = ext_get_or empty_dump _ _ (length-map m.slots slot_dump ∙ slots-long) (λ v low.
@@ -176,7 +179,7 @@ module _ (t : Told) (sized : IsSized t) (judged : IsJudged t) (vms : List (Optio
       let there : Bor VmSlot = record { ref_ptr = (0, 0); now = here.0 } in
       let ends = slot-ended config h core-made v (rw slots-count inside) (Some there) (sym here.1) in
       let slot = slot-same v here.0 inside here.1 in
-      get_or-map slot_dump m.slots v empty_slot empty_dump within ∙ (λ i. record {
+      get_or-map slot_dump m.slots v no_slot empty_dump within ∙ (λ i. record {
         phase = (ap (λ (s : Slot). s.phase) slot ∙ told.phase) i;
         list = (sym ends ∙ told.list) i;
         leaves = (ap (λ (s : Slot). s.leaves) slot ∙ told.roots) i;

@@ -5,3 +5,4 @@ mod Shows
 mod Shown
 mod Assembled
 mod Refused
+mod Shares

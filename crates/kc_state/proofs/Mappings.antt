@@ -5,8 +5,9 @@ use Rattle.std.proofs.lemmas.List.FromFn.{map-range_with_len_more}
 use Rattle.std.proofs.Math.Seq.{get_or-append_seam}
 use Rattle.std.proofs.lemmas.Bool.{cases_lt}
 use Rattle.std.proofs.lemmas.List.{get_or_append_left, get_or_default}
+use Rattle.kc_types.specs.Configuration.{roots_of}
 use Rattle.kc_vms.specs.Stage2.{AreMappings}
-use Rattle.kc_vms.specs.Vm.{VmSlot}
+use Rattle.kc_vms.specs.Vm.{VmSlot, capacity_for}
 use Rattle.kc_dump.specs.Dump.{Dumped, slot_dump_at}
 use Rattle.kc_dump.specs.Ranges.{IsDump}
 use Rattle.kc_dump.specs.Sound.{IsSound}
@@ -16,7 +17,7 @@ use Rattle.kc_state.specs.Unlawful.{slot_rest_at}
 use Rattle.kc_state.specs.Making.{IsPlaceTold, IsVmTold, AreVmsTold}
 
 -- there is a table with what a sound dump shows of a slot
-pub mappings : (d : Dumped) (v : ℕ) → IsDump d → IsSound d → v < length d.slots → AreMappings d.leaves (slot_dump_at d v).leaves (slot_dump_at d v).entries
+pub mappings : (d : Dumped) (v : ℕ) → IsDump d → IsSound d → v < length d.slots → AreMappings (roots_of d.version) d.leaves (slot_dump_at d v).leaves (slot_dump_at d v).entries
 mappings d v range sound low =
     let slot = sound.each_slot v low in
     let es = (slot_dump_at d v).entries in
@@ -32,8 +33,8 @@ pub longer : {X : Type 0} (old new : List X) (x : X) (n : ℕ) → length old �
 longer old new x n count pushed = ap length pushed ∙ length-append old (x ∷ []) ∙ ap (λ k. k + 1) count
 
 -- one more slot
-pub vms-more : (d : Dumped) (rests : List SlotRest) (n : ℕ) (old new : List (Option VmSlot)) (vm : VmSlot) → length old ≡ n → AreVmsTold d rests old n → new ≡ old ++ Some vm ∷ [] → IsVmTold d.leaves (slot_dump_at d n) (slot_rest_at rests n) vm → AreVmsTold d rests new (n + 1)
-vms-more d rests n old new vm count each pushed is v low = subst (λ (vms : List (Option VmSlot)). IsPlaceTold d.leaves (slot_dump_at d v) (slot_rest_at rests v) (get_or vms v None)) (sym pushed) (elim (cases_lt v n) [
+pub vms-more : (d : Dumped) (rests : List SlotRest) (n : ℕ) (old new : List (Option VmSlot)) (vm : VmSlot) → length old ≡ n → AreVmsTold d rests old n → new ≡ old ++ Some vm ∷ [] → IsVmTold (capacity_for d.version d.leaves) (slot_dump_at d n) (slot_rest_at rests n) vm → AreVmsTold d rests new (n + 1)
+vms-more d rests n old new vm count each pushed is v low = subst (λ (vms : List (Option VmSlot)). IsPlaceTold (capacity_for d.version d.leaves) (slot_dump_at d v) (slot_rest_at rests v) (get_or vms v None)) (sym pushed) (elim (cases_lt v n) [
   | inl less ↦ rw (get_or_append_left old (Some vm ∷ []) None v (rw count less)) (each v less)
   | inr more ↦
       let same : v ≡ n = omega (arith, low, more) in

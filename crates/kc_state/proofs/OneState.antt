@@ -8,7 +8,7 @@ use Rattle.std.proofs.lemmas.Option.{slice_get-get_or}
 use Rattle.kc_types.specs.Configuration.{slot_count, Configuration}
 use Rattle.kc_types.specs.declared.owner.Owner.{Owner}
 use Rattle.kc_types.specs.declared.owner.Owner.TheVariants.{Core, Host, Free, Vm}
-use Rattle.kc_model.specs.State.{State, Frame, Slot, frame_at, slot_at, untouched, empty_slot}
+use Rattle.kc_model.specs.State.{State, Frame, Slot, frame_at, slot_at, untouched, no_slot}
 use Rattle.kc_model.specs.Lawful.{IsLawful, ListsOnce, times_in}
 use Rattle.kc_model.specs.Links.{link_at, link_in, list_of}
 use Rattle.kc_model.specs.Linked.{ends_of}
@@ -50,7 +50,7 @@ one-state m n is-m is-n told = λ i. record {
   config = config i;
   frames = ext_get_or (untouched Core) m.frames n.frames (is-m.frames ∙ ap (λ c. c.frames) config ∙ sym is-n.frames) frame-same i;
   free = (sym (free-told m is-m) ∙ ap (λ (d : Dumped). listed (line_links d.frames) d.free) dump ∙ free-told n is-n) i;
-  slots = ext_get_or empty_slot m.slots n.slots (is-m.slots ∙ ap slot_count config ∙ sym is-n.slots) slot-same i;
+  slots = ext_get_or no_slot m.slots n.slots (is-m.slots ∙ ap slot_count config ∙ sym is-n.slots) slot-same i;
 }
   where
     config : m.config ≡ n.config
@@ -88,13 +88,13 @@ one-state m n is-m is-n told = λ i. record {
 
     rest-same : (v : ℕ) → v < length m.slots → slot_rest (slot_at m v) ≡ slot_rest (slot_at n v)
     rest-same v low =
-        sym (get_or-map slot_rest m.slots v empty_slot (slot_rest empty_slot) low) ∙ ap (λ (l : List SlotRest). get_or l v (slot_rest empty_slot)) rests
-        ∙ get_or-map slot_rest n.slots v empty_slot (slot_rest empty_slot) (let same = is-m.slots ∙ ap slot_count config ∙ sym is-n.slots in omega (arith, low, same))
+        sym (get_or-map slot_rest m.slots v no_slot (slot_rest no_slot) low) ∙ ap (λ (l : List SlotRest). get_or l v (slot_rest no_slot)) rests
+        ∙ get_or-map slot_rest n.slots v no_slot (slot_rest no_slot) (let same = is-m.slots ∙ ap slot_count config ∙ sym is-n.slots in omega (arith, low, same))
 
     frames-same : (v : ℕ) → v < slot_count m.config → (slot_at m v).frames ≡ (slot_at n v).frames
     frames-same v low = sym (frames-told m is-m v low) ∙ ap (λ (d : Dumped). listed (line_links d.frames) (slot_dump_at d v).list) dump ∙ frames-told n is-n v (rw (← config) low)
 
-    slot-same : (v : ℕ) → v < length m.slots → get_or m.slots v empty_slot ≡ get_or n.slots v empty_slot
+    slot-same : (v : ℕ) → v < length m.slots → get_or m.slots v no_slot ≡ get_or n.slots v no_slot
     slot-same v low =
         let within : v < slot_count m.config = rw is-m.slots at low in
         let dumped = dumped-same v within in

@@ -4,7 +4,7 @@ use Rattle.std.proofs.lemmas.List.{get_or-map, length-map}
 use Rattle.kc_types.specs.Configuration.{Configuration, IsConfiguration, slot_count}
 use Rattle.kc_types.specs.declared.owner.Owner.TheVariants.{Core}
 use Rattle.kc_types.specs.declared.slot.Phase.TheVariants.{Active}
-use Rattle.kc_model.specs.State.{State, Frame, Slot, frame_at, slot_at, zero_page, no_vcpus, untouched, empty_slot}
+use Rattle.kc_model.specs.State.{State, Frame, Slot, frame_at, slot_at, zero_page, untouched, no_slot}
 use Rattle.kc_model.specs.Links.{link_at}
 use Rattle.kc_model.specs.Lawful.{IsLawful, IsLawfulSlot}
 use Rattle.kc_dump.specs.declared.line.FrameLine.{FrameLine}
@@ -21,7 +21,7 @@ use Rattle.kc_dumping.proofs.Drawn.{long, line-low, slot-low, slots, sound-drawn
 use Rattle.kc_state.proofs.OneState.{config-told}
 use Rattle.kc_state.proofs.Mapped.{entry-key}
 
-slot-of : (config : Configuration) (slot : Slot) → IsLawfulSlot config slot → IsSlotOf (slot_dump slot) (slot_rest slot)
+slot-of : (config : Configuration) (slot : Slot) → IsLawfulSlot config slot → IsSlotOf config.version (slot_dump slot) (slot_rest slot)
 slot-of config slot is = record {
   kept = record {
     vcpu_count = is.vcpus;
@@ -46,7 +46,7 @@ module _ (m : State) (is : IsLawful m) where
   slot-told : (v : ℕ) → v < length (dump_of m).slots → IsSlotTold (told_of m) v
   slot-told v low =
       let within : v < length m.slots = rw (length-map m.slots slot_dump) at low in
-      let rest : slot_rest_at (map slot_rest m.slots) v ≡ slot_rest (slot_at m v) = get_or-map slot_rest m.slots v empty_slot (record { vcpus = no_vcpus; images = [] }) within in
+      let rest : slot_rest_at (map slot_rest m.slots) v ≡ slot_rest (slot_at m v) = get_or-map slot_rest m.slots v no_slot (record { vcpus = []; images = [] }) within in
       rw (slot-low m is v low, rest) (slot-of m.config (slot_at m v) (is.each_slot v (rw is.slots at within)))
 
   frame-told : (f : ℕ) → f < length (dump_of m).frames → IsFrameTold (told_of m) f

@@ -9,15 +9,15 @@ use Rattle.std.proofs.lemmas.List.{get_or_past, get_or_default}
 use Rattle.std.proofs.lemmas.List.FromFn.{get_or-range_with_len, length-range_with_len, length-map-range_with_len}
 use Rattle.std.proofs.lemmas.Option.{slice_get-get_or, slice_get_past, same_Some}
 use mathlib.Core.Path.{fun_ext}
-use Rattle.kc_types.specs.Limits.{frame_limit, share_limit, gfn_limit, leaf_entries}
-use Rattle.kc_types.specs.Configuration.{Configuration, IsConfiguration, slot_count, slots_of}
+use Rattle.kc_types.specs.Limits.{frame_limit, share_limit}
+use Rattle.kc_types.specs.Configuration.{Configuration, IsConfiguration, slot_count, slots_of, gfns_of, roots_of}
 use Rattle.kc_types.specs.declared.version.Version.{Version}
 use Rattle.kc_types.specs.declared.link.Ends.{Ends}
 use Rattle.kc_types.specs.declared.link.Link.{Link}
 use Rattle.kc_types.specs.declared.owner.Owner.{Owner}
 use Rattle.kc_types.specs.declared.owner.Owner.TheVariants.{Core, Host, Free, Vm}
 use Rattle.kc_types.specs.declared.slot.Phase.TheVariants.{Empty}
-use Rattle.kc_model.specs.State.{State, Frame, Slot, frame_at, slot_at, mapped_at, untouched, empty_slot, no_vcpus}
+use Rattle.kc_model.specs.State.{State, Frame, Slot, frame_at, slot_at, mapped_at, untouched, empty_slot}
 use Rattle.kc_model.specs.Lawful.{IsLawful, IsLawfulFrame, IsLawfulSlot, ListsOnce, times_in, same_owner}
 use Rattle.kc_model.proofs.States.Configurations.{few-frames}
 use Rattle.kc_page.specs.declared.page.Page.{Page}
@@ -61,15 +61,15 @@ or-none (Some x) h = absurd (h refl)
 record InRange (version : Version) (line : FrameLine) : Type 0 where
   owner : is_owner version line.owner ≡ true
   share : line.share ≤ share_limit
-  gfn : is_below gfn_limit line.gfn ≡ true
+  gfn : is_below (gfns_of version) line.gfn ≡ true
 
 in-range : (version : Version) (n : ℕ) (line : FrameLine) → is_frame version n line ≡ true → InRange version line
 in-range version n line e =
-    let p1 = and_parts (is_owner version line.owner && nat_le line.share share_limit && is_below gfn_limit line.gfn && is_below n line.prev && is_below n line.next && (length line.digest == 32)) (list_all (λ b. nat_lt b 256) line.digest) e in
-    let p2 = and_parts (is_owner version line.owner && nat_le line.share share_limit && is_below gfn_limit line.gfn && is_below n line.prev && is_below n line.next) (length line.digest == 32) p1.0 in
-    let p3 = and_parts (is_owner version line.owner && nat_le line.share share_limit && is_below gfn_limit line.gfn && is_below n line.prev) (is_below n line.next) p2.0 in
-    let p4 = and_parts (is_owner version line.owner && nat_le line.share share_limit && is_below gfn_limit line.gfn) (is_below n line.prev) p3.0 in
-    let p5 = and_parts (is_owner version line.owner && nat_le line.share share_limit) (is_below gfn_limit line.gfn) p4.0 in
+    let p1 = and_parts (is_owner version line.owner && nat_le line.share share_limit && is_below (gfns_of version) line.gfn && is_below n line.prev && is_below n line.next && (length line.digest == 32)) (list_all (λ b. nat_lt b 256) line.digest) e in
+    let p2 = and_parts (is_owner version line.owner && nat_le line.share share_limit && is_below (gfns_of version) line.gfn && is_below n line.prev && is_below n line.next) (length line.digest == 32) p1.0 in
+    let p3 = and_parts (is_owner version line.owner && nat_le line.share share_limit && is_below (gfns_of version) line.gfn && is_below n line.prev) (is_below n line.next) p2.0 in
+    let p4 = and_parts (is_owner version line.owner && nat_le line.share share_limit && is_below (gfns_of version) line.gfn) (is_below n line.prev) p3.0 in
+    let p5 = and_parts (is_owner version line.owner && nat_le line.share share_limit) (is_below (gfns_of version) line.gfn) p4.0 in
     let p6 = and_parts (is_owner version line.owner) (nat_le line.share share_limit) p5.0 in
     record { owner = p6.0; share = leb-true line.share share_limit p6.1; gfn = p5.1 }
 
@@ -244,7 +244,7 @@ module _ (config : Configuration) (d : Dumped) (h : Held) (is : IsConfiguration 
         zeroed = λ free. page.zeroed (sym page.owner ∙ free);
         page = page.whole;
         slot = λ v mine. ap-slots v (owner-low d.version (line_at lines f).owner v numbers.owner (sym page.owner ∙ mine));
-        gfn = λ g at. below-of gfn_limit (line_at lines f).gfn g numbers.gfn (sym page.gfn ∙ at);
+        gfn = λ g at. rw shows.dump.version (below-of (gfns_of d.version) (line_at lines f).gfn g numbers.gfn (sym page.gfn ∙ at));
       })
     where
       ap-slots : (v : ℕ) → v < slots_of d.version → v < slots_of config.version
@@ -271,10 +271,10 @@ module _ (config : Configuration) (d : Dumped) (h : Held) (is : IsConfiguration 
         empty = λ none. empty-is vm there none (slot.empty (sym there.phase ∙ none));
       })
     where
-      roots : (k e : ℕ) → k < length (slot_dump_at d v).leaves → v < length d.slots → get_or (slot_dump_at d v).leaves k e < leaf_entries
-      roots k e lt within = let same = get_or_default (slot_dump_at d v).leaves k e 0 lt in let low = range.roots v k within lt in omega (arith, same, low)
+      roots : (k e : ℕ) → k < length (slot_dump_at d v).leaves → v < length d.slots → get_or (slot_dump_at d v).leaves k e < roots_of config.version
+      roots k e lt within = let same = get_or_default (slot_dump_at d v).leaves k e 0 lt in let low = range.roots v k within lt in let version = ap (λ version. roots_of version) shows.dump.version in omega (arith, same, low, version)
 
-      empty-is : (vm : VmSlot) → ShowsSlot (slot_dump_at d v) vm → vm.slot.phase ≡ Empty → slot_dump_at d v ≡ empty_dump → unlinked_slot vm.slot (listed (links_of h) vm.slot.frames) ≡ empty_slot
+      empty-is : (vm : VmSlot) → ShowsSlot config.version (slot_dump_at d v) vm → vm.slot.phase ≡ Empty → slot_dump_at d v ≡ empty_dump → unlinked_slot vm.slot (listed (links_of h) vm.slot.frames) ≡ empty_slot config.version
       empty-is vm there none e = λ i. record {
         phase = none i;
         vcpus = there.kept.empty_vcpus none i;

@@ -8,7 +8,8 @@ use Rattle.kc_types.specs.declared.slot.Phase.TheVariants.{Booting, Active}
 use Rattle.kc_model.specs.State.{zero_page}
 use Rattle.kc_model.specs.Lawful.{IsPage, holds}
 use Rattle.kc_page.specs.declared.page.Page.{Page}
-use Rattle.kc_vms.specs.Vm.{VmSlot, IsVm}
+use Rattle.kc_types.specs.declared.version.Version.{Version}
+use Rattle.kc_vms.specs.Vm.{VmSlot, IsSlot, capacity_of}
 use Rattle.kc_parts.specs.Parts.{Held, page_at, vm_at}
 use Rattle.kc_parts.specs.Booting.{IsWhole}
 use Rattle.kc_dump.specs.declared.line.FrameLine.{FrameLine}
@@ -26,18 +27,18 @@ pub record ShowsPage (line : FrameLine) (page : Page) : Type 0 where
   pub whole : IsPage page.bytes
 
 -- the slot is the dump's, and while it boots, the images' pages so far are mapped and nothing else
-pub record ShowsSlot (there : SlotDump) (vm : VmSlot) : Type 0 where
+pub record ShowsSlot (version : Version) (there : SlotDump) (vm : VmSlot) : Type 0 where
   pub phase : vm.slot.phase ≡ there.phase
   pub list : vm.slot.frames ≡ there.list
   pub leaves : vm.slot.leaves ≡ there.leaves
   pub entries : finite.entries vm.slot.mapped ≡ there.entries
-  pub kept : IsVm vm
+  pub kept : IsSlot version vm.slot.phase vm.slot.vcpus vm.slot.images
   pub images : vm.slot.phase ≡ Booting → (g : ℕ) → is_some (finite.get vm.slot.mapped g) ≡ list_any (holds g) vm.slot.images
 
 -- all of the configuration is here
 pub record IsReadied (config : Configuration) (h : Held) : Type 0 where
   pub whole : IsWhole config h
-  pub capacities : (v : ℕ) (vm : VmSlot) → vm_at h v ≡ Some vm → vm.capacity ≡ config.leaves
+  pub capacities : (v : ℕ) (vm : VmSlot) → vm_at h v ≡ Some vm → vm.capacity ≡ capacity_of config
 
 -- the dump is of this configuration
 pub record IsDumpOf (config : Configuration) (d : Dumped) : Type 0 where
@@ -55,5 +56,5 @@ pub record Shows (config : Configuration) (d : Dumped) (h : Held) : Type 0 where
   pub dump : IsDumpOf config d
   pub free : h.free ≡ Some d.free
   pub each_page : (f : ℕ) (page : Page) → f < config.frames → page_at h f ≡ Some page → ShowsPage (line_at d.frames f) page
-  pub each_slot : (v : ℕ) (vm : VmSlot) → v < slot_count config → vm_at h v ≡ Some vm → ShowsSlot (slot_dump_at d v) vm
+  pub each_slot : (v : ℕ) (vm : VmSlot) → v < slot_count config → vm_at h v ≡ Some vm → ShowsSlot config.version (slot_dump_at d v) vm
   pub shared : SharesInActive d

@@ -3,7 +3,7 @@ use Rattle.std.specs.Prelude.{ℕ, ◌≡◌, ◌<◌, List, length, slice_index
 use Rattle.std.specs.FinMap as finite
 use Rattle.kc_model.specs.Lawful.{IsPage}
 use Rattle.kc_page.specs.declared.page.Page.{Page}
-use Rattle.kc_vms.specs.Vm.{VmSlot}
+use Rattle.kc_vms.specs.Vm.{VmSlot, Capacity, capacity_for}
 use Rattle.kc_dump.specs.declared.line.FrameLine.{FrameLine}
 use Rattle.kc_dump.specs.Dump.{Dumped, SlotDump, slot_dump_at}
 use Rattle.kc_dump.specs.Sound.{IsSound}
@@ -26,20 +26,20 @@ page_told line bytes = record {
   bytes = bytes;
 }
 
--- the slot is as described, and its table has room for this many leaves
-pub record IsVmTold (leaves : ℕ) (slot : SlotDump) (rest : SlotRest) (vm : VmSlot) : Type 0 where
+-- the slot is as described, and was made for this
+pub record IsVmTold (capacity : Capacity) (slot : SlotDump) (rest : SlotRest) (vm : VmSlot) : Type 0 where
   pub phase : vm.slot.phase ≡ slot.phase
   pub vcpus : vm.slot.vcpus ≡ rest.vcpus
   pub images : vm.slot.images ≡ rest.images
   pub list : vm.slot.frames ≡ slot.list
   pub roots : vm.slot.leaves ≡ slot.leaves
   pub entries : finite.entries vm.slot.mapped ≡ slot.entries
-  pub room : vm.capacity ≡ leaves
+  pub room : vm.capacity ≡ capacity
 
-abbrev pub IsPlaceTold : ℕ → SlotDump → SlotRest → Option VmSlot → Type 0
-IsPlaceTold leaves slot rest (Some vm) = IsVmTold leaves slot rest vm
-IsPlaceTold leaves slot rest None = ⊥
+abbrev pub IsPlaceTold : Capacity → SlotDump → SlotRest → Option VmSlot → Type 0
+IsPlaceTold capacity slot rest (Some vm) = IsVmTold capacity slot rest vm
+IsPlaceTold capacity slot rest None = ⊥
 
 -- the slots before this one are as described
 abbrev pub AreVmsTold : Dumped → List SlotRest → List (Option VmSlot) → ℕ → Type 0
-AreVmsTold d rests vms n = (v : ℕ) → v < n → IsPlaceTold d.leaves (slot_dump_at d v) (slot_rest_at rests v) (slice_index_or vms v None)
+AreVmsTold d rests vms n = (v : ℕ) → v < n → IsPlaceTold (capacity_for d.version d.leaves) (slot_dump_at d v) (slot_rest_at rests v) (slice_index_or vms v None)

@@ -5,8 +5,9 @@ use Rattle.sha2.specs.Sha256.{sha256}
 use Rattle.kc_types.specs.Configuration.{IsConfiguration}
 use Rattle.kc_types.specs.declared.owner.Owner.TheVariants.{Free, Vm}
 use Rattle.kc_types.specs.declared.slot.Phase.TheVariants.{Booting, Active}
-use Rattle.kc_model.specs.State.{zero_page, no_vcpus}
+use Rattle.kc_model.specs.State.{zero_page}
 use Rattle.kc_model.specs.Lawful.{holds}
+use Rattle.kc_types.specs.declared.version.Version.{Version}
 use Rattle.kc_vms.specs.Vm.{IsSlot}
 use Rattle.kc_dump.specs.declared.line.FrameLine.{FrameLine}
 use Rattle.kc_dump.specs.Dump.{Dumped, SlotDump, slot_dump_at, line_at}
@@ -23,10 +24,10 @@ pub record IsSized (t : Told) : Type 0 where
   pub pages : length t.rest.pages ≡ length t.dump.frames
   pub slots : length t.rest.slots ≡ length t.dump.slots
 
--- a lawful state may have this slot, as far as one slot shows; while it boots, its table maps the images' pages so far
--- and nothing else
-pub record IsSlotOf (slot : SlotDump) (rest : SlotRest) : Type 0 where
-  pub kept : IsSlot slot.phase rest.vcpus rest.images
+-- a lawful state of this version may have this slot, as far as one slot shows; while it boots, its table maps the
+-- images' pages so far and nothing else
+pub record IsSlotOf (version : Version) (slot : SlotDump) (rest : SlotRest) : Type 0 where
+  pub kept : IsSlot version slot.phase rest.vcpus rest.images
   pub booting : slot.phase ≡ Booting → (g : ℕ) → list_any (λ (e : ℕ × ℕ). e.0 == g) slot.entries ≡ list_any (holds g) rest.images
 
 -- the digest is that of the page, a free page is zero, and only an active slot shares
@@ -36,20 +37,20 @@ pub record IsFrameOf (d : Dumped) (line : FrameLine) (bytes : List ℕ) : Type 0
   pub sharer : (v : ℕ) → line.owner ≡ Vm v → 0 < line.share → (slot_dump_at d v).phase ≡ Active
 
 abbrev pub slot_rest_at : List SlotRest → ℕ → SlotRest
-slot_rest_at rests v = slice_index_or rests v (record { vcpus = no_vcpus; images = [] })
+slot_rest_at rests v = slice_index_or rests v (record { vcpus = []; images = [] })
 
 abbrev pub page_of : List (List ℕ) → ℕ → List ℕ
 page_of pages f = slice_index_or pages f zero_page
 
 -- a lawful state may have the slots, or the frames, before this one
 abbrev pub AreSlotsOf : Dumped → List SlotRest → ℕ → Type 0
-AreSlotsOf d rests n = (v : ℕ) → v < n → IsSlotOf (slot_dump_at d v) (slot_rest_at rests v)
+AreSlotsOf d rests n = (v : ℕ) → v < n → IsSlotOf d.version (slot_dump_at d v) (slot_rest_at rests v)
 
 abbrev pub AreFramesOf : Dumped → List (List ℕ) → ℕ → Type 0
 AreFramesOf d pages n = (f : ℕ) → f < n → IsFrameOf d (line_at d.frames f) (page_of pages f)
 
 abbrev pub IsSlotTold : Told → ℕ → Type 0
-IsSlotTold t v = IsSlotOf (slot_dump_at t.dump v) (slot_rest_at t.rest.slots v)
+IsSlotTold t v = IsSlotOf t.dump.version (slot_dump_at t.dump v) (slot_rest_at t.rest.slots v)
 
 abbrev pub IsFrameTold : Told → ℕ → Type 0
 IsFrameTold t f = IsFrameOf t.dump (line_at t.dump.frames f) (page_of t.rest.pages f)

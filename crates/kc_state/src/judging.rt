@@ -14,9 +14,16 @@ use crate::unlawful::Unlawful;
 use kc_audit::{Finding, audit, audit_parallel};
 use kc_digests::{Lanes, bytes_digests};
 use kc_dumping::bytes_digests_alone;
-use kc_types::Config;
+use kc_types::{Config, Memory};
 use std::alloc::Global;
 use std::thread::Threads;
+
+/// Copies the approved digests.
+fn approved_of(told: &Told) -> Result<Vec<[u8; 32]>, Memory>
+    ensures { IfOk result (λ approved. approved.items ≡ told.now.rest.approved) }
+{
+    Ok(told.approved.clone()?)
+}
 
 /// The configuration, if there is one like this and each of its slots and frames is described.
 pub(crate) fn sized(told: &Told) -> Result<Config, Unlawful>
@@ -28,7 +35,7 @@ pub(crate) fn sized(told: &Told) -> Result<Config, Unlawful>
     if told.pages.len() != dump.frames().len() || told.slots.len() != dump.slots().len() {
         return Err(Unlawful::Sizes);
     }
-    let Ok(approved) = told.approved.clone() else {
+    let Ok(approved) = approved_of(told) else {
         return Err(Unlawful::Memory);
     };
     let frames = dump.frames().len() as u32;

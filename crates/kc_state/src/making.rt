@@ -1,9 +1,10 @@
 //! Making a core from its description.
-ghost use Rattle.std.specs.Prelude.{◌≡◌, ◌≤◌, ◌<◌, [], length, map, vec_capacity, IfOk, IfErr};
+ghost use Rattle.std.specs.Prelude.{◌≡◌, ◌≤◌, ◌<◌, ℕ, [], length, map, vec_capacity, IfOk, IfErr};
 ghost use Rattle.std.specs.List.{range_with_len};
-ghost use Rattle.kc_types.specs.Limits.{leaf_limit};
+ghost use Rattle.kc_types.specs.Limits.{leaf_limit, share_limit};
 ghost use Rattle.kc_vms.specs.Stage2.{AreMappings};
-ghost use Rattle.kc_vms.specs.Vm.{IsSlot};
+ghost use Rattle.kc_types.specs.Configuration.{roots_of};
+ghost use Rattle.kc_vms.specs.Vm.{IsSlot, capacity_for};
 ghost use Rattle.kc_dump.specs.Dump.{line_at};
 ghost use Rattle.kc_dump.specs.Sound.{IsSound};
 ghost use Rattle.kc_state.specs.Told.{config_of, told_of};
@@ -19,26 +20,32 @@ use kc_digests::Lanes;
 use kc_dump::{Dump, FrameLine, SlotDump};
 use kc_page::{Page, PageBytes, PageRecord};
 use kc_parts::Parts;
-use kc_types::{Config, Memory};
+use kc_types::{Config, MaybeFrame, MaybeGfn, Memory, OwnerCode, Version};
 use kc_vms::{Stage2, Vm};
 use std::alloc::Global;
 use std::thread::Threads;
 
-/// Makes a slot that a lawful state may have.
-fn make_slot(alloc: Global, leaves: u32, slot: &SlotDump, rest: &SlotRest) -> Result<Vm, Memory>
+/// Makes a slot that a lawful state of this version may have.
+fn make_slot(
+    alloc: Global,
+    version: Version,
+    leaves: u32,
+    slot: &SlotDump,
+    rest: &SlotRest,
+) -> Result<Vm, Memory>
     requires room { leaves ≤ leaf_limit }
-    requires kept { IsSlot slot.now.phase rest.now.vcpus rest.now.images }
-    requires mappings { AreMappings leaves slot.now.leaves slot.now.entries }
-    ensures { IfOk result (IsVmTold leaves slot.now rest.now) }
+    requires kept { IsSlot version slot.now.phase rest.now.vcpus rest.now.images }
+    requires mappings { AreMappings (roots_of version) leaves slot.now.leaves slot.now.entries }
+    ensures { IfOk result (IsVmTold (capacity_for version leaves) slot.now rest.now) }
 {
-    let table = Stage2::with_entries(alloc, leaves as u8, slot.leaves(), slot.entries())?;
-    let mut vcpus = ArrayVec::new();
-    vcpus.try_extend_from_slice(rest.vcpus.as_slice()).unwrap();
+    let table = Stage2::with_entries(alloc, version, leaves, slot.leaves(), slot.entries())?;
+    let vcpus = Vec::from_slice(alloc, rest.vcpus.as_slice())?;
     let mut images = ArrayVec::new();
     images
         .try_extend_from_slice(rest.images.as_slice())
         .unwrap();
-    Ok(Vm::with(slot.phase(), vcpus, images, *slot.list(), table))
+    let phase = slot.phase();
+    Ok(Vm::with(version, phase, vcpus, images, *slot.list(), table))
 }
 
 /// Makes all slots.
@@ -50,8 +57,9 @@ fn make_slots(alloc: Global, dump: &Dump, rests: &[SlotRest]) -> Result<Vec<Opti
     ensures each { IfOk result (λ vms. AreVmsTold dump.now rests.now vms.items (length dump.now.slots)) }
 {
     let mut vms = Vec::with_capacity(alloc, dump.slots().len())?;
+    let version = dump.version();
     for vm in 0..dump.slots().len() {
-        let made = make_slot(alloc, dump.leaves(), &dump.slots()[vm], &rests[vm])?;
+        let made = make_slot(alloc, version, dump.leaves(), &dump.slots()[vm], &rests[vm])?;
         vms.push(Some(made))?;
     }
     Ok(vms)
@@ -59,15 +67,16 @@ fn make_slots(alloc: Global, dump: &Dump, rests: &[SlotRest]) -> Result<Vec<Opti
 
 /// Makes the page of these bytes, with the record that the dump shows.
 fn make_page(line: &FrameLine, bytes: PageBytes) -> Page
+    requires { line.now.share ≤ share_limit }
     ensures { result ≡ page_told line.now bytes }
 {
     let meta = PageRecord {
-        owner: line.owner,
-        share: line.share,
-        gfn: line.gfn,
+        owner: OwnerCode::of(line.owner),
+        share: line.share as u8,
         present: line.present,
-        prev: line.prev,
-        next: line.next,
+        gfn: MaybeGfn::of(line.gfn),
+        prev: MaybeFrame::of(line.prev),
+        next: MaybeFrame::of(line.next),
     };
     Page { meta, bytes }
 }
@@ -77,6 +86,7 @@ fn make_pages(lines: &[FrameLine], bytes: Vec<PageBytes>, mut pages: Vec<Page>) 
     requires count { length bytes.items ≡ length lines.now }
     requires none { pages.items ≡ [] }
     requires room { length lines.now ≤ vec_capacity pages }
+    requires shares { (f : ℕ) → f < length lines.now → (line_at lines.now f).share ≤ share_limit }
     ensures { result.items ≡ map (λ f. page_told (line_at lines.now f) (page_of bytes.items f)) (range_with_len 0 (length lines.now)) }
 {
     let mut rest = bytes.into_iter();

@@ -8,7 +8,7 @@ ghost use Rattle.kc_state.specs.Unlawful.{IsSlotOf, AreSlotsOf, slot_rest_at};
 
 use crate::told::SlotRest;
 use kc_dump::{Dump, SlotDump};
-use kc_types::{FrameNo, Gfn, Image, Phase};
+use kc_types::{FrameNo, Gfn, Image, Phase, Version};
 use kc_vms::is_slot;
 
 /// Whether the guest frame is one of the image's pages so far.
@@ -80,16 +80,17 @@ fn maps_images(entries: &[(Gfn, FrameNo)], images: &[Image]) -> bool
 }
 
 /// Whether a lawful state may have this slot, as far as the slot itself shows.
-fn is_slot_of(slot: &SlotDump, rest: &SlotRest) -> bool
-    ensures { IsTrue result ↔ IsSlotOf slot.now rest.now }
+fn is_slot_of(version: Version, slot: &SlotDump, rest: &SlotRest) -> bool
+    ensures { IsTrue result ↔ IsSlotOf version slot.now rest.now }
 {
-    if !is_slot(slot.phase(), rest.vcpus.as_slice(), rest.images.as_slice()) {
+    let (vcpus, images) = (rest.vcpus.as_slice(), rest.images.as_slice());
+    if !is_slot(version, slot.phase(), vcpus, images) {
         return false;
     }
     if slot.phase() != Phase::Booting {
         return true;
     }
-    maps_images(slot.entries(), rest.images.as_slice())
+    maps_images(slot.entries(), images)
 }
 
 /// The first slot that no lawful state has.
@@ -97,10 +98,10 @@ pub(crate) fn first_wrong_slot(dump: &Dump, rests: &[SlotRest]) -> Option<u32>
     requires { length rests.now ≡ length dump.now.slots }
     ensures range { IsDump dump.now }
     ensures none { result ≡ None → AreSlotsOf dump.now rests.now (length dump.now.slots) }
-    ensures some { IfSome result (λ v. (v < length dump.now.slots) × AreSlotsOf dump.now rests.now v × (IsSlotOf (slot_dump_at dump.now v) (slot_rest_at rests.now v) → ⊥)) }
+    ensures some { IfSome result (λ v. (v < length dump.now.slots) × AreSlotsOf dump.now rests.now v × (IsSlotOf dump.now.version (slot_dump_at dump.now v) (slot_rest_at rests.now v) → ⊥)) }
 {
     for vm in 0..dump.slots().len() {
-        if !is_slot_of(&dump.slots()[vm], &rests[vm]) {
+        if !is_slot_of(dump.version(), &dump.slots()[vm], &rests[vm]) {
             return Some(vm as u32);
         }
     }

@@ -2,14 +2,14 @@
 use arrayvec::ArrayVec;
 use kc_dump::Dump;
 use kc_page::PageBytes;
-use kc_types::{IMAGE_LIMIT, Image, VCPU_LIMIT, Vcpu};
+use kc_types::{FIRST_IMAGE_LIMIT, FIRST_VCPU_LIMIT, Image, Vcpu};
 use std::marker::Model;
 
 /// What a dump leaves out of a slot: its 8 virtual processors, registered or not, and its boot images, at most 4.
 #[derive(Drop)]
 pub struct SlotRest {
-    pub vcpus: ArrayVec<Vcpu, VCPU_LIMIT>,
-    pub images: ArrayVec<Image, IMAGE_LIMIT>,
+    pub vcpus: ArrayVec<Vcpu, FIRST_VCPU_LIMIT>,
+    pub images: ArrayVec<Image, FIRST_IMAGE_LIMIT>,
 }
 
 impl Model for SlotRest {

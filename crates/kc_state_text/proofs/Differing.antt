@@ -1,5 +1,5 @@
 -- Where texts differ that are compared a piece at a time.
-use Rattle.std.proofs.Common.{ℕ, ◌≡◌, ◌≢◌, ◌<◌, ◌≤◌, ◌+◌, List, [], ◌∷◌, ◌++◌, length, take, get_or, inl, inr, refl, sym, ap, ◌∙◌, arith, append-nil}
+use Rattle.std.proofs.Common.{ℕ, ◌≡◌, ◌≢◌, ◌<◌, ◌≤◌, ◌+◌, List, [], ◌∷◌, ◌++◌, length, take, get_or, inl, inr, sym, ap, ◌∙◌, arith}
 use Rattle.std.proofs.lemmas.Bool.{cases_lt}
 use Rattle.std.proofs.lemmas.List.{append_cancel_left, take-append-le, take_all, take_more, length-take-le}
 use Rattle.std.proofs.Math.Seq.{take-append-add}
@@ -35,8 +35,3 @@ part-later front text other n h =
       same = take-append-add front text n ∙ ap (λ rest. front ++ rest) h.same ∙ sym (take-append-add front other n);
       apart = λ e. h.apart (append_cancel_left front _ _ (sym (take-append-add front text (n + 1)) ∙ (rw further at e) ∙ take-append-add front other (n + 1)));
     }
-
--- a text with more bytes differs after the end of the other
-pub part-past : (text : List ℕ) → text ≢ [] → PartAfter 0 text []
-part-past [] some = absurd (some refl)
-part-past (x ∷ text) some = record { same = refl; apart = λ e. cc }

@@ -130,17 +130,6 @@ front-short text rest f b =
     let l5 = length-append (flat_map slot_line f.slots) (flat_map page_line f.pages) in
     omega (arith, a, s, p, z, w, l1, l2, l3, l4, l5)
 
--- why reading the lines stops is why the text is not a state's
-pub front-refused : (text : List ℕ) (fault : StateFault) → IsFrontFault text fault → IsRefusedState text fault
-front-refused text NoHeader w = absurd w
-front-refused text (BadLine n) w = inl w
-front-refused text (Missing f) w = absurd w
-front-refused text Sizes w = absurd w
-front-refused text (Found finding) w = absurd w
-front-refused text (Slot v) w = absurd w
-front-refused text (Frame f) w = absurd w
-front-refused text Memory w = w
-
 -- ---- the dump
 
 many : (lines : List DumpLine) → length lines ≤ length (flat_map spell lines)

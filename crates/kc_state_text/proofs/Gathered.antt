@@ -1,9 +1,9 @@
 -- Things that were taken from the words of a line, one after another.
 use Rattle.std.proofs.Common.{ℕ, zero, suc, ◌≡◌, ◌<◌, ◌≤◌, ◌+◌, List, [], ◌∷◌, ◌++◌, length, All, refl, sym, ap, ◌∙◌, append_assoc, arith}
 use Rattle.std.specs.List.{flat_map}
-use Rattle.std.proofs.lemmas.List.{append-nil, length-map, map-append}
+use Rattle.std.proofs.lemmas.List.{append-nil, length-map}
 use Rattle.std.proofs.lemmas.Grind.{flat_map-append}
-use Rattle.kc_types.specs.Limits.{vcpu_limit, image_limit}
+use Rattle.kc_types.specs.Limits.{first_vcpu_limit, first_image_limit}
 use Rattle.kc_model.specs.State.{Vcpu, Image}
 use Rattle.kc_state_text.specs.StateText.{vcpu_word, vcpu_words, image_words, vcpus_words, images_words, slot_words}
 use Rattle.kc_state_text.specs.Refused.{IsVcpuWord, AreImageWords, IsSlotLine}
@@ -43,14 +43,8 @@ mapped : (vcpus : List Vcpu) → vcpus_words vcpus ≡ flat_map vcpu_words vcpus
 mapped [] = refl
 mapped (v ∷ vs) = ap (λ ws. vcpu_word v ∷ ws) (mapped vs)
 
--- one more
-pub vcpus-more : (vcpus : List Vcpu) (vcpu : Vcpu) (words rest more : List (List ℕ)) → words ≡ vcpus_words vcpus ++ rest → rest ≡ vcpu_words vcpu ++ more → words ≡ vcpus_words (vcpus ++ vcpu ∷ []) ++ more
-vcpus-more vcpus vcpu words rest more e f =
-    e ∙ ap (λ (ws : List (List ℕ)). vcpus_words vcpus ++ ws) f ∙ sym (append_assoc (vcpus_words vcpus) (vcpu_words vcpu) more)
-    ∙ ap (λ (ws : List (List ℕ)). ws ++ more) (sym (map-append vcpu_word vcpus (vcpu ∷ [])))
-
 -- there are too few
-pub vcpus-lack : (vcpus : List Vcpu) (words rest : List (List ℕ)) → All IsVcpuWord vcpus → length vcpus < vcpu_limit → words ≡ vcpus_words vcpus ++ rest → LacksFirst IsVcpuWord vcpu_words rest → LacksFirst AreVcpus vcpus_words words
+pub vcpus-lack : (vcpus : List Vcpu) (words rest : List (List ℕ)) → All IsVcpuWord vcpus → length vcpus < first_vcpu_limit → words ≡ vcpus_words vcpus ++ rest → LacksFirst IsVcpuWord vcpu_words rest → LacksFirst AreVcpus vcpus_words words
 vcpus-lack vcpus words rest all few e lacks others more are is =
     let eight = are.eight in
     let r = left-of IsVcpuWord vcpu_words one-word vcpus others rest more all are.each (omega (arith, few, eight))
@@ -90,7 +84,7 @@ images-lack images words rest all some e lacks others are is = let r = goes-on i
     by_rest (x ∷ xs) each whole = lacks x (flat_map image_words xs ++ []) (head-of AreImageWords x xs each) (whole ∙ append_assoc (image_words x) (flat_map image_words xs) [])
 
 -- there may not be a fifth one
-pub images-many : (images : List Image) (words rest : List (List ℕ)) → All AreImageWords images → (rest ≡ [] → ⊥) → length images ≡ image_limit → words ≡ images_words images ++ rest → LacksWhole AreImages images_words words
+pub images-many : (images : List Image) (words rest : List (List ℕ)) → All AreImageWords images → (rest ≡ [] → ⊥) → length images ≡ first_image_limit → words ≡ images_words images ++ rest → LacksWhole AreImages images_words words
 images-many images words rest all some full e others are is = let r = goes-on images others words rest all are.each e is in by_rest r.rest r.long r.whole
   where
     by_rest : (left : List Image) → length others ≡ length images + length left → rest ≡ flat_map image_words left ++ [] → ⊥
@@ -109,9 +103,6 @@ no-images name words first second vcpus e begins lacks slot is g =
     let eight = begins.is.eight in
     let there = is.vcpus in
     lacks slot.images (record { few = is.few_images; each = is.each_image }) (append-same (vcpus_words vcpus) (vcpus_words slot.vcpus) second (images_words slot.images) (omega (arith, long, other, eight, there)) same).1
-
-pub no-vcpus : (name : List ℕ) (words first : List (List ℕ)) → words ≡ name ∷ first → LacksFirst AreVcpus vcpus_words first → LacksWhole IsSlotLine (after_name name slot_words) words
-no-vcpus name words first e lacks slot is g = lacks slot.vcpus (images_words slot.images) (record { eight = is.vcpus; each = is.each_vcpu }) (rest-same name name first (slot_words slot) (sym e ∙ g))
 
 pub slot-read : (name : List ℕ) (words first second : List (List ℕ)) (vcpus : List Vcpu) (images : List Image) → words ≡ name ∷ first → BeginsAs AreVcpus vcpus_words first vcpus second → IsWhole AreImages images_words second images
     → IsWhole IsSlotLine (after_name name slot_words) words (record { vcpus = vcpus; images = images })

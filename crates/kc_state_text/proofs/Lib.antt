@@ -1,3 +1,4 @@
+mod Limits
 mod Lines
 mod Spelled
 mod Gathered

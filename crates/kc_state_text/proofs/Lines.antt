@@ -9,7 +9,7 @@ use Rattle.kc_lines.specs.Lines.{IsOneLine}
 use Rattle.kc_lines.proofs.Words.{is_space, is_word, split_join, join_is_one_line}
 use Rattle.kc_dump_text.specs.DumpText.{spaced, line}
 use Rattle.kc_trace.proofs.Newlines.{cut-same, no-newline}
-use Rattle.kc_state_text.specs.Words.{words_in}
+use Rattle.kc_trace.specs.HeadReading.{words_in}
 use Rattle.kc_state_text.specs.Reading.{LacksWhole, BeginsAs, IsWhole, after_name}
 use Rattle.kc_state_text.specs.Refused.{HasNone}
 

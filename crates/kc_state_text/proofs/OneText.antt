@@ -4,18 +4,15 @@ use Rattle.std.specs.Prelude.{codes}
 use Rattle.std.specs.List.{flat_map}
 use Rattle.std.proofs.lemmas.List.{length-map, get_or_default}
 use Rattle.std.proofs.lemmas.List.Elements.{All-map}
-use Rattle.kc_types.specs.Limits.{byte_limit, slot_limit}
-use Rattle.kc_types.specs.Configuration.{Configuration, slot_count}
+use Rattle.kc_types.specs.Limits.{byte_limit}
 use Rattle.kc_types.specs.declared.owner.Owner.TheVariants.{Core}
-use Rattle.kc_model.proofs.States.Configurations.{few-frames}
-use Rattle.kc_model.specs.State.{State, Frame, Slot, Vcpu, slot_at, untouched, empty_slot, absent_vcpu}
+use Rattle.kc_model.specs.State.{State, Frame, Slot, Vcpu, slot_at, untouched, no_slot, absent_vcpu}
 use Rattle.kc_model.specs.Lawful.{IsLawful, IsPage, IsLawfulSlot}
 use Rattle.kc_dump_text.specs.declared.fault.DumpFault.{DumpFault}
 use Rattle.kc_dump_text.specs.declared.fault.DumpFault.TheVariants as dump
 use Rattle.kc_dump_text.specs.DumpText.{dump_text}
 use Rattle.kc_dump_text.specs.Grammar.{IsDumpText}
 use Rattle.kc_dump_text.specs.Refused.{IsRefusedDump}
-use Rattle.kc_dump_text.proofs.Limits.{few-slots}
 use Rattle.kc_dump_text.proofs.Followed.{one-dump, not-refused}
 use Rattle.kc_dumping.specs.Dumping.{dump_of}
 use Rattle.kc_state.specs.Told.{Told, SlotRest, slot_rest, rest_of, told_of}
@@ -29,6 +26,7 @@ use Rattle.kc_state_text.specs.declared.fault.StateFault.TheVariants.{NoHeader, 
 use Rattle.kc_model.specs.Volumes.{IsDigest, IsCoreState}
 use Rattle.kc_state_text.specs.StateText.{Front, state_header, sizes_words, sizes_line, approved_words, approved_line, slot_words, slot_line, page_words, page_line, front_text, front_of, state_text}
 use Rattle.kc_state_text.specs.Refused.{AreSizes, IsVcpuWord, IsSlotLine, IsFront, IsWholeFront, LacksLine, StopsBefore, StopsWithin, IsDumpFault, IsTextOf, TellsNone, IsRefusedState}
+use Rattle.kc_state_text.proofs.Limits.{few-frames, few-slots, vcpus-of, few-gfns, few-images, few-bytes}
 use Rattle.kc_state_text.proofs.Spelled.{sizes-are-words, sizes-same, approved-are-words, approved-same, slot-are-words, slot-same, page-are-words, page-same}
 use Rattle.kc_state_text.proofs.Followed.{first-same, lines-same, lines-go-on}
 
@@ -107,13 +105,13 @@ front-goes-on f g c d x y w e lacks = by_kind lacks
 module _ (m : State) (is : IsCoreState m) where
   slot-fits : (slot : Slot) → IsLawfulSlot m.config slot → IsSlotLine (slot_rest slot)
   slot-fits slot l = record {
-    vcpus = l.vcpus;
-    each_vcpu = λ k d lt. (let here = l.each_vcpu k in let same = get_or_default slot.vcpus k d absent_vcpu lt in subst IsVcpuWord (sym same) (record { absent = vcpu-absent (get_or slot.vcpus k absent_vcpu) here.registered; gfn = here.gfn }));
-    few_images = l.few_images;
+    vcpus = l.vcpus ∙ vcpus-of m.config.version;
+    each_vcpu = λ k d lt. (let here = l.each_vcpu k in let same = get_or_default slot.vcpus k d absent_vcpu lt in subst IsVcpuWord (sym same) (record { absent = vcpu-absent (get_or slot.vcpus k absent_vcpu) here.registered; gfn = λ g at. (let low = here.gfn g at in omega (arith, low, few-gfns m.config.version)) }));
+    few_images = let few = l.few_images in omega (arith, few, few-images m.config.version);
     each_image = λ k d lt. (let image = l.each_image k d lt in let within = image.within in let small = image.small in let pages = image.pages in record {
-      base = omega (arith, within);
-      len = omega (arith, small);
-      pages = omega (arith, pages, within);
+      base = omega (arith, within, few-gfns m.config.version);
+      len = omega (arith, small, few-bytes m.config.version);
+      pages = omega (arith, pages, within, few-gfns m.config.version);
     });
   }
     where
@@ -125,7 +123,7 @@ module _ (m : State) (is : IsCoreState m) where
           by_fault (Some g) is = (let yes = fits g is in let clash : true ≡ false = sym yes ∙ off in absurd cc)
 
   pub slots-fit : All IsSlotLine (map slot_rest m.slots)
-  slots-fit = All-map IsSlotLine slot_rest m.slots (λ k d lt. subst (λ slot. IsSlotLine (slot_rest slot)) (sym (get_or_default m.slots k d empty_slot lt)) (slot-fits (slot_at m k) (is.lawful.each_slot k (rw is.lawful.slots at lt))))
+  slots-fit = All-map IsSlotLine slot_rest m.slots (λ k d lt. subst (λ slot. IsSlotLine (slot_rest slot)) (sym (get_or_default m.slots k d no_slot lt)) (slot-fits (slot_at m k) (is.lawful.each_slot k (rw is.lawful.slots at lt))))
 
   pub pages-fit : All IsPage (map (λ (frame : Frame). frame.bytes) m.frames)
   pages-fit = All-map IsPage (λ (frame : Frame). frame.bytes) m.frames (λ k d lt. subst (λ (frame : Frame). IsPage frame.bytes) (sym (get_or_default m.frames k d (untouched Core) lt)) (is.lawful.each_frame k lt).page)
@@ -133,14 +131,10 @@ module _ (m : State) (is : IsCoreState m) where
   abbrev state-front : Front
   state-front = front_of (rest_of m)
 
-  few-of : (config : Configuration) → slot_count config ≤ slot_limit
-  unfolding slot_count
-  few-of config = few-slots config.version
-
   front-is : IsFront state-front
   front-is = record {
     sizes = record {
-      slots = (let a = length-map m.slots slot_rest in let b = is.lawful.slots in let c = few-of m.config in omega (arith, a, b, c));
+      slots = (let a = length-map m.slots slot_rest in let b = is.lawful.slots in let c = few-slots m.config in omega (arith, a, b, c));
       frames = (let a = length-map m.frames (λ (frame : Frame). frame.bytes) in let b = is.lawful.frames in let c = few-frames m.config is.lawful.config in omega (arith, a, b, c));
       host = (let a = few-frames m.config is.lawful.config in let b = is.lawful.config.within in omega (arith, a, b));
       approved = is.lawful.config.few_digests;

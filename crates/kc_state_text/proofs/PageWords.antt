@@ -14,10 +14,10 @@ use Rattle.kc_lines.specs.Words.{is_lower_digit, data_of}
 use Rattle.kc_lines.proofs.Digits.{data_of-encode_lower, no_digits}
 use Rattle.kc_lines.proofs.Words.{name_is}
 use Rattle.kc_state_text.specs.StateText.{is_zero, page_word, page_words, page_line}
-use Rattle.kc_state_text.specs.Words.{words_in}
 use Rattle.kc_state_text.proofs.Lines.{begins}
 use Rattle.kc_state_text.specs.Reading.{LacksWhole, IsWhole, BeginsAs, after_name, AreDigits}
 use Rattle.kc_state_text.proofs.Spelled.{tail-of, zeros-same, page-are-words, data-page, page-undashed, digits-same}
+use Rattle.kc_trace.specs.HeadReading.{words_in}
 
 zeros-blank : (n : ℕ) → is_zero (replicate n 0) ≡ true
 zeros-blank zero = refl

@@ -1,6 +1,7 @@
 -- Texts of states with a position, and without one.
 use Rattle.std.proofs.Common.{ℕ, ◌≡◌, ◌≤◌, List, [], ◌∷◌, ◌++◌, length, get_or, drop, Option, Some, None, refl, sym, ap, ◌∙◌, append_assoc, arith, length-append}
 use Rattle.std.specs.Prelude.{IfSome}
+use Rattle.std.proofs.lemmas.Option.{same_Some}
 use Rattle.kc_lines.specs.Lines.{IsOneLine}
 use Rattle.kc_trace.specs.declared.header.Position.{Position}
 use Rattle.kc_trace.specs.Header.{IsPosition, position_line}
@@ -16,16 +17,13 @@ use Rattle.kc_trace.proofs.Newlines.{cut-same}
 volume-cut : (position : Position) (more : List ℕ) → volume_line position ++ more ≡ position_line position ++ 10 ∷ more
 volume-cut position more = append_assoc (position_line position) (10 ∷ []) more
 
-none-some : {X : Type 0} (x : X) → None ≡ Some x → ⊥
+pub none-some : {X : Type 0} (x : X) → None ≡ Some x → ⊥
 none-some x e = cc
-
-some-same : {X : Type 0} (x y : X) → Some x ≡ Some y → x ≡ y
-some-same x y e = cc
 
 pub volumes-same : (p q : Position) (a b : List ℕ) → IsPosition p → IsPosition q → volume_line p ++ a ≡ volume_line q ++ b → (p ≡ q) × (a ≡ b)
 volumes-same p q a b is-p is-q e =
     let both = cut-same (position_line p) (position_line q) a b (position_fits p is-p).0 (position_fits q is-q).0 (sym (volume-cut p a) ∙ e ∙ volume-cut q b) in
-    (some-same p q (sym (position_again p is-p) ∙ ap (λ l. position_in (words_in l)) both.0 ∙ position_again q is-q), both.1)
+    (same_Some p q (sym (position_again p is-p) ∙ ap (λ l. position_in (words_in l)) both.0 ∙ position_again q is-q), both.1)
 
 -- a text whose first line is not read as such a line begins with none
 pub no-volume : (text line rest : List ℕ) → IsOneLine line → text ≡ line ++ 10 ∷ rest → position_in (words_in line) ≡ None → HasNone IsPosition volume_line text

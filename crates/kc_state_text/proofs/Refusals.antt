@@ -1,12 +1,9 @@
 -- Why a text describes no lawful state.
-use Rattle.std.proofs.Common.{ℕ, ◌≡◌, List, All, sym, ap, subst}
-use Rattle.kc_model.specs.State.{State}
-use Rattle.kc_model.specs.Lawful.{IsLawful}
-use Rattle.kc_state.specs.Told.{Told, told_of}
+use Rattle.std.proofs.Common.{ℕ, ◌≡◌, List}
+use Rattle.kc_state.specs.Told.{Told}
 use Rattle.kc_state.specs.Unlawful.{IsUnlawful}
 use Rattle.kc_state.specs.declared.unlawful.Unlawful.{Unlawful}
 use Rattle.kc_state.specs.declared.unlawful.Unlawful.TheVariants.{Sizes, Found, Slot, Frame, Memory}
-use Rattle.kc_model.specs.Volumes.{IsDigest, IsCoreState}
 use Rattle.kc_state_text.specs.Faults.{unlawful_fault}
 use Rattle.kc_state_text.specs.Refused.{IsTextOf, IsRefusedState}
 
@@ -16,6 +13,3 @@ unlawful-refused text t (Found finding) told un = (t, told, un)
 unlawful-refused text t (Slot v) told un = (t, told, un)
 unlawful-refused text t (Frame f) told un = (t, told, un)
 unlawful-refused text t Memory told un = tt
-
-pub core-state : (text : List ℕ) (t : Told) (m : State) → IsTextOf text t → told_of m ≡ t → IsLawful m → IsCoreState m
-core-state text t m told same lawful = record { lawful = lawful; digests = subst (λ (digests : List (List ℕ)). All IsDigest digests) (ap (λ (t : Told). t.rest.approved) (sym same)) told.front.approved }

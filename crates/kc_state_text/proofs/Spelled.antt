@@ -6,9 +6,10 @@ use Rattle.std.specs.Fmt.{decimal}
 use Rattle.std.specs.Str.{bytes_eq}
 use Rattle.std.proofs.lemmas.Bool.{and_parts, and_from, eqb-true, ltb-true}
 use Rattle.std.proofs.lemmas.List.{length-map}
+use Rattle.std.proofs.lemmas.Option.{same_Some}
 use Rattle.hex.specs.Hex.{encode_lower}
 use Rattle.kc_types.specs.Bytes.{IsData}
-use Rattle.kc_types.specs.Limits.{frame_limit, slot_limit, gfn_limit, digest_limit}
+use Rattle.kc_types.specs.Limits.{second_frame_limit, second_slot_limit, first_gfn_limit, digest_limit}
 use Rattle.kc_model.specs.State.{Vcpu, Image}
 use Rattle.kc_model.specs.Lawful.{IsPage}
 use Rattle.kc_lines.specs.Words.{number_in, data_of, digest_in}
@@ -57,19 +58,16 @@ append-same (x ∷ xs) (y ∷ ys) cs ds long e =
 pub rest-same : {X : Type 0} (x y : X) (xs ys : List X) → x ∷ xs ≡ y ∷ ys → xs ≡ ys
 rest-same x y xs ys e = cc
 
-some-same : {X : Type 0} (x y : X) → Some x ≡ Some y → x ≡ y
-some-same x y e = cc
-
 -- ---- words
 
 pub decimal-same : (a b : ℕ) → a < 2 ^ 32 → b < 2 ^ 32 → decimal a ≡ decimal b → a ≡ b
-decimal-same a b x y e = some-same a b (sym (number_of-decimal a x) ∙ ap number_in e ∙ number_of-decimal b y)
+decimal-same a b x y e = same_Some a b (sym (number_of-decimal a x) ∙ ap number_in e ∙ number_of-decimal b y)
 
 few-same : (most : ℕ) → most < 2 ^ 32 → (a b : ℕ) → a ≤ most → b ≤ most → decimal a ≡ decimal b → a ≡ b
 few-same most low a b x y e = decimal-same a b (omega (arith, low, x)) (omega (arith, low, y)) e
 
 pub digits-same : (a b : List ℕ) → IsData a → IsData b → encode_lower a ≡ encode_lower b → a ≡ b
-digits-same a b x y e = some-same a b (sym (data_of-encode_lower a x) ∙ ap data_of e ∙ data_of-encode_lower b y)
+digits-same a b x y e = same_Some a b (sym (data_of-encode_lower a x) ∙ ap data_of e ∙ data_of-encode_lower b y)
 
 no-number-dash : number_in (codes "-") ≡ None
 unfolding number_in
@@ -97,9 +95,9 @@ sizes-same a b x y e =
     let host : decimal a.host ≡ decimal b.host = cc in
     let approved : decimal a.approved ≡ decimal b.approved = cc in
     λ i. record {
-      slots = few-same slot_limit (omega arith) a.slots b.slots x.slots y.slots slots i;
-      frames = few-same frame_limit (omega arith) a.frames b.frames x.frames y.frames frames i;
-      host = few-same frame_limit (omega arith) a.host b.host x.host y.host host i;
+      slots = few-same second_slot_limit (omega arith) a.slots b.slots x.slots y.slots slots i;
+      frames = few-same second_frame_limit (omega arith) a.frames b.frames x.frames y.frames frames i;
+      host = few-same second_frame_limit (omega arith) a.host b.host x.host y.host host i;
       approved = few-same digest_limit (omega arith) a.approved b.approved x.approved y.approved approved i;
     }
 
@@ -161,13 +159,13 @@ unnamed n text lt none = by_test (bytes_eq (decimal n) text) refl
     by_test true h = (let same : decimal n ≡ text = name_is _ _ h in let some : number_in text ≡ Some n = rw same at (number_of-decimal n lt) in absurd cc)
     by_test false h = h
 
-waiting-to : (f : Option ℕ) → ((g : ℕ) → f ≡ Some g → g < gfn_limit) → vcpu_in (fault_word f) ≡ Some (waiting f)
+waiting-to : (f : Option ℕ) → ((g : ℕ) → f ≡ Some g → g < first_gfn_limit) → vcpu_in (fault_word f) ≡ Some (waiting f)
 unfolding vcpu_in
 waiting-to None x = refl
 waiting-to (Some g) x =
     let low = x g refl in
     let small : g < 2 ^ 32 = omega (arith, low) in
-    rw (unnamed g (codes "-") small no-number-dash, unnamed g (codes ".") small no-number-dot, number_of-decimal g small, under-to gfn_limit g low) refl
+    rw (unnamed g (codes "-") small no-number-dash, unnamed g (codes ".") small no-number-dot, number_of-decimal g small, under-to first_gfn_limit g low) refl
 
 -- a virtual processor's word is read
 pub vcpu-to : (vcpu : Vcpu) → IsVcpuWord vcpu → vcpu_in (vcpu_word vcpu) ≡ Some vcpu
@@ -178,10 +176,10 @@ vcpu-to vcpu is = by_test vcpu.registered refl
     by_test true p = waiting-to vcpu.fault is.gfn ∙ (λ i. Some (record { registered = sym p i; fault = vcpu.fault }))
     by_test false p = λ i. Some (record { registered = sym p i; fault = sym (is.absent p) i })
 
-under-below : (n m : ℕ) → under gfn_limit n ≡ Some m → m < gfn_limit
+under-below : (n m : ℕ) → under first_gfn_limit n ≡ Some m → m < first_gfn_limit
 under-below n m e =
-    elim (chosen (nat_lt n gfn_limit) (Some n) None (Some m) e) [
-      | inl h ↦ let low = ltb-true n gfn_limit h.0 in let same : n ≡ m = some-same n m h.1 in omega (arith, low, same)
+    elim (chosen (nat_lt n first_gfn_limit) (Some n) None (Some m) e) [
+      | inl h ↦ let low = ltb-true n first_gfn_limit h.0 in let same : n ≡ m = same_Some n m h.1 in omega (arith, low, same)
       | inr h ↦ absurd cc
     ]
 
@@ -189,16 +187,16 @@ under-below n m e =
 pub vcpu-from : (word : List ℕ) (vcpu : Vcpu) → vcpu_in word ≡ Some vcpu → IsVcpuWord vcpu × (word ≡ vcpu_word vcpu)
 unfolding vcpu_in
 vcpu-from word vcpu e =
-    elim (chosen (bytes_eq word (codes "-")) (Some (record { registered = false; fault = None })) (cond (bytes_eq word (codes ".")) (Some (waiting None)) (option_map (λ g. waiting (Some g)) (below_of gfn_limit word))) (Some vcpu) e) [
-      | inl h ↦ subst (λ v. IsVcpuWord v × (word ≡ vcpu_word v)) (some-same _ _ h.1) (record { absent = λ p. refl; gfn = λ g p. absurd cc }, name_is word (codes "-") h.0)
-      | inr h ↦ elim (chosen (bytes_eq word (codes ".")) (Some (waiting None)) (option_map (λ g. waiting (Some g)) (below_of gfn_limit word)) (Some vcpu) h.1) [
-        | inl k ↦ subst (λ v. IsVcpuWord v × (word ≡ vcpu_word v)) (some-same _ _ k.1) (record { absent = λ p. refl; gfn = λ g p. absurd cc }, name_is word (codes ".") k.0)
+    elim (chosen (bytes_eq word (codes "-")) (Some (record { registered = false; fault = None })) (cond (bytes_eq word (codes ".")) (Some (waiting None)) (option_map (λ g. waiting (Some g)) (below_of first_gfn_limit word))) (Some vcpu) e) [
+      | inl h ↦ subst (λ v. IsVcpuWord v × (word ≡ vcpu_word v)) (same_Some _ _ h.1) (record { absent = λ p. refl; gfn = λ g p. absurd cc }, name_is word (codes "-") h.0)
+      | inr h ↦ elim (chosen (bytes_eq word (codes ".")) (Some (waiting None)) (option_map (λ g. waiting (Some g)) (below_of first_gfn_limit word)) (Some vcpu) h.1) [
+        | inl k ↦ subst (λ v. IsVcpuWord v × (word ≡ vcpu_word v)) (same_Some _ _ k.1) (record { absent = λ p. refl; gfn = λ g p. absurd cc }, name_is word (codes ".") k.0)
         | inr k ↦
-            let r = map_some (λ g. waiting (Some g)) (below_of gfn_limit word) vcpu k.1 in
-            let n = then_some (under gfn_limit) (number_in word) r.0 r.1 in
-            let same : n.0 ≡ r.0 = under-from gfn_limit n.0 r.0 n.2 in
+            let r = map_some (λ g. waiting (Some g)) (below_of first_gfn_limit word) vcpu k.1 in
+            let n = then_some (under first_gfn_limit) (number_in word) r.0 r.1 in
+            let same : n.0 ≡ r.0 = under-from first_gfn_limit n.0 r.0 n.2 in
             subst (λ v. IsVcpuWord v × (word ≡ vcpu_word v)) r.2
-            (record { absent = λ p. absurd cc; gfn = λ g p. subst (λ n. n < gfn_limit) (some-same _ _ p) (under-below n.0 r.0 n.2) }, number-from word n.0 n.1 ∙ ap decimal same)
+            (record { absent = λ p. absurd cc; gfn = λ g p. subst (λ n. n < first_gfn_limit) (same_Some _ _ p) (under-below n.0 r.0 n.2) }, number-from word n.0 n.1 ∙ ap decimal same)
       ]
     ]
 

@@ -6,7 +6,7 @@ use Rattle.hex.specs.Hex.{lower_digits}
 use Rattle.hex.proofs.HexLemmas.{length-encode_with}
 use Rattle.std.specs.Fmt.{decimal}
 use Rattle.hex.specs.Hex.{encode_lower}
-use Rattle.kc_types.specs.Limits.{frame_limit, slot_limit, digest_limit}
+use Rattle.kc_types.specs.Limits.{second_frame_limit, second_slot_limit, digest_limit}
 use Rattle.kc_model.specs.State.{Vcpu}
 use Rattle.kc_lines.specs.Words.{number_in, digest_in}
 use Rattle.kc_lines.proofs.Words.{chosen}
@@ -19,12 +19,10 @@ use Rattle.kc_state_text.specs.StateText.{sizes_words, approved_words, vcpu_word
 use Rattle.kc_state_text.specs.Refused.{AreSizes, IsVcpuWord}
 use Rattle.kc_state_text.specs.Reading.{IsNumber, IsAtMost, number_words, after_name, LacksFirst, LacksWhole, BeginsAs, IsWhole}
 use Rattle.kc_state_text.proofs.Spelled.{decimal-same, vcpu-to, vcpu-from, approved-to, rest-same}
+use Rattle.kc_state_text.proofs.Placed.{none-some}
 
 first-same : {X : Type 0} (x y : X) (xs ys : List X) → x ∷ xs ≡ y ∷ ys → x ≡ y
 first-same x y xs ys e = cc
-
-none-some : {X : Type 0} (x : X) → None ≡ Some x → ⊥
-none-some x e = cc
 
 -- a number
 pub number-read : (found : Option ℕ) (words : List (List ℕ)) (word : List ℕ) (rest : List (List ℕ)) → words ≡ word ∷ rest → found ≡ number_in word
@@ -54,13 +52,13 @@ module _ (name : List ℕ) (words : List (List ℕ)) where
   sizes-after : (first : List (List ℕ)) (s : Sizes) → words ≡ name ∷ first → words ≡ after_name name sizes_words s → first ≡ sizes_words s
   sizes-after first s e g = rest-same name name first (sizes_words s) (sym e ∙ g)
 
-  pub no-slots : (first : List (List ℕ)) → words ≡ name ∷ first → LacksFirst (IsAtMost slot_limit) number_words first → LacksWhole AreSizes (after_name name sizes_words) words
+  pub no-slots : (first : List (List ℕ)) → words ≡ name ∷ first → LacksFirst (IsAtMost second_slot_limit) number_words first → LacksWhole AreSizes (after_name name sizes_words) words
   no-slots first e lacks s is g = lacks s.slots (decimal s.frames ∷ decimal s.host ∷ decimal s.approved ∷ []) is.slots (sizes-after first s e g)
 
-  pub no-frames : (a : ℕ) (first second : List (List ℕ)) → words ≡ name ∷ first → first ≡ decimal a ∷ second → LacksFirst (IsAtMost frame_limit) number_words second → LacksWhole AreSizes (after_name name sizes_words) words
+  pub no-frames : (a : ℕ) (first second : List (List ℕ)) → words ≡ name ∷ first → first ≡ decimal a ∷ second → LacksFirst (IsAtMost second_frame_limit) number_words second → LacksWhole AreSizes (after_name name sizes_words) words
   no-frames a first second e f lacks s is g = lacks s.frames (decimal s.host ∷ decimal s.approved ∷ []) is.frames (rest-same (decimal a) (decimal s.slots) second _ (sym f ∙ sizes-after first s e g))
 
-  pub no-host : (a b : ℕ) (first second third : List (List ℕ)) → words ≡ name ∷ first → first ≡ decimal a ∷ second → second ≡ decimal b ∷ third → LacksFirst (IsAtMost frame_limit) number_words third
+  pub no-host : (a b : ℕ) (first second third : List (List ℕ)) → words ≡ name ∷ first → first ≡ decimal a ∷ second → second ≡ decimal b ∷ third → LacksFirst (IsAtMost second_frame_limit) number_words third
       → LacksWhole AreSizes (after_name name sizes_words) words
   no-host a b first second third e f h lacks s is g =
       lacks s.host (decimal s.approved ∷ []) is.host

@@ -1,7 +1,7 @@
 -- What was given of a state's text and what is still to come are the whole text.
 use Rattle.std.proofs.Common.{ℕ, ◌≡◌, ◌<◌, ◌≤◌, ◌+◌, List, [], ◌++◌, length, map, drop, Option, Some, None, refl, sym, ap, ◌∙◌, append_assoc}
 use Rattle.std.specs.List.{flat_map}
-use Rattle.std.proofs.lemmas.List.{drop_more, drop_all, length-map}
+use Rattle.std.proofs.lemmas.List.{drop_more, length-map}
 use Rattle.std.proofs.Math.ListN.{get_or-map}
 use Rattle.kc_types.specs.declared.owner.Owner.TheVariants.{Core}
 use Rattle.kc_model.specs.State.{State, Frame, frame_at, untouched, zero_page}
@@ -26,10 +26,6 @@ page_first m n low =
     let pages = map bytes_of m.frames in
     ap (flat_map page_line) (drop_more pages n zero_page (rw (length-map m.frames bytes_of) low))
     ∙ ap (λ (page : List ℕ). page_line page ++ page_lines m (n + 1)) (get_or-map bytes_of m.frames n (untouched Core))
-
--- after the last page no lines are to come
-pub pages_done : (m : State) (n : ℕ) → length m.frames ≤ n → page_lines m n ≡ []
-pages_done m n past = ap (flat_map page_line) (drop_all n (map bytes_of m.frames) (rw (length-map m.frames bytes_of) past))
 
 -- one more page was given
 pub page_given : (m : State) (old new : Pieces) (start before after : List ℕ) → old.page < length (in_form old.form m).frames → new.form ≡ old.form → old.front ≡ [] → new.front ≡ [] → new.page ≡ old.page + 1 → new.dump ≡ old.dump

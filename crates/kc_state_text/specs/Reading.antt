@@ -3,7 +3,7 @@ use Rattle.std.specs.Prelude.{ℕ, ◌≡◌, ◌<◌, ◌≤◌, ◌+◌, ◌^�
 use Rattle.std.specs.Fmt.{decimal}
 use Rattle.std.specs.List.{flat_map}
 use Rattle.hex.specs.Hex.{encode_lower}
-use Rattle.kc_types.specs.Limits.{vcpu_limit, image_limit}
+use Rattle.kc_types.specs.Limits.{first_vcpu_limit, first_image_limit}
 use Rattle.kc_model.specs.State.{Vcpu, Image}
 use Rattle.kc_model.specs.Lawful.{IsPage}
 use Rattle.kc_state_text.specs.declared.fault.StateFault.{StateFault}
@@ -54,11 +54,11 @@ pub record AreDigits (word bytes : List ℕ) : Type 0 where
   pub whole : word ≡ encode_lower bytes
 
 pub record AreVcpus (vcpus : List Vcpu) : Type 0 where
-  pub eight : length vcpus ≡ vcpu_limit
+  pub eight : length vcpus ≡ first_vcpu_limit
   pub each : All IsVcpuWord vcpus
 
 pub record AreImages (images : List Image) : Type 0 where
-  pub few : length images ≤ image_limit
+  pub few : length images ≤ first_image_limit
   pub each : All AreImageWords images
 
 -- the text begins with the lines of this many things, and the rest follows

@@ -1,6 +1,6 @@
 -- Which text is which state's, and why a text is not a state's.
 use Rattle.std.specs.Prelude.{ℕ, ◌≡◌, ◌<◌, ◌≤◌, ◌+◌, ◌^◌, ◌⊎◌, List, [], ◌++◌, length, All, Option, Some, false, None, IfSome}
-use Rattle.kc_types.specs.Limits.{frame_limit, slot_limit, gfn_limit, vcpu_limit, image_limit, digest_limit}
+use Rattle.kc_types.specs.Limits.{second_frame_limit, second_slot_limit, first_gfn_limit, first_vcpu_limit, first_image_limit, digest_limit}
 use Rattle.kc_model.specs.State.{Vcpu, Image}
 use Rattle.kc_model.specs.Lawful.{IsPage}
 use Rattle.kc_dump_text.specs.Grammar.{IsDumpText}
@@ -22,15 +22,15 @@ use Rattle.kc_state_text.specs.StateText.{Front, state_header, second_header, vo
 
 -- which numbers the line of sizes may have: none above the limits of every configuration
 pub record AreSizes (sizes : numbers.Sizes) : Type 0 where
-  pub slots : sizes.slots ≤ slot_limit
-  pub frames : sizes.frames ≤ frame_limit
-  pub host : sizes.host ≤ frame_limit
+  pub slots : sizes.slots ≤ second_slot_limit
+  pub frames : sizes.frames ≤ second_frame_limit
+  pub host : sizes.host ≤ second_frame_limit
   pub approved : sizes.approved ≤ digest_limit
 
 -- a virtual processor that is not registered waits for nothing
 pub record IsVcpuWord (vcpu : Vcpu) : Type 0 where
   pub absent : vcpu.registered ≡ false → vcpu.fault ≡ None
-  pub gfn : (g : ℕ) → vcpu.fault ≡ Some g → g < gfn_limit
+  pub gfn : (g : ℕ) → vcpu.fault ≡ Some g → g < first_gfn_limit
 
 pub record AreImageWords (image : Image) : Type 0 where
   pub base : image.base < 2 ^ 32
@@ -39,9 +39,9 @@ pub record AreImageWords (image : Image) : Type 0 where
 
 -- what the line of a slot may say
 pub record IsSlotLine (rest : SlotRest) : Type 0 where
-  pub vcpus : length rest.vcpus ≡ vcpu_limit
+  pub vcpus : length rest.vcpus ≡ first_vcpu_limit
   pub each_vcpu : All IsVcpuWord rest.vcpus
-  pub few_images : length rest.images ≤ image_limit
+  pub few_images : length rest.images ≤ first_image_limit
   pub each_image : All AreImageWords rest.images
 
 -- what the lines before the dump may say

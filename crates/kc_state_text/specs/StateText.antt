@@ -90,7 +90,7 @@ front_of rest = record { sizes = sizes_of rest; approved = rest.approved; slots 
 abbrev pub told_text : Told → List ℕ
 told_text t = front_text (front_of t.rest) ++ dump_text t.dump
 
--- the one spelling of a state without a position
+-- a checkpoint: the one spelling of a state without a position
 abbrev pub state_text : State → List ℕ
 state_text m = told_text (told_of m)
 

@@ -2,10 +2,11 @@
 ghost use Rattle.std.specs.Prelude.{ℕ, List, ◌≡◌, ◌∷◌, [], codes, MatchOption};
 ghost use Rattle.kc_model.specs.State.{Vcpu};
 ghost use Rattle.kc_model.specs.Volumes.{IsDigest};
-ghost use Rattle.kc_state_text.specs.Words.{words_in, vcpu_in};
+ghost use Rattle.kc_state_text.specs.Words.{vcpu_in};
 ghost use Rattle.kc_state_text.specs.StateText.{sizes_words, approved_words, vcpu_words, image_words, vcpus_words, images_words, slot_words};
 ghost use Rattle.kc_state_text.specs.Reading.{LacksFirst, LacksWhole, BeginsAs, IsWhole, after_name, AreVcpus, AreImages};
 ghost use Rattle.kc_state_text.specs.Refused.{AreSizes, IsVcpuWord, AreImageWords, IsSlotLine};
+ghost use Rattle.kc_trace.specs.HeadReading.{words_in};
 
 use crate::sizes::Sizes;
 use crate::words::{take_name, take_number, take_number_to};
@@ -13,7 +14,8 @@ use arrayvec::ArrayVec;
 use kc_lines::{LineWords, read_digest, read_number};
 use kc_state::SlotRest;
 use kc_types::{
-    DIGEST_LIMIT, FRAME_LIMIT, GFN_LIMIT, IMAGE_LIMIT, Image, SLOT_LIMIT, VCPU_LIMIT, Vcpu,
+    DIGEST_LIMIT, FIRST_GFN_LIMIT, FIRST_IMAGE_LIMIT, FIRST_VCPU_LIMIT, Image, SECOND_FRAME_LIMIT,
+    SECOND_SLOT_LIMIT, Vcpu,
 };
 
 /// Reads the line of sizes, each one that a configuration may have.
@@ -24,9 +26,9 @@ pub fn read_sizes(line: &[u8]) -> Option<Sizes>
 {
     let mut words = LineWords::new(line);
     take_name(&mut words, b"config")?;
-    let slots = take_number_to(&mut words, SLOT_LIMIT)?;
-    let frames = take_number_to(&mut words, FRAME_LIMIT)?;
-    let host = take_number_to(&mut words, FRAME_LIMIT)?;
+    let slots = take_number_to(&mut words, SECOND_SLOT_LIMIT)?;
+    let frames = take_number_to(&mut words, SECOND_FRAME_LIMIT)?;
+    let host = take_number_to(&mut words, SECOND_FRAME_LIMIT)?;
     let approved = take_number_to(&mut words, DIGEST_LIMIT as u32)?;
     words.end()?;
     Some(Sizes {
@@ -68,7 +70,7 @@ fn vcpu_of(word: &[u8]) -> Option<Vcpu>
         });
     }
     let gfn = read_number(word)?;
-    if gfn < GFN_LIMIT {
+    if gfn < FIRST_GFN_LIMIT {
         Some(Vcpu {
             registered: true,
             fault: Some(gfn),
@@ -88,13 +90,13 @@ fn read_vcpu(words: &mut LineWords) -> Option<Vcpu>
 }
 
 /// Reads the next 8 virtual processors.
-fn read_vcpus(words: &mut LineWords) -> Option<ArrayVec<Vcpu, VCPU_LIMIT>>
+fn read_vcpus(words: &mut LineWords) -> Option<ArrayVec<Vcpu, FIRST_VCPU_LIMIT>>
     ensures { MatchOption result
         (LacksFirst AreVcpus vcpus_words words.old)
         (λ vcpus. BeginsAs AreVcpus vcpus_words words.old vcpus.items words.new) }
 {
     let mut vcpus = ArrayVec::new();
-    for _number in 0..VCPU_LIMIT {
+    for _number in 0..FIRST_VCPU_LIMIT {
         vcpus.push(read_vcpu(words)?);
     }
     Some(vcpus)
@@ -113,7 +115,7 @@ fn read_image(words: &mut LineWords) -> Option<Image>
 }
 
 /// Reads the words that are left as images, at most 4.
-fn read_images(words: &mut LineWords) -> Option<ArrayVec<Image, IMAGE_LIMIT>>
+fn read_images(words: &mut LineWords) -> Option<ArrayVec<Image, FIRST_IMAGE_LIMIT>>
     ensures { MatchOption result
         (LacksWhole AreImages images_words words.old)
         (λ images. IsWhole AreImages images_words words.old images.items) }

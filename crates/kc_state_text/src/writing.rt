@@ -12,7 +12,7 @@ use kc_core::KCore;
 use kc_lines::{push_bytes, push_digits, push_number};
 use kc_page::PageBytes;
 use kc_trace::{Position, push_position};
-use kc_types::{Image, Memory, VCPU_LIMIT, Vcpu};
+use kc_types::{Image, Memory, Vcpu};
 use std::alloc::Global;
 
 /// The bytes of the longest line of a page, with its newline.
@@ -53,8 +53,8 @@ fn push_vcpus(text: &mut Vec<u8>, core: &KCore, vm: u32) -> Result<(), Memory>
     requires { vm < slot_count core.now.config }
     ensures { OnOk result (text.new.items ≡ text.old.items ++ flat_map (λ vcpu. spaced (vcpu_words vcpu)) (slot_at core.now vm).vcpus) }
 {
-    let _config = core.config();
-    for number in 0..VCPU_LIMIT as u32 {
+    let vcpus = core.config().version().vcpus();
+    for number in 0..vcpus {
         let vcpu = core.vcpu(vm, number).unwrap();
         push_vcpu(text, vcpu)?;
     }

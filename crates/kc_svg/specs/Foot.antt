@@ -53,7 +53,7 @@ abbrev pub unseen_words : Bool → List ℕ
 unseen_words false = []
 unseen_words true = codes ", accesses unseen"
 
--- as "kcore 2.0.0, trace SHA-256 .., default configuration" or "kcore 2.0.0, volumes 3 to 7, default configuration":
+-- as "kcore 3.0.0, trace SHA-256 .., default configuration" or "kcore 3.0.0, volumes 3 to 7, default configuration":
 -- what the first line of custody says, but the sizes of the core, and how many volumes there are if they have numbers
 abbrev pub foot_words : Heading → List ℕ
 foot_words heading = (codes "kcore " ++ version_text) ++ (chain_words heading.chain ++ (digests_words heading.digests ++ unseen_words heading.is_unseen))

@@ -1,10 +1,10 @@
 -- Words and lines of a head have one spelling.
-use Rattle.std.proofs.Common.{ℕ, ◌≡◌, ◌≢◌, ◌<◌, ◌≤◌, ◌^◌, Bool, true, false, cond, List, [], ◌∷◌, ◌++◌, length, map, All, Option, Some, None, refl, sym, ap, subst, ◌∙◌, arith, inl, inr, append_assoc, append-nil, length-append}
+use Rattle.std.proofs.Common.{ℕ, ◌≡◌, ◌≢◌, ◌≤◌, Bool, true, false, cond, List, [], ◌∷◌, ◌++◌, length, map, Option, Some, None, refl, sym, ap, subst, ◌∙◌, arith, inl, inr, append_assoc, append-nil, length-append}
 use Rattle.std.specs.Prelude.{◌==◌, ◌*◌, ◌+◌, ◌||◌, ◌&&◌, nat_le, nat_lt, is_none, option_map, codes, option_and_then}
 use Rattle.std.specs.Str.{bytes_eq}
 use Rattle.std.specs.List.{AllByRecursion, flat_map, join_with_byte, list_all}
 use Rattle.std.specs.Fmt.{decimal}
-use Rattle.std.proofs.lemmas.Bool.{eq-eqb, eqb-true, eqb-false, ne_eqb, le-ltb, ltb-false, or_parts, and_parts, and_from, le-leb, leb-true, false_from_ne_true}
+use Rattle.std.proofs.lemmas.Bool.{eq-eqb, eqb-true, eqb-false, ne_eqb, le-ltb, ltb-false, or_parts, and_parts, le-leb, leb-true, false_from_ne_true}
 use Rattle.std.proofs.lemmas.List.Splits.{join_with_byte-slice_split}
 use Rattle.std.proofs.lemmas.Grind.{flat_map-append}
 use Rattle.kc_trace.specs.declared.header.Head.{Head}
@@ -16,10 +16,11 @@ use Rattle.hex.specs.Hex.{encode_lower, lower_digits}
 use Rattle.hex.proofs.HexLemmas.{length-encode_with}
 use Rattle.kc_model.specs.Volumes.{IsDigest}
 use Rattle.kc_types.specs.Bytes.{IsData}
-use Rattle.kc_types.specs.Limits.{leaf_limit, digest_limit, line_limit}
+use Rattle.kc_types.specs.Limits.{digest_limit, line_limit}
 use Rattle.kc_lines.specs.Lines.{IsOneLine}
-use Rattle.kc_types.specs.Configuration.{Configuration, IsConfiguration, most_frames, slots_of, slot_count}
+use Rattle.kc_types.specs.Configuration.{Configuration, IsConfiguration, most_frames, most_leaves, slots_of, slot_count}
 use Rattle.kc_types.specs.ConfigFaults.{fault_of}
+use Rattle.kc_types.proofs.Ranges.{few-frames, few-slots, few-leaves}
 use Rattle.kc_types.specs.declared.config.ConfigFault.{ConfigFault}
 use Rattle.kc_types.specs.declared.config.ConfigFault.TheVariants.{Frames, CoreHost, Leaves, TooManyDigests}
 use Rattle.kc_types.specs.declared.version.Version.{Version}
@@ -106,9 +107,6 @@ none_left (word ∷ words) end e = absurd cc
 -- a line is its words
 line_is : (line : List ℕ) (words : List (List ℕ)) → words_in line ≡ words → line ≡ join_with_byte 32 words
 line_is line words e = sym (join_with_byte-slice_split 32 line) ∙ ap (join_with_byte 32) e
-
-number_again : (number : ℕ) (words : List (List ℕ)) → IsWord number → take_number (decimal number ∷ words) ≡ Some (number, words)
-number_again number words fits = rw (number_of-decimal number fits) refl
 
 -- ---- the line of a position
 
@@ -244,10 +242,10 @@ configuration_is : (c : Configuration) → fault_of c ≡ None → IsConfigurati
 configuration_is c e =
     let frames = none_if (c.frames == 0 || nat_lt (most_frames c.version) c.frames) Frames _ e in
     let sums = none_if (nat_lt c.frames (c.core + c.host)) CoreHost _ frames.1 in
-    let leaves = none_if (c.leaves == 0 || nat_lt leaf_limit c.leaves) Leaves _ sums.1 in
+    let leaves = none_if (c.leaves == 0 || nat_lt (most_leaves c.version) c.leaves) Leaves _ sums.1 in
     let digests = none_if (nat_lt digest_limit (length c.approved)) TooManyDigests _ leaves.1 in
     let frame = or_parts (c.frames == 0) (nat_lt (most_frames c.version) c.frames) frames.0 in
-    let leaf = or_parts (c.leaves == 0) (nat_lt leaf_limit c.leaves) leaves.0 in
+    let leaf = or_parts (c.leaves == 0) (nat_lt (most_leaves c.version) c.leaves) leaves.0 in
     let some : c.frames ≢ 0 = eqb-false _ _ frame.0 in
     let one : c.leaves ≢ 0 = eqb-false _ _ leaf.0 in
     record {
@@ -268,7 +266,7 @@ no_fault c is =
       le-ltb (most_frames c.version) c.frames is.few_frames,
       le-ltb c.frames (c.core + c.host) is.within,
       ne_eqb c.leaves 0 (λ z. absurd (omega (arith, one, z))),
-      le-ltb leaf_limit c.leaves is.few_leaves,
+      le-ltb (most_leaves c.version) c.leaves is.few_leaves,
       le-ltb digest_limit (length c.approved) is.few_digests,
     ) refl
 
@@ -374,23 +372,18 @@ numbers_are_words : (numbers : List ℕ) → AllByRecursion IsWord numbers → l
 numbers_are_words [] each = refl
 numbers_are_words (number ∷ numbers) each = rw (decimal_is_word number each.0) (numbers_are_words numbers each.1)
 
-few_frames : (v : Version) → most_frames v ≤ 65536
-few_frames version.One = omega arith
-few_frames version.Two = omega arith
-
-few_slots : (v : Version) → (version_number v ≤ 2) × (slots_of v ≤ 64)
-few_slots version.One = (omega arith, omega arith)
-few_slots version.Two = (omega arith, omega arith)
+few_versions : (v : Version) → version_number v ≤ 2
+few_versions version.One = omega arith
+few_versions version.Two = omega arith
 
 numbers_fit : (config : Configuration) (awaited : ℕ) → IsConfiguration config → awaited ≤ digest_limit → AllByRecursion IsWord (machine_numbers config awaited)
 unfolding slot_count
 numbers_fit config awaited is few =
-    let small = few_frames config.version in
-    let smaller = few_slots config.version in
+    let frames = few-frames config.version config.frames is.few_frames in
     let sums = is.within in
-    let frames = is.few_frames in
     let leaves = is.few_leaves in
-    (omega (arith, smaller.0), (omega (arith, smaller.1), (omega (arith, frames, small), (omega (arith, sums, frames, small), (omega (arith, sums, frames, small), (omega (arith, leaves), (omega (arith, few), tt)))))))
+    let most = few-leaves config.version in
+    (omega (arith, few_versions config.version), (omega (arith, few-slots config.version), (omega (arith, frames), (omega (arith, sums, frames), (omega (arith, sums, frames), (omega (arith, leaves, most), (omega (arith, few), tt)))))))
 
 -- the machine without approved digests
 abbrev pub emptied : Configuration → Configuration

@@ -1,16 +1,15 @@
 -- What is left of a header after some of its lines.
-use Rattle.std.proofs.Common.{◌≡◌, ◌≤◌, ◌+◌, ℕ, List, [], ◌∷◌, ◌++◌, length, map, Option, Some, None, refl, sym, ap, subst, ◌∙◌, arith, append_assoc, append-nil, length-append}
+use Rattle.std.proofs.Common.{◌≡◌, ℕ, List, [], ◌∷◌, ◌++◌, length, Some, refl, sym, ap, ◌∙◌, arith, append_assoc, append-nil}
 use Rattle.std.specs.Prelude.{codes}
 use Rattle.std.proofs.lemmas.List.{length-map}
 use Rattle.kc_lines.specs.Lines.{IsOneLine}
-use Rattle.kc_trace.specs.declared.header.Head.{Head}
 use Rattle.kc_trace.specs.declared.header.Header.{Header}
 use Rattle.kc_trace.specs.declared.header.Header.TheVariants.{One, Two, Three}
 use Rattle.kc_trace.specs.declared.head_reader.HeadSoFar.{HeadSoFar}
 use Rattle.kc_trace.specs.declared.head_reader.HeadSoFar.TheVariants.{Nothing, FirstLine, Machine}
 use Rattle.kc_trace.specs.declared.head_reader.NextLine.{NextLine}
 use Rattle.kc_trace.specs.declared.head_reader.NextLine.TheVariants.{More, Whole}
-use Rattle.kc_trace.specs.Header.{IsHeader, machine_line, approved_line, header_lines, ended_lines}
+use Rattle.kc_trace.specs.Header.{IsHeader, approved_line, header_lines, ended_lines}
 use Rattle.kc_trace.specs.HeadReading.{first_line_read, next_line}
 use Rattle.kc_trace.proofs.Newlines.{cut-same, no-newline}
 use Rattle.kc_trace.proofs.HeadStages.{lines_so_far, IsSoFar, IsMore, line_next, accepts, many_lines}

@@ -1,9 +1,9 @@
 -- What is read of the lines of a header.
-use Rattle.std.proofs.Common.{◌≡◌, ◌⊎◌, ◌≤◌, ◌<◌, ◌+◌, ℕ, Bool, true, false, cond, List, [], ◌∷◌, ◌++◌, length, map, Option, Some, None, Result, Ok, Err, refl, sym, ap, subst, ◌∙◌, append_assoc, append-nil, arith, inl, inr, length-append}
+use Rattle.std.proofs.Common.{◌≡◌, ◌⊎◌, ◌≤◌, ◌<◌, ◌+◌, ℕ, Bool, true, false, cond, List, [], ◌∷◌, ◌++◌, length, map, Option, Some, None, Ok, Err, refl, sym, ap, subst, ◌∙◌, append_assoc, append-nil, arith, inl, inr, length-append}
 use Rattle.std.specs.Prelude.{codes, nat_le, ◌==◌, option_map}
 use Rattle.std.specs.List.{AllByRecursion}
 use Rattle.std.specs.Str.{bytes_eq}
-use Rattle.std.proofs.lemmas.Bool.{eqb-true, le-leb, leb-true, leb-false, lt-leb, cases_Bool}
+use Rattle.std.proofs.lemmas.Bool.{eqb-true, le-leb, leb-true, lt-leb, cases_Bool}
 use Rattle.std.proofs.lemmas.List.{length-map}
 use Rattle.std.proofs.lemmas.Grind.{flat_map-append}
 use Rattle.kc_types.specs.Limits.{line_limit}
@@ -11,7 +11,6 @@ use Rattle.kc_types.specs.declared.call.Call.{Call}
 use Rattle.kc_model.specs.Volumes.{IsDigest}
 use Rattle.kc_lines.specs.Lines.{IsOneLine}
 use Rattle.kc_lines.proofs.Words.{chosen, map_some, name_is}
-use Rattle.kc_trace.specs.declared.fault.TraceFault.{TraceFault}
 use Rattle.kc_trace.specs.declared.fault.TraceFault.TheVariants.{NoHeader, BadLine}
 use Rattle.kc_trace.specs.declared.header.Head.{Head}
 use Rattle.kc_trace.specs.declared.header.Header.{Header}
@@ -26,7 +25,7 @@ use Rattle.kc_trace.specs.Machine.{◌>>=◌, Progress, start, kept, longer, nex
 use Rattle.kc_trace.specs.Trace.{GoesOnWith, StopsInHeader}
 use Rattle.kc_trace.proofs.Runs.{and_then_feed, front_nothing, feed_nothing, feed_begun, feed_ended}
 use Rattle.kc_trace.proofs.HeadWords.{IsBegun, Fits, emptied, machine_spelled, approved_spelled, last_spelled, machine_again, approved_again, last_again, machine_fits, approved_fits, last_fits}
-use Rattle.kc_trace.proofs.HeadStages.{lines_so_far, IsSoFar, IsMore, IsWhole, IsNext, GoesOn, line_next, goes_on, accepts, numbered_next, approving_is, many_lines}
+use Rattle.kc_trace.proofs.HeadStages.{lines_so_far, IsSoFar, line_next, goes_on, accepts, numbered_next, approving_is, many_lines}
 use Rattle.kc_trace.proofs.Outcomes.{at_line, outcome, finished, outcome-stuck, one_line_pushed}
 
 -- ---- one line

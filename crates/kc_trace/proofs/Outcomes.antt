@@ -1,7 +1,6 @@
 -- What is read of the lines of calls, after the header.
-use Rattle.std.proofs.Common.{◌≡◌, ◌⊎◌, ◌≤◌, ◌<◌, ◌+◌, ℕ, Bool, true, false, cond, List, [], ◌∷◌, ◌++◌, length, Option, Some, None, Result, Ok, Err, refl, sym, ap, subst, ◌∙◌, append_assoc, arith, inl, inr, length-append, zero-add}
-use Rattle.std.specs.Global.{Vec}
-use Rattle.std.specs.Prelude.{MatchResult, ◌==◌, not, nat_le}
+use Rattle.std.proofs.Common.{◌≡◌, ◌≤◌, ◌<◌, ◌+◌, ℕ, Bool, true, false, cond, List, [], ◌∷◌, ◌++◌, length, Option, Some, None, Result, Ok, Err, refl, sym, ap, subst, ◌∙◌, append_assoc, arith, inl, inr, length-append}
+use Rattle.std.specs.Prelude.{◌==◌, not, nat_le}
 use Rattle.std.proofs.lemmas.Bool.{eqb-true, le-leb, lt-leb, cases_lt, cases_Bool}
 use Rattle.std.proofs.lemmas.List.{append-nil}
 use Rattle.std.proofs.lemmas.List.Concat.{flat_map-cons}
@@ -12,12 +11,12 @@ use Rattle.kc_trace.specs.Header.{first_call_line}
 use Rattle.kc_types.specs.declared.call.Call.{Call}
 use Rattle.kc_types.specs.Limits.{line_limit}
 use Rattle.kc_trace.specs.declared.fault.TraceFault.{TraceFault}
-use Rattle.kc_trace.specs.declared.fault.TraceFault.TheVariants.{NoHeader, BadLine, NoNewline, TooManyCalls, Memory}
+use Rattle.kc_trace.specs.declared.fault.TraceFault.TheVariants.{BadLine, NoNewline, TooManyCalls}
 use Rattle.kc_trace.specs.Spelling.{line_of, lines_of, is_allowed_in}
-use Rattle.kc_trace.specs.Machine.{◌>>=◌, Gives, Fails, Progress, kept, longer, standing, call_of_kept, call_in, after_line, line_ended, with_front, feed, nothing_begun, ended}
+use Rattle.kc_trace.specs.Machine.{◌>>=◌, Progress, kept, longer, standing, call_of_kept, call_in, after_line, line_ended, with_front, feed, nothing_begun, ended}
 use Rattle.kc_lines.specs.Lines.{IsOneLine}
-use Rattle.kc_trace.specs.Trace.{IsCallOf, AreCalls, StopsAt, Stops, IsTrace, IsRefused}
-use Rattle.kc_trace.proofs.Lines.{line_fits, line_is_one, call_of-line_of}
+use Rattle.kc_trace.specs.Trace.{IsCallOf, AreCalls, StopsAt}
+use Rattle.kc_trace.proofs.Lines.{line_fits, call_of-line_of}
 use Rattle.kc_trace.proofs.Runs.{feed_nothing, feed_begun, feed_ended}
 use Rattle.kc_trace.proofs.Spelled.{line_is_spelled}
 
@@ -95,10 +94,6 @@ lift_call v before line call bytes (Ok calls) same fits h =
 lift_call v before line call bytes (Err f) same fits h =
     let regrouped : line ++ 10 ∷ bytes ≡ lines_of (call ∷ h.0) ++ h.1 = rw (same, h.2, flat_map-cons (λ (c : Call). line_of c ++ 10 ∷ []) call h.0) (simp append_assoc) in
     (call ∷ h.0, h.1, regrouped, (fits, h.3), subst (λ (n : ℕ). StopsAt v n h.1 f) (let e : (before + 1) + length h.0 ≡ before + length (call ∷ h.0) = omega arith in e) h.4)
-
-pub onto_nothing : (read : Result (List Call) TraceFault) → onto [] read ≡ read
-onto_nothing (Ok calls) = refl
-onto_nothing (Err f) = refl
 
 pub one_line_pushed : (line : List ℕ) (byte : ℕ) → IsOneLine line → (byte == 10) ≡ false → IsOneLine (line ++ byte ∷ [])
 one_line_pushed line byte h e = rw (list_all-append (λ b. not (b == 10)) line (byte ∷ []), h, e) refl

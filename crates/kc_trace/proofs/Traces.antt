@@ -1,5 +1,5 @@
 -- What is read line after line is the trace.
-use Rattle.std.proofs.Common.{◌≡◌, ◌⊎◌, ◌≤◌, ◌<◌, ◌+◌, ℕ, List, [], ◌∷◌, ◌++◌, length, Option, Some, None, Result, Ok, Err, refl, sym, ap, subst, ◌∙◌, append_assoc, arith, inl, inr, zero-add}
+use Rattle.std.proofs.Common.{◌≡◌, ◌≤◌, ◌<◌, ◌+◌, ℕ, List, [], ◌∷◌, ◌++◌, length, Some, Result, Ok, Err, refl, sym, ap, subst, ◌∙◌, append_assoc, arith, inl, inr, zero-add}
 use Rattle.std.specs.Global.{Vec}
 use Rattle.std.specs.Prelude.{MatchResult}
 use Rattle.std.proofs.lemmas.Bool.{le-leb}
@@ -13,7 +13,7 @@ use Rattle.kc_trace.specs.declared.fault.TraceFault.TheVariants.{NoHeader, BadLi
 use Rattle.kc_trace.specs.Header.{IsHeader, trace_header}
 use Rattle.kc_trace.specs.Spelling.{line_of, lines_of}
 use Rattle.kc_trace.specs.Machine.{◌>>=◌, Gives, Fails, Progress, start, ended, kept, longer, call_in, after_line, feed, reading}
-use Rattle.kc_trace.specs.Trace.{IsCallOf, AreCalls, StopsAt, Stops, StopsInHeader, LacksHeader, IsTraceUnder, IsTrace, IsRefused}
+use Rattle.kc_trace.specs.Trace.{IsCallOf, AreCalls, StopsAt, Stops, LacksHeader, IsTraceUnder, IsTrace, IsRefused}
 use Rattle.kc_trace.proofs.Lines.{line_fits, line_is_one, call_of-line_of}
 use Rattle.kc_trace.proofs.Runs.{feed_nothing, header_stays}
 use Rattle.kc_trace.proofs.Outcomes.{at_line, outcome, finished, onto, Answers, outcome-ended, line_ends, answers}

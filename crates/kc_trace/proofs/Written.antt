@@ -9,10 +9,6 @@ use Rattle.kc_trace.specs.Spelling.{is_range_call, header_of}
 use Rattle.kc_trace.specs.Header.{IsHeader}
 use Rattle.kc_trace.specs.Trace.{AreCalls}
 
-pub ranged_push : (calls : List Call) (call : Call) → AllByRecursion IsRanged calls → IsRanged call → AllByRecursion IsRanged (calls ++ call ∷ [])
-ranged_push [] call all one = (one, tt)
-ranged_push (first ∷ calls) call all one = (all.0, ranged_push calls call all.1 one)
-
 in_the_second : (calls : List Call) → AllByRecursion IsRanged calls → AreCalls Two calls
 in_the_second [] all = tt
 in_the_second (call ∷ calls) all = ((all.0, refl), in_the_second calls all.1)

@@ -114,7 +114,7 @@ placed_text volumes line (_ ∷ rest) = member (codes "{\"volume\":") (volume_of
 
 -- the version of kcore, which `kcore --version` prints too
 abbrev pub version_text : List ℕ
-version_text = codes "2.0.0"
+version_text = codes "3.0.0"
 
 -- a digest in quotation marks
 abbrev pub digest_text : List ℕ → List ℕ
@@ -218,7 +218,7 @@ abbrev pub custody_text_of : Heading → Configuration → List VolumeEntry → 
 custody_text_of heading config volumes calls refused changes = header_line heading config ++ (volumes_text volumes
     ++ (flat_map (λ change. placed_text volumes (line_of_change change) (change_line change)) changes ++ end_line calls (length changes) refused))
 
--- upper bounds for the text of a custody, of an image, of four images, and of a change
+-- upper bounds for the text of a custody, of an image, of 16 images, and of a change
 abbrev pub longest_custody : ℕ
 longest_custody = 100
 
@@ -226,10 +226,10 @@ abbrev pub longest_image : ℕ
 longest_image = 135
 
 abbrev pub longest_images : ℕ
-longest_images = 550
+longest_images = 2176
 
 abbrev pub longest_change : ℕ
-longest_change = 768
+longest_change = 2400
 
 -- and for that of a digest in quotation marks, of a trace that is named by it, of what calls begin with, and of all
 -- that was read

@@ -4,7 +4,7 @@ use Rattle.kc_types.specs.Configuration.{Configuration}
 use Rattle.kc_trace.specs.declared.header.Position.{Position}
 use Rattle.kc_trace.specs.declared.header.Position.TheVariants as position
 use Rattle.kc_trace.specs.declared.header.Header.{Header}
-use Rattle.kc_trace.specs.declared.header.Header.TheVariants.{One, Two, Three}
+use Rattle.kc_trace.specs.declared.header.Header.TheVariants.{Three}
 use Rattle.kc_types.specs.declared.call.Call.{Call}
 use Rattle.kc_trace.specs.Trace.{IsTraceUnder, IsRefused}
 use Rattle.kc_trace.specs.declared.fault.TraceFault.{TraceFault}

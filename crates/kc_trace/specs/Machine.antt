@@ -1,7 +1,6 @@
 -- Reading a trace line by line; the first lines are its header.
 use Rattle.std.specs.Prelude.{◌+◌, ◌==◌, ◌||◌, not, codes, Bool, false, nat_le, ℕ, List, [], ◌∷◌, ◌++◌, length, Option, Some, None, if◌then◌else◌, Result, Ok, Err, ◌≡◌}
 use Rattle.std.specs.List.{starts_with}
-use Rattle.std.specs.Str.{bytes_eq}
 use Rattle.kc_trace.specs.declared.header.Header.{Header}
 use Rattle.kc_trace.specs.declared.head_reader.HeadSoFar.{HeadSoFar}
 use Rattle.kc_trace.specs.declared.head_reader.HeadSoFar.TheVariants.{Nothing}

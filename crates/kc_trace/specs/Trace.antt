@@ -1,5 +1,5 @@
 -- Which text is which list of calls, and why a text is not a trace.
-use Rattle.std.specs.Prelude.{◌≡◌, ◌⊎◌, ◌+◌, ◌<◌, ◌≤◌, true, ℕ, List, [], ◌∷◌, ◌++◌, length}
+use Rattle.std.specs.Prelude.{◌≡◌, ◌⊎◌, ◌+◌, ◌<◌, ◌≤◌, true, ℕ, List, ◌∷◌, ◌++◌, length}
 use Rattle.std.specs.List.{AllByRecursion}
 use Rattle.kc_types.specs.Limits.{call_limit}
 use Rattle.kc_trace.specs.declared.header.Header.{Header}

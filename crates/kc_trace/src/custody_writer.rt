@@ -14,10 +14,10 @@ use kc_types::{
 };
 
 /// More bytes than the longest line of a change, and than the first and the last line, with their newlines.
-pub const LONGEST_CHANGE: usize = 768;
+pub const LONGEST_CHANGE: usize = 2_400;
 
 /// The version of kcore, which `kcore --version` prints too.
-pub const VERSION: &str = "2.0.0";
+pub const VERSION: &str = "3.0.0";
 
 /// What calls begin with, by the SHA-256 digest (FIPS 180-4) of its text if that is a file's.
 #[derive(Clone, Copy, Debug, PartialEq, Eq)]
@@ -180,7 +180,7 @@ fn push_image(text: &mut Vec<u8>, image: &MeasuredImage)
     push_bytes(text, b"\"}");
 }
 
-/// Appends at most 4 images as objects with a comma before each.
+/// Appends at most 16 images as objects with a comma before each.
 fn push_more_images(text: &mut Vec<u8>, images: &[MeasuredImage])
     requires few { length images.now ≤ image_limit }
     requires room { vec_len text.old + length images.now * (longest_image + 1) ≤ vec_capacity text.old }
@@ -194,7 +194,7 @@ fn push_more_images(text: &mut Vec<u8>, images: &[MeasuredImage])
     }
 }
 
-/// Appends at most 4 images as objects with commas between them.
+/// Appends at most 16 images as objects with commas between them.
 pub(crate) fn push_images(text: &mut Vec<u8>, images: &[MeasuredImage])
     requires few { length images.now ≤ image_limit }
     requires room { vec_len text.old + longest_images ≤ vec_capacity text.old }

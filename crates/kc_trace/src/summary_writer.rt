@@ -16,7 +16,7 @@ use std::alloc::Global;
 
 /// More bytes than each part of a line has: its turns, its images, its counts, and a stretch in which a frame was
 /// shared.
-const LONGEST_PART: usize = 768;
+const LONGEST_PART: usize = 2_400;
 
 /// Appends the slot of a life and the lines of its turns. Here and below, `Memory` if memory runs out.
 fn push_turns(text: &mut Vec<u8>, life: &Life) -> Result<(), Memory>

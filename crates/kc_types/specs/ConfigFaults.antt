@@ -1,7 +1,7 @@
 -- Why a configuration is refused.
 use Rattle.std.specs.Prelude.{◌≡◌, ◌+◌, length, nat_lt, ◌||◌, ◌==◌, if◌then◌else◌, Option, Some, None, Result, Ok, Err}
-use Rattle.kc_types.specs.Limits.{leaf_limit, digest_limit}
-use Rattle.kc_types.specs.Configuration.{Configuration, most_frames}
+use Rattle.kc_types.specs.Limits.{digest_limit}
+use Rattle.kc_types.specs.Configuration.{Configuration, most_frames, most_leaves}
 use Rattle.kc_types.specs.declared.config.ConfigFault.{ConfigFault}
 use Rattle.kc_types.specs.declared.config.ConfigFault.TheVariants.{Frames, CoreHost, Leaves, TooManyDigests}
 
@@ -10,7 +10,7 @@ abbrev pub fault_of : Configuration → Option ConfigFault
 fault_of c =
     if c.frames == 0 || nat_lt (most_frames c.version) c.frames then Some Frames
     else (if nat_lt c.frames (c.core + c.host) then Some CoreHost
-    else (if c.leaves == 0 || nat_lt leaf_limit c.leaves then Some Leaves
+    else (if c.leaves == 0 || nat_lt (most_leaves c.version) c.leaves then Some Leaves
     else (if nat_lt digest_limit (length c.approved) then Some TooManyDigests
     else None)))
 

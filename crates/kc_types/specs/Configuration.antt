@@ -1,6 +1,6 @@
 -- What the core is started with.
-use Rattle.std.specs.Prelude.{ℕ, ◌+◌, ◌≤◌, ◌<◌, nat_lt, List, length, if◌then◌else◌}
-use Rattle.kc_types.specs.Limits.{frame_limit, first_frame_limit, slot_limit, first_slot_limit, leaf_limit, digest_limit}
+use Rattle.std.specs.Prelude.{ℕ, ◌+◌, ◌/◌, ◌≤◌, ◌<◌, nat_lt, List, length, if◌then◌else◌}
+use Rattle.kc_types.specs.Limits.{first_frame_limit, second_frame_limit, first_slot_limit, second_slot_limit, first_vcpu_limit, first_gfn_limit, leaf_entries, first_leaf_limit, first_image_limit, first_image_size_limit, digest_limit}
 use Rattle.kc_types.specs.declared.version.Version.{Version}
 use Rattle.kc_types.specs.declared.version.Version.TheVariants.{One, Two}
 use Rattle.kc_types.specs.declared.owner.Owner.{Owner}
@@ -9,12 +9,40 @@ use Rattle.kc_types.specs.declared.owner.Owner.TheVariants.{Core, Host, Free}
 -- the most frames of a configuration
 abbrev pub most_frames : Version → ℕ
 most_frames One = first_frame_limit
-most_frames Two = frame_limit
+most_frames Two = second_frame_limit
 
 -- the number of VM slots of a core
 abbrev pub slots_of : Version → ℕ
 slots_of One = first_slot_limit
-slots_of Two = slot_limit
+slots_of Two = second_slot_limit
+
+-- the number of virtual processors of a VM
+abbrev pub vcpus_of : Version → ℕ
+vcpus_of One = first_vcpu_limit
+vcpus_of Two = first_vcpu_limit
+
+-- the number of guest frames of a VM
+abbrev pub gfns_of : Version → ℕ
+gfns_of One = first_gfn_limit
+gfns_of Two = first_gfn_limit
+
+-- the root slots of a VM's table, one for each leaf that it could have
+abbrev pub roots_of : Version → ℕ
+roots_of version = gfns_of version / leaf_entries
+
+-- the most leaf tables of a VM
+abbrev pub most_leaves : Version → ℕ
+most_leaves One = first_leaf_limit
+most_leaves Two = first_leaf_limit
+
+-- the most boot images of a VM, and the most bytes of one
+abbrev pub most_images : Version → ℕ
+most_images One = first_image_limit
+most_images Two = first_image_limit
+
+abbrev pub most_image_bytes : Version → ℕ
+most_image_bytes One = first_image_size_limit
+most_image_bytes Two = first_image_size_limit
 
 -- `version` sets the limits; of all `frames` the first `core` are the core's for ever and the next `host` are the
 -- host's at boot; each VM has `leaves` leaf tables; `approved` are the SHA-256 digests of the boot images that may run
@@ -40,5 +68,5 @@ pub record IsConfiguration (c : Configuration) : Type 0 where
   pub few_frames : c.frames ≤ most_frames c.version
   pub within : c.core + c.host ≤ c.frames
   pub some_leaves : 0 < c.leaves
-  pub few_leaves : c.leaves ≤ leaf_limit
+  pub few_leaves : c.leaves ≤ most_leaves c.version
   pub few_digests : length c.approved ≤ digest_limit

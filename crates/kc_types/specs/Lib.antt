@@ -7,3 +7,5 @@ pub mod Configuration
 pub mod ConfigFaults
 pub mod ReplyBytes
 pub mod Secret
+pub mod Maybe
+pub mod Owners

@@ -1,10 +1,10 @@
 //! What the core is started with.
 ghost use Rattle.std.specs.Prelude.{◌≡◌, ◌<◌, ◌≤◌, ◌↔◌, length, IsSome, IfSome, IfOk};
 ghost use Rattle.kc_types.specs.Limits.{frame_limit, slot_limit, leaf_limit, digest_limit};
-ghost use Rattle.kc_types.specs.Configuration.{IsConfiguration, boot_owner, slot_count};
+ghost use Rattle.kc_types.specs.Configuration.{IsConfiguration, boot_owner, gfns_of, slot_count, vcpus_of};
 ghost use Rattle.kc_types.specs.ConfigFaults.{Configures};
 
-use crate::{DIGEST_LIMIT, FrameNo, LEAF_LIMIT, Memory, Owner, Version, VmId};
+use crate::{DIGEST_LIMIT, FrameNo, Gfn, Memory, Owner, VcpuId, Version, VmId};
 use std::marker::Model;
 use thiserror::Error;
 
@@ -63,7 +63,7 @@ impl Model for Config {
 /// Why a configuration is refused: the first fault that applies.
 #[derive(Clone, Copy, Debug, PartialEq, Eq, Error)]
 pub enum ConfigFault {
-    /// The number of frames is 0 or above 8,192 (in version 2, above 65,536).
+    /// The number of frames is 0 or above the version's limit: 8,192, or 65,536.
     #[error("frames")]
     Frames,
     /// The core's and the host's frames together are more than there are.
@@ -110,7 +110,7 @@ impl Config {
         if core > frames || host > frames - core {
             return Err(ConfigFault::CoreHost);
         }
-        if leaves == 0 || leaves > LEAF_LIMIT {
+        if leaves == 0 || leaves > version.most_leaves() {
             return Err(ConfigFault::Leaves);
         }
         if approved.len() > DIGEST_LIMIT {
@@ -209,6 +209,30 @@ impl Config {
     {
         if number < self.slots() {
             VmId::try_new(number)
+        } else {
+            None
+        }
+    }
+
+    /// The virtual processor of this number; `None` if the version has none.
+    pub fn vcpu(&self, number: u32) -> Option<VcpuId>
+        ensures valid { IsSome result ↔ (number < vcpus_of self.now.version) }
+        ensures value { IfSome result (λ vcpu. vcpu ≡ number) }
+    {
+        if number < self.version.vcpus() {
+            VcpuId::try_new(number)
+        } else {
+            None
+        }
+    }
+
+    /// The guest frame of this number; `None` if the version has none.
+    pub fn gfn(&self, number: u32) -> Option<Gfn>
+        ensures valid { IsSome result ↔ (number < gfns_of self.now.version) }
+        ensures value { IfSome result (λ gfn. gfn ≡ number) }
+    {
+        if number < self.version.gfns() {
+            Gfn::try_new(number)
         } else {
             None
         }

@@ -2,8 +2,7 @@
 ghost use Rattle.std.specs.Prelude.{◌≡◌, ◌≤◌, [], length, None, false, IfOk};
 ghost use Rattle.kc_types.specs.Limits.{image_limit};
 
-use crate::{Gfn, IMAGE_LIMIT, Memory, Owner, Phase};
-use arrayvec::ArrayVec;
+use crate::{Gfn, Memory, Owner, Phase};
 use std::alloc::Global;
 use std::marker::Model;
 
@@ -54,10 +53,10 @@ pub struct MeasuredImage {
     pub digest: [u8; 32],
 }
 
-/// The boot images of a slot as they were measured, at most 4, seen as a list.
+/// The boot images of a slot as they were measured, at most 16, seen as a list.
 #[derive(Debug, Drop)]
 pub struct MeasuredImages {
-    images: Box<ArrayVec<MeasuredImage, IMAGE_LIMIT>>,
+    images: Vec<MeasuredImage>,
 }
 
 impl Model for MeasuredImages {
@@ -67,28 +66,27 @@ impl Model for MeasuredImages {
 
     ghost Value = { List MeasuredImage };
 
-    ghost view = { λ m. m.images.value.items };
+    ghost view = { λ m. m.images.items };
 
-    ghost invariant = { λ m. length m.images.value.items ≤ image_limit };
+    ghost invariant = { λ m. length m.images.items ≤ image_limit };
 }
 
 impl MeasuredImages {
-    /// Makes an empty list with room for 4 images; `Memory` if memory runs out.
-    pub fn none(alloc: Global) -> Result<MeasuredImages, Memory>
-        // No clause can rule out that memory runs out: a test makes them.
-        ensures { IfOk result (λ images. images ≡ []) }
+    /// Makes an empty list, which takes no memory.
+    pub fn none(alloc: Global) -> MeasuredImages
+        ensures { result ≡ [] }
     {
-        match Box::new(alloc, ArrayVec::new()) {
-            Ok(images) => Ok(MeasuredImages { images }),
-            Err(_) => Err(Memory),
+        MeasuredImages {
+            images: Vec::new(alloc),
         }
     }
 
-    /// Replaces the images.
-    pub fn set(&mut self, images: ArrayVec<MeasuredImage, IMAGE_LIMIT>)
-        ensures { self.new ≡ images.items }
+    /// Makes a list of these images.
+    pub fn of(images: Vec<MeasuredImage>) -> MeasuredImages
+        requires { length images.items ≤ image_limit }
+        ensures { result ≡ images.items }
     {
-        *self.images = images;
+        MeasuredImages { images }
     }
 
     /// The images, in the order of their numbers.

@@ -18,6 +18,7 @@ mod link;
 mod memory;
 mod numbers;
 mod owner;
+mod packed;
 mod refusal;
 mod reply;
 mod reply_buffer;
@@ -34,14 +35,16 @@ pub use custody::{
 };
 pub use data::{Data, SHORT_SIZE};
 pub use limits::{
-    BYTE_LIMIT, CALL_LIMIT, DIGEST_LIMIT, FIRST_FRAME_LIMIT, FIRST_SLOT_LIMIT, FRAME_LIMIT,
-    GFN_LIMIT, IMAGE_LIMIT, IMAGE_SIZE_LIMIT, LEAF_ENTRIES, LEAF_LIMIT, LINE_LIMIT, PAGE_SIZE,
-    RANGE_LIMIT, SHARE_LIMIT, SLOT_LIMIT, VCPU_LIMIT, WORKER_LIMIT,
+    BYTE_LIMIT, CALL_LIMIT, DIGEST_LIMIT, FIRST_FRAME_LIMIT, FIRST_GFN_LIMIT, FIRST_IMAGE_LIMIT,
+    FIRST_IMAGE_SIZE_LIMIT, FIRST_LEAF_LIMIT, FIRST_SLOT_LIMIT, FIRST_VCPU_LIMIT, FRAME_LIMIT,
+    GFN_LIMIT, IMAGE_LIMIT, LEAF_ENTRIES, LEAF_LIMIT, LINE_LIMIT, PAGE_SIZE, RANGE_LIMIT,
+    SECOND_FRAME_LIMIT, SECOND_SLOT_LIMIT, SHARE_LIMIT, SLOT_LIMIT, VCPU_LIMIT, WORKER_LIMIT,
 };
 pub use link::{Ends, Link};
 pub use memory::Memory;
 pub use numbers::{FrameNo, Gfn, VcpuId, VmId};
 pub use owner::{Owner, vm_of};
+pub use packed::{MaybeFrame, MaybeGfn, OwnerCode};
 pub use refusal::Refusal;
 pub use reply::Reply;
 pub use reply_buffer::ReplyBuffer;

@@ -3,26 +3,47 @@
 
 /// The bytes in a page.
 pub const PAGE_SIZE: u32 = 4_096;
-/// Frame numbers are below this, and a configuration of version 2 has up to this many frames.
-pub const FRAME_LIMIT: u32 = 65_536;
+/// The number of entries of a leaf table.
+pub const LEAF_ENTRIES: usize = 512;
+
+// ---- the ranges of numbers, in every version
+
+/// Numbers of frames are below this.
+pub const FRAME_LIMIT: u32 = 268_435_456;
+/// Numbers of slots are below this.
+pub const SLOT_LIMIT: u32 = 1_024;
+/// Numbers of virtual processors are below this.
+pub const VCPU_LIMIT: usize = 256;
+/// Numbers of guest frames are below this.
+pub const GFN_LIMIT: u32 = 134_217_728;
+/// Numbers of leaf tables, and of root slots, are below this.
+pub const LEAF_LIMIT: u32 = 262_144;
+/// Numbers of boot images are below this.
+pub const IMAGE_LIMIT: usize = 16;
+
+// ---- the rules, by version: `Version` says which of them holds
+
 /// The most frames of a configuration of version 1.
 pub const FIRST_FRAME_LIMIT: u32 = 8_192;
-/// Slot numbers are below this, and version 2 has this many VM slots.
-pub const SLOT_LIMIT: u32 = 64;
+/// The most frames of a configuration of version 2.
+pub const SECOND_FRAME_LIMIT: u32 = 65_536;
 /// The VM slots of version 1.
 pub const FIRST_SLOT_LIMIT: u32 = 16;
-/// The number of virtual processors of a VM.
-pub const VCPU_LIMIT: usize = 8;
-/// Guest frame numbers are below this: a guest sees at most 1 GiB.
-pub const GFN_LIMIT: u32 = 262_144;
-/// The number of entries of a leaf table, and of a root.
-pub const LEAF_ENTRIES: usize = 512;
-/// The most leaf tables of a VM.
-pub const LEAF_LIMIT: u32 = 64;
-/// The most boot images of a VM.
-pub const IMAGE_LIMIT: usize = 4;
-/// The most bytes of a boot image.
-pub const IMAGE_SIZE_LIMIT: u32 = 1_048_576;
+/// The VM slots of version 2.
+pub const SECOND_SLOT_LIMIT: u32 = 64;
+/// The virtual processors of a VM in versions 1 and 2.
+pub const FIRST_VCPU_LIMIT: usize = 8;
+/// The guest frames of a VM in versions 1 and 2: it sees at most 1 GiB.
+pub const FIRST_GFN_LIMIT: u32 = 262_144;
+/// The most leaf tables of a VM in versions 1 and 2.
+pub const FIRST_LEAF_LIMIT: u32 = 64;
+/// The most boot images of a VM in versions 1 and 2.
+pub const FIRST_IMAGE_LIMIT: usize = 4;
+/// The most bytes of a boot image in versions 1 and 2.
+pub const FIRST_IMAGE_SIZE_LIMIT: u32 = 1_048_576;
+
+// ---- the rules of every version
+
 /// The most digests of boot images that a configuration approves.
 pub const DIGEST_LIMIT: usize = 64;
 /// The most grants of one frame.

@@ -5,10 +5,10 @@ ghost use Rattle.kc_types.specs.Limits.{frame_limit, slot_limit, vcpu_limit, gfn
 use crate::{FRAME_LIMIT, GFN_LIMIT, SLOT_LIMIT, VCPU_LIMIT};
 use std::marker::Model;
 
-/// The number of a frame of 4,096 bytes, 0 to 65,535. Whether the frame exists depends on the configuration.
+/// The number of a frame of 4,096 bytes, 0 to 268,435,455. Whether the frame exists depends on the configuration.
 #[derive(Clone, Copy, Debug, PartialEq, Eq)]
 pub struct FrameNo {
-    number: u16,
+    number: u32,
 }
 
 impl Model for FrameNo {
@@ -22,15 +22,13 @@ impl Model for FrameNo {
 }
 
 impl FrameNo {
-    /// The frame of this number, or `None` from 65,536 on.
+    /// The frame of this number, or `None` from 268,435,456 on.
     pub fn try_new(number: u32) -> Option<FrameNo>
         ensures valid { IsSome result ↔ (number < frame_limit) }
         ensures value { IfSome result (λ frame. frame ≡ number) }
     {
         if number < FRAME_LIMIT {
-            Some(FrameNo {
-                number: number as u16,
-            })
+            Some(FrameNo { number })
         } else {
             None
         }
@@ -41,7 +39,7 @@ impl FrameNo {
         ensures value { result ≡ self }
         ensures within { result < frame_limit }
     {
-        u32::from(self.number)
+        self.number
     }
 
     /// The number as an index into a list of all frames.
@@ -49,14 +47,14 @@ impl FrameNo {
         ensures value { result ≡ self }
         ensures within { result < frame_limit }
     {
-        usize::from(self.number)
+        self.number as usize
     }
 }
 
-/// The number of a VM slot, 0 to 63. Whether the slot exists depends on the configuration.
+/// The number of a VM slot, 0 to 1,023. Whether the slot exists depends on the configuration.
 #[derive(Clone, Copy, Debug, PartialEq, Eq)]
 pub struct VmId {
-    number: u8,
+    number: u16,
 }
 
 impl Model for VmId {
@@ -70,14 +68,14 @@ impl Model for VmId {
 }
 
 impl VmId {
-    /// The slot of this number, or `None` from 64 on.
+    /// The slot of this number, or `None` from 1,024 on.
     pub fn try_new(number: u32) -> Option<VmId>
         ensures valid { IsSome result ↔ (number < slot_limit) }
         ensures value { IfSome result (λ vm. vm ≡ number) }
     {
         if number < SLOT_LIMIT {
             Some(VmId {
-                number: number as u8,
+                number: number as u16,
             })
         } else {
             None
@@ -93,10 +91,10 @@ impl VmId {
     }
 }
 
-/// The number of a virtual processor within its VM, 0 to 7.
+/// The number of a virtual processor within its VM, 0 to 255.
 #[derive(Clone, Copy, Debug, PartialEq, Eq)]
 pub struct VcpuId {
-    number: u8,
+    number: u16,
 }
 
 impl Model for VcpuId {
@@ -110,14 +108,14 @@ impl Model for VcpuId {
 }
 
 impl VcpuId {
-    /// The virtual processor of this number, or `None` from 8 on.
+    /// The virtual processor of this number, or `None` from 256 on.
     pub fn try_new(number: u32) -> Option<VcpuId>
         ensures valid { IsSome result ↔ (number < vcpu_limit) }
         ensures value { IfSome result (λ vcpu. vcpu ≡ number) }
     {
         if number < VCPU_LIMIT as u32 {
             Some(VcpuId {
-                number: number as u8,
+                number: number as u16,
             })
         } else {
             None
@@ -133,7 +131,7 @@ impl VcpuId {
     }
 }
 
-/// The number of a guest frame, 0 to 262,143: a guest sees at most 1 GiB in frames of 4,096 bytes.
+/// The number of a guest frame, 0 to 134,217,727: a guest sees at most 512 GiB in frames of 4,096 bytes.
 #[derive(Clone, Copy, Debug, PartialEq, Eq)]
 pub struct Gfn {
     number: u32,
@@ -150,7 +148,7 @@ impl Model for Gfn {
 }
 
 impl Gfn {
-    /// The guest frame of this number, or `None` from 262,144 on.
+    /// The guest frame of this number, or `None` from 134,217,728 on.
     pub fn try_new(number: u32) -> Option<Gfn>
         ensures valid { IsSome result ↔ (number < gfn_limit) }
         ensures value { IfSome result (λ gfn. gfn ≡ number) }

@@ -1,6 +1,6 @@
 -- A table is filled: its leaves are taken, and then its entries are mapped.
-use Rattle.std.proofs.Common.{ℕ, zero, suc, ◌≡◌, ◌<◌, ◌≤◌, ◌+◌, true, false, List, [], ◌∷◌, ◌++◌, length, get_or, take, Option, Some, None, Result, Ok, Err, refl, sym, ap, subst, ◌∙◌, arith, eq-eqb}
-use Rattle.std.proofs.lemmas.Bool.{ne_eqb}
+use Rattle.std.proofs.Common.{ℕ, zero, suc, ◌≡◌, ◌<◌, ◌≤◌, ◌+◌, ◌/◌, inl, inr, true, false, nat_eq, All, List, [], ◌∷◌, ◌++◌, length, get_or, take, Option, Some, None, Result, Ok, Err, refl, sym, ap, subst, ◌∙◌, arith, eq-eqb}
+use Rattle.std.proofs.lemmas.Bool.{ne_eqb, eqb-true, or_cases}
 use Rattle.std.proofs.lemmas.List.{take_more}
 use Rattle.std.specs.FinMap as finite
 use Rattle.std.specs.Result.{IsOk}
@@ -19,7 +19,7 @@ pub leaf-taken : (old new : Levels) (root : ℕ) (leaf : Option ℕ) → has_slo
 leaf-taken old new root None none room led = absurd (let full = led.2 in omega (arith, room, full))
 leaf-taken old new root (Some leaf) none room led =
     let leaves : new.leaves.items ≡ old.leaves.items ++ root ∷ [] = rw none at led.2 in
-    λ i. record { mapped = mapped-unchanged new.root.items old.root.items new.pool old.pool led.1 i; leaves = leaves i; capacity = led.3 i }
+    λ i. record { mapped = mapped-unchanged new.root.items old.root.items new.pool old.pool led.1 i; leaves = leaves i; roots = led.3 i; capacity = led.4 i }
 
 first-times : (root : ℕ) (roots : List ℕ) → times_in (root ∷ roots) root ≡ 1 + times_in roots root
 first-times root roots = rw (eq-eqb root root refl) refl
@@ -45,8 +45,16 @@ root-fresh (root ∷ roots) (suc i) d low once =
     omega (arith, twice, there, first)) in
     rw (ne_eqb root (get_or roots i d) other) (root-fresh roots i d (omega (arith, low)) (λ r. let all = once r in let rest = rest-times root roots r in omega (arith, all, rest)))
 
+-- a root slot that has a leaf is one of the list
+has_slot-low : (roots : List ℕ) (s count : ℕ) → has_slot roots s ≡ true → All (λ root. root < count) roots → s < count
+has_slot-low [] s count has low = cc
+has_slot-low (root ∷ roots) s count has low = elim (or_cases (nat_eq root s) (has_slot roots s) has) [
+  | inl here ↦ let same : root ≡ s = eqb-true root s here in let first : root < count = low 0 0 (omega arith) in omega (arith, same, first)
+  | inr later ↦ has_slot-low roots s count later (λ k d lt. low (suc k) d (omega (arith, lt)))
+]
+
 -- the entries of a table so far, and the one that comes next
-module _ (capacity : ℕ) (roots : List ℕ) (es : List (ℕ × ℕ)) (are : AreMappings capacity roots es) (t : Table) (i : ℕ) (low : i < length es) (so_far : finite.entries t.mapped ≡ take i es) (leaves : t.leaves ≡ roots) where
+module _ (count capacity : ℕ) (roots : List ℕ) (es : List (ℕ × ℕ)) (are : AreMappings count capacity roots es) (t : Table) (i : ℕ) (low : i < length es) (so_far : finite.entries t.mapped ≡ take i es) (leaves : t.leaves ≡ roots) where
   entry_next : ℕ × ℕ
   entry_next = get_or es i (0, 0)
 
@@ -57,6 +65,9 @@ module _ (capacity : ℕ) (roots : List ℕ) (es : List (ℕ × ℕ)) (are : Are
   rooted : has_leaf_of t.leaves entry_next.0 ≡ true
   unfolding entry_next
   rooted = rw leaves (are.rooted i low)
+
+  pub next-root : (g : ℕ) → g ≡ (get_or es i (0, 0)).0 → g / 512 < count
+  next-root g is = rw is (has_slot-low roots ((get_or es i (0, 0)).0 / 512) count (are.rooted i low) are.low)
 
   pub next-served : (g : ℕ) → g ≡ (get_or es i (0, 0)).0 → map_fault t g ≡ None
   unfolding entry_next

@@ -8,20 +8,22 @@ use Rattle.std.specs.List.{list_any}
 use Rattle.kc_model.specs.State.{Vcpu, Image, absent_vcpu, no_vcpus}
 use Rattle.kc_model.specs.Refusals.{overlaps}
 use Rattle.kc_model.specs.Lawful.{Apart, IsLawfulVcpu}
+use Rattle.kc_types.specs.Configuration.{vcpus_of}
+use Rattle.kc_types.specs.declared.version.Version.{Version}
 use Rattle.kc_types.specs.declared.slot.Phase.{Phase}
 use Rattle.kc_model.proofs.States.Slots.{length-no_vcpus, at-no_vcpus, waits-not}
 
-pub all-absent : (vcpus : List Vcpu) → length vcpus ≡ 8 → All (λ (vcpu : Vcpu). vcpu ≡ absent_vcpu) vcpus → vcpus ≡ no_vcpus
-all-absent vcpus eight all = ext_get_or absent_vcpu vcpus no_vcpus (eight ∙ sym length-no_vcpus) (λ i low. all i absent_vcpu low ∙ sym (at-no_vcpus i))
+pub all-absent : (version : Version) (vcpus : List Vcpu) → length vcpus ≡ vcpus_of version → All (λ (vcpu : Vcpu). vcpu ≡ absent_vcpu) vcpus → vcpus ≡ no_vcpus version
+all-absent version vcpus count all = ext_get_or absent_vcpu vcpus (no_vcpus version) (count ∙ sym (length-no_vcpus version)) (λ i low. all i absent_vcpu low ∙ sym (at-no_vcpus version i))
 
 -- each virtual processor, and the absent one past the last
-pub each-vcpu : (phase : Phase) (vcpus : List Vcpu) → All (IsLawfulVcpu phase) vcpus ↔ ((c : ℕ) → IsLawfulVcpu phase (get_or vcpus c absent_vcpu))
-each-vcpu phase vcpus = (
+pub each-vcpu : (version : Version) (phase : Phase) (vcpus : List Vcpu) → All (IsLawfulVcpu version phase) vcpus ↔ ((c : ℕ) → IsLawfulVcpu version phase (get_or vcpus c absent_vcpu))
+each-vcpu version phase vcpus = (
   λ all c. elim (cases_lt c (length vcpus)) [
     | inl low ↦ all c absent_vcpu low
-    | inr past ↦ subst (IsLawfulVcpu phase) (sym (get_or_past vcpus c absent_vcpu past)) (waits-not phase absent_vcpu refl)
+    | inr past ↦ subst (IsLawfulVcpu version phase) (sym (get_or_past vcpus c absent_vcpu past)) (waits-not version phase absent_vcpu refl)
   ],
-  λ each k d low. subst (IsLawfulVcpu phase) (sym (get_or_default vcpus k d absent_vcpu low)) (each k),
+  λ each k d low. subst (IsLawfulVcpu version phase) (sym (get_or_default vcpus k d absent_vcpu low)) (each k),
 )
 
 overlaps-turned : (a b : Image) → overlaps a.base a.len b ≡ overlaps b.base b.len a

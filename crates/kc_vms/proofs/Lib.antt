@@ -3,7 +3,6 @@ pub mod Lookups
 pub mod Tables
 pub mod Changes
 pub mod Rising
-pub mod Emptied
 pub mod Kept
 pub mod Rows
 mod Judged

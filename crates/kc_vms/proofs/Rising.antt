@@ -1,6 +1,6 @@
 -- The entries of the map that a look-up function is, by ascending guest frame.
-use Rattle.std.proofs.Common.{ℕ, zero, suc, ◌≡◌, ◌<◌, ◌≤◌, ◌+◌, ◌*◌, ◌/◌, ◌%◌, get_or, List, [], ◌∷◌, ◌++◌, length, take, Option, Some, None, refl, sym, ap, subst, ◌∙◌, arith}
-use Rattle.std.proofs.lemmas.List.{append-nil, take_more}
+use Rattle.std.proofs.Common.{ℕ, zero, suc, ◌≡◌, ◌<◌, ◌≤◌, ◌+◌, ◌-◌, ◌*◌, ◌/◌, ◌%◌, get_or, List, [], ◌∷◌, ◌++◌, length, take, Option, Some, None, refl, sym, ap, subst, ◌∙◌, arith}
+use Rattle.std.proofs.lemmas.List.{append-nil, get_or_past, take_more}
 use Rattle.std.specs.declared.cmp.Ordering.{Ordering}
 use Rattle.std.specs.declared.cmp.Ordering.TheVariants.{Less, Equal, Greater}
 use Rattle.std.specs.Ordering.{nat_cmp}
@@ -93,7 +93,7 @@ entries-none look n (suc k) none =
     ap (λ b. entries (map_of look b)) e ∙ entries-more look (n + k) ∙ ap (λ v. entries (map_of look (n + k)) ++ entry_of v (n + k)) (none k (omega arith)) ∙ append-nil _
     ∙ entries-none look n k (λ i low. none i (omega (arith, low)))
 
-pub mapped-entries : (root : List (Option ℕ)) (pool : Pool) → entries (mapped_by root pool) ≡ entries (map_of (look_up root pool) 262144)
+pub mapped-entries : (root : List (Option ℕ)) (pool : Pool) → entries (mapped_by root pool) ≡ entries (map_of (look_up root pool) 134217728)
 unfolding mapped_by
 mapped-entries root pool = refl
 
@@ -134,3 +134,11 @@ slot-some root pool slot new is = let e : slot * 512 + 512 ≡ (slot + 1) * 512 
 pub none-below : (root : List (Option ℕ)) (pool : Pool) → entries (map_of (look_up root pool) 0) ≡ []
 unfolding map_of
 none-below root pool = empty-entries
+
+-- a root that ends maps nothing further on
+pub rest-none : (root : List (Option ℕ)) (pool : Pool) (slot : ℕ) (old : List (ℕ × ℕ)) → length root ≤ slot → slot ≤ 262144 → old ≡ entries (map_of (look_up root pool) (slot * 512)) → old ≡ entries (map_of (look_up root pool) 134217728)
+rest-none root pool slot old past few so_far =
+    let e : slot * 512 + (134217728 - slot * 512) ≡ 134217728 = omega (arith, few) in
+    so_far ∙ sym (ap (λ n. entries (map_of (look_up root pool) n)) (sym e) ∙ entries-none (look_up root pool) (slot * 512) (134217728 - slot * 512) (λ i low.
+    let further : length root ≤ (slot * 512 + i) / 512 = omega (arith, past) in
+    rw (get_or_past root ((slot * 512 + i) / 512) None further) refl))

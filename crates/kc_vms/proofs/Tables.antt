@@ -7,6 +7,7 @@ use Rattle.std.proofs.Math.ListN.{get_or-eq_default}
 use Rattle.std.proofs.lemmas.List.Folds.{list_any_at}
 use Rattle.std.specs.Ordering.{nat_cmp}
 use Rattle.std.specs.FinMap.{get, insert, remove, empty, get-empty}
+use Rattle.kc_types.specs.Limits.{leaf_limit}
 use Rattle.kc_vms.specs.TablePool.{Pool, IsPool, empty_leaf, entry_at, with_cell, with_taken_leaf}
 use Rattle.kc_vms.specs.Stage2.{has_slot}
 use Rattle.kc_vms.specs.Levels.{IsTable, look_up, entry_under, mapped_by}
@@ -15,34 +16,34 @@ use Rattle.kc_vms.specs.TwoLevels.{table_of}
 use Rattle.kc_vms.proofs.Maps.{inserted-same, inserted-other, removed-same, removed-other, map_of-past, map_of-below, maps-same}
 use Rattle.kc_vms.proofs.Lookups.{look-same, look-other}
 
-pub mapped-get : (root : List (Option ℕ)) (pool : Pool) (g : ℕ) → g < 262144 → get (mapped_by root pool) g ≡ look_up root pool g
+pub mapped-get : (root : List (Option ℕ)) (pool : Pool) (g : ℕ) → g < 134217728 → get (mapped_by root pool) g ≡ look_up root pool g
 unfolding mapped_by
-mapped-get root pool g below = map_of-below (look_up root pool) 262144 g below
+mapped-get root pool g below = map_of-below (look_up root pool) 134217728 g below
 
-pub mapped-past : (root : List (Option ℕ)) (pool : Pool) (g : ℕ) → 262144 ≤ g → get (mapped_by root pool) g ≡ None
+pub mapped-past : (root : List (Option ℕ)) (pool : Pool) (g : ℕ) → 134217728 ≤ g → get (mapped_by root pool) g ≡ None
 unfolding mapped_by
-mapped-past root pool g past = map_of-past (look_up root pool) 262144 g past
+mapped-past root pool g past = map_of-past (look_up root pool) 134217728 g past
 
 pub mapped-unchanged : (root old_root : List (Option ℕ)) (pool old_pool : Pool) → ((g : ℕ) → look_up root pool g ≡ look_up old_root old_pool g) → mapped_by root pool ≡ mapped_by old_root old_pool
-mapped-unchanged root old_root pool old_pool same = maps-same _ _ 262144
+mapped-unchanged root old_root pool old_pool same = maps-same _ _ 134217728
     (λ q past. mapped-past root pool q past ∙ sym (mapped-past old_root old_pool q past))
     (λ q below. mapped-get root pool q below ∙ same q ∙ sym (mapped-get old_root old_pool q below))
 
 pub mapped-empty : (root : List (Option ℕ)) (pool : Pool) → ((g : ℕ) → look_up root pool g ≡ None) → mapped_by root pool ≡ empty
-mapped-empty root pool none = maps-same _ _ 262144
+mapped-empty root pool none = maps-same _ _ 134217728
     (λ q past. mapped-past root pool q past ∙ sym (get-empty nat_cmp q))
     (λ q below. mapped-get root pool q below ∙ none q ∙ sym (get-empty nat_cmp q))
 
-pub mapped-inserted : (root : List (Option ℕ)) (leaves : List ℕ) (pool : Pool) (g leaf f : ℕ) → IsTable root leaves pool → g < 262144 → get_or root (g / 512) None ≡ Some leaf → mapped_by root (with_cell pool leaf (g % 512) (Some f)) ≡ insert (mapped_by root pool) g f
-mapped-inserted root leaves pool g leaf f table within is = maps-same _ _ 262144
+pub mapped-inserted : (root : List (Option ℕ)) (leaves : List ℕ) (pool : Pool) (g leaf f : ℕ) → IsTable root leaves pool → g < 134217728 → get_or root (g / 512) None ≡ Some leaf → mapped_by root (with_cell pool leaf (g % 512) (Some f)) ≡ insert (mapped_by root pool) g f
+mapped-inserted root leaves pool g leaf f table within is = maps-same _ _ 134217728
     (λ q past. mapped-past root _ q past ∙ sym (inserted-other (mapped_by root pool) g f q (λ same. absurd (omega (arith, same))) ∙ mapped-past root pool q past))
     (λ q below. mapped-get root _ q below ∙ elim (cases_eq q g) [
       | inl same ↦ rw same (look-same root leaves pool g leaf (Some f) table is ∙ sym (inserted-same (mapped_by root pool) g f))
       | inr other ↦ look-other root leaves pool g q leaf (Some f) table is other ∙ sym (inserted-other (mapped_by root pool) g f q other ∙ mapped-get root pool q below)
     ])
 
-pub mapped-removed : (root : List (Option ℕ)) (leaves : List ℕ) (pool : Pool) (g leaf : ℕ) → IsTable root leaves pool → g < 262144 → get_or root (g / 512) None ≡ Some leaf → mapped_by root (with_cell pool leaf (g % 512) None) ≡ remove (mapped_by root pool) g
-mapped-removed root leaves pool g leaf table within is = maps-same _ _ 262144
+pub mapped-removed : (root : List (Option ℕ)) (leaves : List ℕ) (pool : Pool) (g leaf : ℕ) → IsTable root leaves pool → g < 134217728 → get_or root (g / 512) None ≡ Some leaf → mapped_by root (with_cell pool leaf (g % 512) None) ≡ remove (mapped_by root pool) g
+mapped-removed root leaves pool g leaf table within is = maps-same _ _ 134217728
     (λ q past. mapped-past root _ q past ∙ sym (removed-other (mapped_by root pool) g q (λ same. absurd (omega (arith, same))) ∙ mapped-past root pool q past))
     (λ q below. mapped-get root _ q below ∙ elim (cases_eq q g) [
       | inl same ↦ rw same (look-same root leaves pool g leaf None table is ∙ sym (removed-same (mapped_by root pool) g))
@@ -50,8 +51,8 @@ mapped-removed root leaves pool g leaf table within is = maps-same _ _ 262144
     ])
 
 -- a guest frame that is not mapped need not be removed
-pub mapped-absent : (root : List (Option ℕ)) (pool : Pool) (g : ℕ) → g < 262144 → look_up root pool g ≡ None → mapped_by root pool ≡ remove (mapped_by root pool) g
-mapped-absent root pool g within none = maps-same _ _ 262144
+pub mapped-absent : (root : List (Option ℕ)) (pool : Pool) (g : ℕ) → g < 134217728 → look_up root pool g ≡ None → mapped_by root pool ≡ remove (mapped_by root pool) g
+mapped-absent root pool g within none = maps-same _ _ 134217728
     (λ q past. sym (removed-other (mapped_by root pool) g q (λ same. absurd (omega (arith, same)))))
     (λ q below. elim (cases_eq q g) [
       | inl same ↦ rw same (mapped-get root pool g within ∙ none ∙ sym (removed-same (mapped_by root pool) g))
@@ -102,11 +103,11 @@ led-before root leaves pool s leaf t k table none within is lt at = let long = l
 ]
 
 -- a leaf is taken for a slot that has none
-pub table-led : (root : List (Option ℕ)) (leaves : List ℕ) (pool : Pool) (s leaf : ℕ) → IsTable root leaves pool → get_or root s None ≡ None → s < 512 → leaf ≡ pool.taken → IsPool (with_taken_leaf pool) → IsTable (set root s (Some leaf)) (leaves ++ s ∷ []) (with_taken_leaf pool)
+pub table-led : (root : List (Option ℕ)) (leaves : List ℕ) (pool : Pool) (s leaf : ℕ) → IsTable root leaves pool → get_or root s None ≡ None → s < length root → leaf ≡ pool.taken → IsPool (with_taken_leaf pool) → IsTable (set root s (Some leaf)) (leaves ++ s ∷ []) (with_taken_leaf pool)
 table-led root leaves pool s leaf table none within is kept =
-    let short : s < length root = (let l = table.long in omega (arith, l)) in
+    let short : s < length root = within in
     record {
-      long = length-set root s (Some leaf) ∙ table.long;
+      long = rw length-set table.long;
       whole = kept;
       taken = let t = table.taken in let l = length-append leaves (s ∷ []) in omega (arith, t, l);
       led = λ t k. (
@@ -132,9 +133,9 @@ under-leaf : (v : Option ℕ) (pool : Pool) (at : ℕ) → entry_under v (with_t
 under-leaf None pool at = refl
 under-leaf (Some leaf) pool at = beyond-none pool.entries (leaf * 512 + at)
 
-pub look-led : (root : List (Option ℕ)) (leaves : List ℕ) (pool : Pool) (s leaf : ℕ) → IsTable root leaves pool → get_or root s None ≡ None → s < 512 → leaf ≡ pool.taken → (g : ℕ) → look_up (set root s (Some leaf)) (with_taken_leaf pool) g ≡ look_up root pool g
+pub look-led : (root : List (Option ℕ)) (leaves : List ℕ) (pool : Pool) (s leaf : ℕ) → IsTable root leaves pool → get_or root s None ≡ None → s < length root → leaf ≡ pool.taken → (g : ℕ) → look_up (set root s (Some leaf)) (with_taken_leaf pool) g ≡ look_up root pool g
 look-led root leaves pool s leaf table none within is g = elim (cases_eq (g / 512) s) [
-  | inl same ↦ rw (same, get_or-set_same root s (Some leaf) None (let l = table.long in omega (arith, l)), none) (beyond-none pool.entries (leaf * 512 + g % 512) ∙ get_or-eq_default pool.entries None (let l = table.whole.long in omega (arith, l)))
+  | inl same ↦ rw (same, get_or-set_same root s (Some leaf) None within, none) (beyond-none pool.entries (leaf * 512 + g % 512) ∙ get_or-eq_default pool.entries None (let l = table.whole.long in omega (arith, l)))
   | inr other ↦ under-leaf (get_or (set root s (Some leaf)) (g / 512) None) pool (g % 512) ∙ ap (λ v. entry_under v pool (g % 512)) (get_or-set_other root s (g / 512) (Some leaf) None other)
 ]
 
@@ -145,7 +146,7 @@ all-none root none pool g = rw (none (g / 512)) refl
 pub mapped-new : (root : List (Option ℕ)) (pool : Pool) → ((s : ℕ) → get_or root s None ≡ None) → mapped_by root pool ≡ empty
 mapped-new root pool none = mapped-empty root pool (all-none root none pool)
 
-pub table-new : (root : List (Option ℕ)) (pool : Pool) → ((s : ℕ) → get_or root s None ≡ None) → length root ≡ 512 → IsPool pool → pool.taken ≡ 0 → IsTable root [] pool
+pub table-new : (root : List (Option ℕ)) (pool : Pool) → ((s : ℕ) → get_or root s None ≡ None) → length root ≤ leaf_limit → IsPool pool → pool.taken ≡ 0 → IsTable root [] pool
 table-new root pool none long kept taken = record {
   long = long;
   whole = kept;
@@ -154,8 +155,20 @@ table-new root pool none long kept taken = record {
 }
 
 -- what a look-up in two steps finds at a guest frame, or at a copy of its number
-pub got-none : (t : Levels) (number g : ℕ) → number ≡ g → number < 262144 → get_or t.root.items (number / 512) None ≡ None → get (table_of t).mapped g ≡ None
+pub got-none : (t : Levels) (number g : ℕ) → number ≡ g → number < 134217728 → get_or t.root.items (number / 512) None ≡ None → get (table_of t).mapped g ≡ None
 got-none t number g is within none = rw (← is) (mapped-get t.root.items t.pool number within ∙ look-none t.root.items t.pool number none)
 
-pub got-some : (t : Levels) (number g leaf : ℕ) → number ≡ g → number < 262144 → get_or t.root.items (number / 512) None ≡ Some leaf → get (table_of t).mapped g ≡ entry_at t.pool leaf (number % 512)
+pub got-some : (t : Levels) (number g leaf : ℕ) → number ≡ g → number < 134217728 → get_or t.root.items (number / 512) None ≡ Some leaf → get (table_of t).mapped g ≡ entry_at t.pool leaf (number % 512)
 got-some t number g leaf is within there = rw (← is) (mapped-get t.root.items t.pool number within ∙ ap (λ v. entry_under v t.pool (number % 512)) there)
+
+-- a root that finds what another finds
+pub table-widened : (root wide : List (Option ℕ)) (leaves : List ℕ) (pool : Pool) → IsTable root leaves pool → ((s : ℕ) → get_or wide s None ≡ get_or root s None) → length wide ≤ leaf_limit → IsTable wide leaves pool
+table-widened root wide leaves pool table same few = record {
+  long = few;
+  whole = table.whole;
+  taken = table.taken;
+  led = λ t k. (λ there. (table.led t k).0 (sym (same t) ∙ there), λ p. same t ∙ (table.led t k).1 p);
+}
+
+pub look-widened : (root wide : List (Option ℕ)) (pool : Pool) → ((s : ℕ) → get_or wide s None ≡ get_or root s None) → (g : ℕ) → look_up wide pool g ≡ look_up root pool g
+look-widened root wide pool same g = ap (λ v. entry_under v pool (g % 512)) (same (g / 512))

@@ -1,8 +1,8 @@
 -- What the root and the leaves say together.
-use Rattle.std.specs.Prelude.{ℕ, zero, suc, ◌≡◌, ◌/◌, ◌%◌, ◌<◌, ◌↔◌, List, length, Option, Some, None, slice_index, slice_index_or}
+use Rattle.std.specs.Prelude.{ℕ, zero, suc, ◌≡◌, ◌/◌, ◌%◌, ◌<◌, ◌≤◌, ◌↔◌, List, length, Option, Some, None, slice_index, slice_index_or}
 use Rattle.std.specs.Ordering.{nat_cmp}
 use Rattle.std.specs.FinMap as map
-use Rattle.kc_types.specs.Limits.{gfn_limit, leaf_entries}
+use Rattle.kc_types.specs.Limits.{gfn_limit, leaf_entries, leaf_limit}
 use Rattle.kc_vms.specs.TablePool.{Pool, IsPool, entry_at}
 
 -- a root slot after it was emptied
@@ -32,7 +32,7 @@ mapped_by root pool = map_of (look_up root pool) gfn_limit
 
 -- a root slot leads to the leaf that it took
 pub record IsTable (root : List (Option ℕ)) (leaves : List ℕ) (pool : Pool) : Type 0 where
-  pub long : length root ≡ leaf_entries
+  pub long : length root ≤ leaf_limit
   pub whole : IsPool pool
   pub taken : pool.taken ≡ length leaves
   pub led : (slot leaf : ℕ) → (slice_index_or root slot None ≡ Some leaf) ↔ ((leaf < length leaves) × (slice_index leaves leaf ≡ slot))

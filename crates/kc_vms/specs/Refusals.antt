@@ -1,7 +1,6 @@
 -- Why a call on a slot is refused, in the order of the conditions, whatever the rest of the core is.
 use Rattle.std.specs.Prelude.{ℕ, not, nat_le, [], ◌∷◌, length, Option}
 use Rattle.std.specs.List.{list_any}
-use Rattle.kc_types.specs.Limits.{image_limit}
 use Rattle.kc_types.specs.declared.refusal.Refusal.{Refusal}
 use Rattle.kc_types.specs.declared.refusal.Refusal.TheVariants.{SlotUsed, NoVm, WrongPhase, VcpuUsed, ImagesFull, Overlap, NoImage, ImageFull}
 use Rattle.kc_model.specs.Refusals.{when, first_of_these, is_empty, is_booting, overlaps, is_short}
@@ -20,9 +19,10 @@ register_refusal slot = when (not (is_empty slot.phase)) SlotUsed
 abbrev pub add_vcpu_refusal : LinkedSlot → ℕ → Option Refusal
 add_vcpu_refusal slot c = first_of_these (no_vm_in slot ∷ not_booting_in slot ∷ when (vcpu_of slot c).registered VcpuUsed ∷ [])
 
-abbrev pub add_image_refusal : LinkedSlot → ℕ → ℕ → Option Refusal
-add_image_refusal slot base len = first_of_these (no_vm_in slot ∷ not_booting_in slot
-    ∷ when (nat_le image_limit (length slot.images)) ImagesFull
+-- if a slot may have `most` images
+abbrev pub add_image_refusal : ℕ → LinkedSlot → ℕ → ℕ → Option Refusal
+add_image_refusal most slot base len = first_of_these (no_vm_in slot ∷ not_booting_in slot
+    ∷ when (nat_le most (length slot.images)) ImagesFull
     ∷ when (list_any (overlaps base len) slot.images) Overlap ∷ [])
 
 abbrev pub next_page_refusal : LinkedSlot → ℕ → Option Refusal

@@ -1,6 +1,6 @@
 //! All that a table maps, leaf by leaf.
 ghost use Rattle.std.specs.Prelude.{◌≡◌, ◌+◌, ◌*◌, ◌<◌, Some, None, OnOk, IfOk, slice_index_or};
-ghost use Rattle.kc_types.specs.Limits.{gfn_limit, leaf_entries};
+ghost use Rattle.kc_types.specs.Limits.{gfn_limit, leaf_entries, leaf_limit};
 ghost use Rattle.kc_vms.specs.TwoLevels.{IsLevels, entries_below};
 
 use crate::leaf::LeafNo;
@@ -16,7 +16,7 @@ fn push_leaf(
     entries: &mut Vec<(Gfn, FrameNo)>,
 ) -> Result<(), Memory>
     requires kept { IsLevels levels.now }
-    requires within { slot < leaf_entries }
+    requires within { slot < leaf_limit }
     requires led { slice_index_or levels.now.root.items slot None ≡ Some leaf }
     requires so_far { entries.old.items ≡ entries_below levels.now (slot * leaf_entries) }
     ensures { OnOk result (entries.new.items ≡ entries_below levels.now (slot * leaf_entries + leaf_entries)) }
@@ -37,7 +37,7 @@ pub fn entries_of(alloc: Global, levels: &Levels) -> Result<Vec<(Gfn, FrameNo)>,
     ensures { IfOk result (λ entries. entries.items ≡ entries_below levels.now gfn_limit) }
 {
     let mut entries = Vec::new(alloc);
-    for slot in 0..LEAF_ENTRIES {
+    for slot in 0..levels.root.len() {
         if let Some(leaf) = levels.leaf_at(slot) {
             push_leaf(levels, slot, leaf, &mut entries)?;
         }

@@ -1,29 +1,29 @@
 //! Whether a slot may be as described.
 ghost use Rattle.std.specs.Prelude.{◌≡◌, ◌↔◌, IsTrue, All, length};
-ghost use Rattle.kc_types.specs.Limits.{vcpu_limit};
+ghost use Rattle.kc_types.specs.Configuration.{vcpus_of};
 ghost use Rattle.kc_model.specs.State.{absent_vcpu, no_vcpus};
 ghost use Rattle.kc_model.specs.Lawful.{IsLawfulVcpu, IsLawfulImage, Apart};
 ghost use Rattle.kc_vms.specs.Vm.{IsSlot};
 
 use crate::pages::pages_of;
 use crate::vm::overlaps_any;
-use kc_types::{GFN_LIMIT, IMAGE_LIMIT, IMAGE_SIZE_LIMIT, Image, Phase, VCPU_LIMIT, Vcpu};
+use kc_types::{Image, Phase, Vcpu, Version};
 
 /// Whether a virtual processor of a slot in this phase may wait for what it waits for.
-fn is_vcpu(phase: Phase, vcpu: &Vcpu) -> bool
-    ensures { IsTrue result ↔ IsLawfulVcpu phase vcpu.now }
+fn is_vcpu(version: Version, phase: Phase, vcpu: &Vcpu) -> bool
+    ensures { IsTrue result ↔ IsLawfulVcpu version phase vcpu.now }
 {
     match vcpu.fault {
-        Some(gfn) => vcpu.registered && phase == Phase::Active && gfn < GFN_LIMIT,
+        Some(gfn) => vcpu.registered && phase == Phase::Active && gfn < version.gfns(),
         None => true,
     }
 }
 
-fn are_vcpus(phase: Phase, vcpus: &[Vcpu]) -> bool
-    ensures { IsTrue result ↔ All (IsLawfulVcpu phase) vcpus.now }
+fn are_vcpus(version: Version, phase: Phase, vcpus: &[Vcpu]) -> bool
+    ensures { IsTrue result ↔ All (IsLawfulVcpu version phase) vcpus.now }
 {
     for vcpu in vcpus {
-        if !is_vcpu(phase, vcpu) {
+        if !is_vcpu(version, phase, vcpu) {
             return false;
         }
     }
@@ -36,10 +36,10 @@ fn is_absent(vcpu: &Vcpu) -> bool
     !vcpu.registered && vcpu.fault.is_none()
 }
 
-/// Whether none of eight virtual processors is registered.
-fn are_absent(vcpus: &[Vcpu]) -> bool
-    requires { length vcpus.now ≡ vcpu_limit }
-    ensures { IsTrue result ↔ (vcpus.now ≡ no_vcpus) }
+/// Whether none of a VM's virtual processors is registered.
+fn are_absent(version: Version, vcpus: &[Vcpu]) -> bool
+    requires { length vcpus.now ≡ vcpus_of version }
+    ensures { IsTrue result ↔ (vcpus.now ≡ no_vcpus version) }
 {
     for vcpu in vcpus {
         if !is_absent(vcpu) {
@@ -50,21 +50,21 @@ fn are_absent(vcpus: &[Vcpu]) -> bool
 }
 
 /// Whether an image is within the limits.
-fn is_image(image: &Image) -> bool
-    ensures { IsTrue result ↔ IsLawfulImage image.now }
+fn is_image(version: Version, image: &Image) -> bool
+    ensures { IsTrue result ↔ IsLawfulImage version image.now }
 {
     let pages = pages_of(image.len);
     0 < image.len
-        && image.len <= IMAGE_SIZE_LIMIT
-        && u64::from(image.base) + u64::from(pages) <= u64::from(GFN_LIMIT)
+        && image.len <= version.most_image_bytes()
+        && u64::from(image.base) + u64::from(pages) <= u64::from(version.gfns())
         && image.pages <= pages
 }
 
-fn are_images(images: &[Image]) -> bool
-    ensures { IsTrue result ↔ All IsLawfulImage images.now }
+fn are_images(version: Version, images: &[Image]) -> bool
+    ensures { IsTrue result ↔ All (IsLawfulImage version) images.now }
 {
     for image in images {
-        if !is_image(image) {
+        if !is_image(version, image) {
             return false;
         }
     }
@@ -83,17 +83,18 @@ fn are_apart(images: &[Image]) -> bool
     true
 }
 
-/// Whether a slot in this phase may have these virtual processors and these boot images.
-pub fn is_slot(phase: Phase, vcpus: &[Vcpu], images: &[Image]) -> bool
-    ensures { IsTrue result ↔ IsSlot phase vcpus.now images.now }
+/// Whether a slot of this version in this phase may have these virtual processors and these boot images.
+pub fn is_slot(version: Version, phase: Phase, vcpus: &[Vcpu], images: &[Image]) -> bool
+    ensures { IsTrue result ↔ IsSlot version phase vcpus.now images.now }
 {
-    if vcpus.len() != VCPU_LIMIT || images.len() > IMAGE_LIMIT {
+    let (count, most) = (version.vcpus() as usize, version.most_images() as usize);
+    if vcpus.len() != count || images.len() > most {
         return false;
     }
-    if !are_vcpus(phase, vcpus) {
+    if !are_vcpus(version, phase, vcpus) {
         return false;
     }
-    if !are_images(images) {
+    if !are_images(version, images) {
         return false;
     }
     if !are_apart(images) {
@@ -102,5 +103,5 @@ pub fn is_slot(phase: Phase, vcpus: &[Vcpu], images: &[Image]) -> bool
     if phase != Phase::Empty {
         return true;
     }
-    images.is_empty() && are_absent(vcpus)
+    images.is_empty() && are_absent(version, vcpus)
 }

@@ -4,7 +4,7 @@ ghost use Rattle.kc_types.specs.Limits.{leaf_entries, leaf_limit};
 ghost use Rattle.kc_vms.specs.TablePool.{Pool, IsPool, new_pool, entry_at, with_cell, with_taken_leaf};
 
 use crate::leaf::LeafNo;
-use kc_types::{FrameNo, LEAF_ENTRIES, Memory};
+use kc_types::{FrameNo, LEAF_ENTRIES, MaybeFrame, Memory};
 use std::alloc::Global;
 use std::marker::Model;
 
@@ -13,9 +13,9 @@ use std::marker::Model;
 pub struct TablePool {
     /// Those of the leaves that are taken, one leaf after another. There is room for all, of which nothing is touched
     /// before it is taken.
-    entries: Vec<Option<FrameNo>>,
-    taken: u8,
-    capacity: u8,
+    entries: Vec<MaybeFrame>,
+    taken: u32,
+    capacity: u32,
 }
 
 impl Model for TablePool {
@@ -34,7 +34,7 @@ impl Model for TablePool {
 impl TablePool {
     /// Makes a pool of this many leaves, none of them taken; `Memory` if memory runs out. Nothing else takes
     /// memory.
-    pub fn try_new(alloc: Global, leaves: u8) -> Result<TablePool, Memory>
+    pub fn try_new(alloc: Global, leaves: u32) -> Result<TablePool, Memory>
         requires { leaves ≤ leaf_limit }
         ensures value { IfOk result (λ pool. pool ≡ new_pool leaves) }
         ensures kept { IfOk result IsPool }
@@ -47,7 +47,7 @@ impl TablePool {
     }
 
     /// The number of leaves, taken or not.
-    pub fn capacity(&self) -> u8
+    pub fn capacity(&self) -> u32
         ensures value { result ≡ self.now.capacity }
         ensures kept { IsPool self.now }
     {
@@ -65,7 +65,7 @@ impl TablePool {
         let leaf = LeafNo::of(self.taken);
         self.taken += 1;
         self.entries
-            .resize(self.taken as usize * LEAF_ENTRIES, None)
+            .resize(self.taken as usize * LEAF_ENTRIES, MaybeFrame::of(None))
             .unwrap();
         Some(leaf)
     }
@@ -76,7 +76,7 @@ impl TablePool {
         requires within { at < leaf_entries }
         ensures { result ≡ entry_at self.now leaf at }
     {
-        self.entries[leaf.index() * LEAF_ENTRIES + at]
+        self.entries[leaf.index() * LEAF_ENTRIES + at].get()
     }
 
     /// Sets the entry at a place of a leaf that is taken.
@@ -86,7 +86,7 @@ impl TablePool {
         ensures value { self.new ≡ with_cell self.old leaf at frame }
         ensures kept { IsPool self.new }
     {
-        self.entries[leaf.index() * LEAF_ENTRIES + at] = frame;
+        self.entries[leaf.index() * LEAF_ENTRIES + at] = MaybeFrame::of(frame);
     }
 
     /// Takes all leaves back.

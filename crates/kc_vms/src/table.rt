@@ -1,6 +1,7 @@
 //! The two levels, seen as a finite map.
 ghost use Rattle.std.specs.Prelude.{◌≡◌, ◌/◌, ◌<◌, ◌≤◌, ◌∷◌, ◌++◌, [], false, length, IfOk, OnOk, OnErr};
 ghost use Rattle.std.specs.FinMap as finite;
+ghost use Rattle.kc_types.specs.Configuration.{roots_of};
 ghost use Rattle.kc_types.specs.Limits.{leaf_entries, leaf_limit};
 ghost use Rattle.kc_types.specs.Refusals.{Answers};
 ghost use Rattle.kc_vms.specs.Stage2.{Table, AreMappings, new_table, with_mapping, fits, has_slot};
@@ -8,7 +9,7 @@ ghost use Rattle.kc_vms.specs.Faults.{map_fault};
 
 use crate::entries::entries_of;
 use crate::levels::Levels;
-use kc_types::{FrameNo, Gfn, LEAF_ENTRIES, Memory};
+use kc_types::{FrameNo, Gfn, LEAF_ENTRIES, Memory, Version};
 use std::alloc::Global;
 use std::marker::Model;
 
@@ -41,31 +42,34 @@ impl Model for Stage2 {
 }
 
 impl Stage2 {
-    /// Makes an empty table with room for this many leaves of 512 entries; `Memory` if memory runs out.
-    pub fn try_new(alloc: Global, leaves: u8) -> Result<Stage2, Memory>
+    /// Makes an empty table for the guest frames of a version, with room for this many leaves of 512 entries; `Memory` if
+    /// memory runs out.
+    pub fn try_new(alloc: Global, version: Version, leaves: u32) -> Result<Stage2, Memory>
         requires { leaves ≤ leaf_limit }
-        ensures { IfOk result (λ table. table ≡ new_table leaves) }
+        ensures { IfOk result (λ table. table ≡ new_table (roots_of version) leaves) }
     {
         Ok(Stage2 {
-            levels: Levels::try_new(alloc, leaves)?,
+            levels: Levels::try_new(alloc, version.roots(), leaves)?,
         })
     }
 
-    /// Makes a table with room for this many leaves, in which these root slots, below 512, have taken leaves in this
-    /// order and these guest frames, ascending, are mapped; `Memory` if memory runs out.
+    /// Makes a table for the guest frames of a version, with room for this many leaves, in which these root slots have
+    /// taken leaves in this order and these guest frames, ascending, are mapped; `Memory` if memory runs out.
     pub fn with_entries(
         alloc: Global,
-        leaves: u8,
+        version: Version,
+        leaves: u32,
         roots: &[u32],
         entries: &[(Gfn, FrameNo)],
     ) -> Result<Stage2, Memory>
         requires room { leaves ≤ leaf_limit }
-        requires mappings { AreMappings leaves roots.now entries.now }
+        requires mappings { AreMappings (roots_of version) leaves roots.now entries.now }
         ensures leaves { IfOk result (λ table. table.leaves ≡ roots.now) }
         ensures entries { IfOk result (λ table. finite.entries table.mapped ≡ entries.now) }
+        ensures roots { IfOk result (λ table. table.roots ≡ roots_of version) }
         ensures capacity { IfOk result (λ table. table.capacity ≡ leaves) }
     {
-        let mut table = Stage2::try_new(alloc, leaves)?;
+        let mut table = Stage2::try_new(alloc, version, leaves)?;
         table.take_leaves(roots);
         table.map_all(entries);
         Ok(table)
@@ -73,7 +77,7 @@ impl Stage2 {
 
     /// Takes a leaf for a root slot that has none.
     fn take_leaf(&mut self, root: u32)
-        requires low { root < leaf_entries }
+        requires low { root < self.old.roots }
         requires none { has_slot self.old.leaves root ≡ false }
         requires room { length self.old.leaves < self.old.capacity }
         ensures { self.new ≡ record self.old { leaves = self.old.leaves ++ root ∷ [] } }
@@ -84,7 +88,7 @@ impl Stage2 {
     /// Takes leaves for root slots, in this order.
     fn take_leaves(&mut self, roots: &[u32])
         requires none { self.old.leaves ≡ [] }
-        requires roots { AreMappings self.old.capacity roots.now [] }
+        requires roots { AreMappings self.old.roots self.old.capacity roots.now [] }
         ensures { self.new ≡ record self.old { leaves = roots.now } }
     {
         for root in roots {
@@ -95,9 +99,10 @@ impl Stage2 {
     /// Maps these guest frames, whose root slots have leaves, in an empty table.
     fn map_all(&mut self, entries: &[(Gfn, FrameNo)])
         requires empty { self.old.mapped ≡ finite.empty }
-        requires mappings { AreMappings self.old.capacity self.old.leaves entries.now }
+        requires mappings { AreMappings self.old.roots self.old.capacity self.old.leaves entries.now }
         ensures entries { finite.entries self.new.mapped ≡ entries.now }
         ensures leaves { self.new.leaves ≡ self.old.leaves }
+        ensures roots { self.new.roots ≡ self.old.roots }
         ensures capacity { self.new.capacity ≡ self.old.capacity }
     {
         for entry in entries {
@@ -139,9 +144,10 @@ impl Stage2 {
             || self.levels.leaves.len() < self.levels.pool.capacity() as usize
     }
 
-    /// Maps a guest frame. `Mapped` if it is mapped already; otherwise `TablesFull` if its root slot has no leaf and
-    /// the pool has none left.
+    /// Maps a guest frame of the version. `Mapped` if it is mapped already; otherwise `TablesFull` if its root slot has
+    /// no leaf and the pool has none left.
     pub fn map(&mut self, gfn: Gfn, frame: FrameNo) -> Result<(), MapFault>
+        requires { gfn / leaf_entries < self.old.roots }
         ensures answer { Answers result (map_fault self.old gfn) }
         ensures ok { OnOk result (self.new ≡ with_mapping self.old gfn frame) }
         ensures err { OnErr result (self.new ≡ self.old) }
@@ -173,7 +179,7 @@ impl Stage2 {
 
     /// Returns all leaves to the pool.
     pub fn clear(&mut self)
-        ensures { self.new ≡ new_table self.old.capacity }
+        ensures { self.new ≡ new_table self.old.roots self.old.capacity }
     {
         self.levels.clear();
     }

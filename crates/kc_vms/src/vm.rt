@@ -2,27 +2,29 @@
 ghost use Rattle.std.specs.Prelude.{◌≡◌, ◌+◌, ◌<◌, ◌≤◌, Some, None, true, [], ◌∷◌, length, IfOk, OnOk, OnErr};
 ghost use Rattle.std.specs.List.{list_any};
 ghost use Rattle.std.specs.Borrow.{sem};
-ghost use Rattle.kc_types.specs.Limits.{gfn_limit, image_size_limit, leaf_limit};
+ghost use Rattle.kc_types.specs.Limits.{leaf_limit};
+ghost use Rattle.kc_types.specs.Configuration.{vcpus_of, gfns_of, most_images, most_image_bytes};
 ghost use Rattle.kc_types.specs.Refusals.{Answers};
 ghost use Rattle.kc_model.specs.State.{no_vcpus};
 ghost use Rattle.kc_model.specs.Refusals.{pages_of, first_of_these, overlaps};
-ghost use Rattle.kc_vms.specs.Vm.{IsVm, IsSlot, empty_vm, slot_table};
+ghost use Rattle.kc_vms.specs.Vm.{IsVm, IsSlot, capacity_for, empty_vm, slot_table};
 ghost use Rattle.kc_model.specs.Slot.{vcpu_of, next_gfn_of, in_phase, with_vcpu, awaiting, with_image, with_image_page};
 ghost use Rattle.kc_vms.specs.Refusals.{no_vm_in, not_booting_in, register_refusal, add_vcpu_refusal, add_image_refusal, next_page_refusal};
 
 use crate::pages::pages_of;
 use crate::table::Stage2;
 use arrayvec::ArrayVec;
-use kc_types::{Ends, Gfn, IMAGE_LIMIT, Image, Memory, Phase, Refusal, VCPU_LIMIT, Vcpu, VcpuId};
+use kc_types::{Ends, Gfn, IMAGE_LIMIT, Image, Memory, Phase, Refusal, Vcpu, VcpuId, Version};
 use std::alloc::Global;
 use std::marker::Model;
 
-/// A VM slot: its phase, its 8 virtual processors, its boot images, the ends of the list of its frames, and its table.
-/// Once made, it takes no more memory.
+/// A VM slot: the version whose limits it has, its phase, its virtual processors, its boot images, the ends of the list
+/// of its frames, and its table. Once made, it takes no more memory.
 #[derive(Drop)]
 pub struct Vm {
+    version: Version,
     phase: Phase,
-    vcpus: ArrayVec<Vcpu, VCPU_LIMIT>,
+    vcpus: Vec<Vcpu>,
     images: ArrayVec<Image, IMAGE_LIMIT>,
     list: Ends,
     table: Stage2,
@@ -38,42 +40,45 @@ impl Model for Vm {
 
     ghost coded = { Prim.hlevel (codes, map.code {R = nat_cmp} coded_ℕ coded_ℕ) };
 
-    ghost view = { λ v. record { slot = record { phase = v.phase; vcpus = v.vcpus.items; images = v.images.items; frames = v.list; mapped = v.table.mapped; leaves = v.table.leaves }; capacity = v.table.capacity } };
+    ghost view = { λ v. record { slot = record { phase = v.phase; vcpus = v.vcpus.items; images = v.images.items; frames = v.list; mapped = v.table.mapped; leaves = v.table.leaves }; capacity = record { version = v.version; roots = v.table.roots; leaves = v.table.capacity } } };
 
-    ghost invariant = { λ v. IsSlot v.phase v.vcpus.items v.images.items };
+    ghost invariant = { λ v. IsSlot v.version v.phase v.vcpus.items v.images.items };
 }
 
 impl Vm {
     ghost use Rattle.kc_vms.specs.Lending.{LendsList, LendsTable};
 
-    /// Makes an empty slot whose table has room for this many leaves of 512 entries, up to 64; `Memory` if memory
+    /// Makes an empty slot of a version, whose table has room for this many leaves of 512 entries; `Memory` if memory
     /// runs out.
-    pub fn try_new(alloc: Global, leaves: u8) -> Result<Vm, Memory>
+    pub fn try_new(alloc: Global, version: Version, leaves: u32) -> Result<Vm, Memory>
         requires { leaves ≤ leaf_limit }
-        ensures { IfOk result (λ vm. vm ≡ empty_vm leaves) }
+        ensures { IfOk result (λ vm. vm ≡ empty_vm (capacity_for version leaves)) }
     {
         Ok(Vm {
+            version,
             phase: Phase::Empty,
-            vcpus: absent_vcpus(),
+            vcpus: absent_vcpus(alloc, version)?,
             images: ArrayVec::new(),
             list: Ends::empty(),
-            table: Stage2::try_new(alloc, leaves)?,
+            table: Stage2::try_new(alloc, version, leaves)?,
         })
     }
 
-    /// Makes a slot in this phase, with these virtual processors and boot images, the ends of the list of its frames,
-    /// and its table.
+    /// Makes a slot of a version in this phase, with these virtual processors and boot images, the ends of the list of
+    /// its frames, and its table.
     pub fn with(
+        version: Version,
         phase: Phase,
-        vcpus: ArrayVec<Vcpu, VCPU_LIMIT>,
+        vcpus: Vec<Vcpu>,
         images: ArrayVec<Image, IMAGE_LIMIT>,
         list: Ends,
         table: Stage2,
     ) -> Vm
-        requires { IsSlot phase vcpus.items images.items }
-        ensures { result ≡ record { slot = record { phase = phase; vcpus = vcpus.items; images = images.items; frames = list; mapped = table.mapped; leaves = table.leaves }; capacity = table.capacity } }
+        requires { IsSlot version phase vcpus.items images.items }
+        ensures { result ≡ record { slot = record { phase = phase; vcpus = vcpus.items; images = images.items; frames = list; mapped = table.mapped; leaves = table.leaves }; capacity = record { version = version; roots = table.roots; leaves = table.capacity } } }
     {
         Vm {
+            version,
             phase,
             vcpus,
             images,
@@ -90,12 +95,15 @@ impl Vm {
         self.phase
     }
 
-    /// A virtual processor, registered or not.
+    /// A virtual processor, registered or not; one that the version does not have is not.
     pub fn vcpu(&self, vcpu: VcpuId) -> Vcpu
         ensures value { result ≡ vcpu_of self.now.slot vcpu }
         ensures kept { IsVm self.now }
     {
-        self.vcpus[vcpu.index()]
+        match self.vcpus.get(vcpu.index()) {
+            Some(there) => *there,
+            None => Vcpu::default(),
+        }
     }
 
     /// The boot images, in the order of their numbers.
@@ -164,6 +172,7 @@ impl Vm {
     /// applies is returned: `NoVm` if the slot is empty, `WrongPhase` if it is not booting, `VcpuUsed` if the virtual
     /// processor is registered.
     pub fn add_vcpu(&mut self, vcpu: VcpuId) -> Result<(), Refusal>
+        requires { vcpu < vcpus_of self.old.capacity.version }
         ensures answer { Answers result (add_vcpu_refusal self.old.slot vcpu) }
         ensures ok { OnOk result (self.new ≡ record self.old { slot = with_vcpu self.old.slot vcpu (record { registered = true; fault = None }) }) }
         ensures err { OnErr result (self.new ≡ self.old) }
@@ -179,21 +188,21 @@ impl Vm {
         Ok(())
     }
 
-    /// Adds a boot image of `len` bytes, 1 to 1,048,576, whose first guest frame is `base`, and returns its number, 0
-    /// to 3. It has no pages yet. If refused, nothing changes, and the first reason that applies is returned: `NoVm`
-    /// if the slot is empty, `WrongPhase` if it is not booting, `ImagesFull` if there are 4 images, `Overlap` if a
-    /// guest frame of the image belongs to one of them.
+    /// Adds a boot image of `len` bytes, within the version's limits, whose first guest frame is `base`, and returns its
+    /// number. It has no pages yet. If refused, nothing changes, and the first reason that applies is returned: `NoVm` if
+    /// the slot is empty, `WrongPhase` if it is not booting, `ImagesFull` if it has as many images as the version allows,
+    /// `Overlap` if a guest frame of the image belongs to one of them.
     pub fn add_image(&mut self, base: u32, len: u32) -> Result<u32, Refusal>
         requires some { 0 < len }
-        requires small { len ≤ image_size_limit }
-        requires within { base + pages_of len ≤ gfn_limit }
-        ensures answer { Answers result (add_image_refusal self.old.slot base len) }
+        requires small { len ≤ most_image_bytes self.old.capacity.version }
+        requires within { base + pages_of len ≤ gfns_of self.old.capacity.version }
+        ensures answer { Answers result (add_image_refusal (most_images self.old.capacity.version) self.old.slot base len) }
         ensures number { IfOk result (λ number. number ≡ length self.old.slot.images) }
         ensures ok { OnOk result (self.new ≡ record self.old { slot = with_image self.old.slot base len }) }
         ensures err { OnErr result (self.new ≡ self.old) }
     {
         self.expect_booting()?;
-        if self.images.is_full() {
+        if self.images.len() as u32 >= self.version.most_images() {
             return Err(Refusal::ImagesFull);
         }
         if overlaps_any(base, len, self.images.as_slice()) {
@@ -214,6 +223,7 @@ impl Vm {
     pub fn next_page(&self, image: u32) -> Result<Gfn, Refusal>
         ensures answer { Answers result (next_page_refusal self.now.slot image) }
         ensures gfn { IfOk result (λ gfn. gfn ≡ next_gfn_of self.now.slot image) }
+        ensures within { IfOk result (λ gfn. gfn < gfns_of self.now.capacity.version) }
     {
         self.expect_booting()?;
         let Some(image) = self.images.get(image as usize) else {
@@ -237,6 +247,7 @@ impl Vm {
     pub fn set_fault(&mut self, vcpu: VcpuId, gfn: Gfn)
         requires active { self.old.slot.phase ≡ Phase.Active }
         requires registered { (vcpu_of self.old.slot vcpu).registered ≡ true }
+        requires within { gfn < gfns_of self.old.capacity.version }
         ensures { self.new ≡ record self.old { slot = awaiting self.old.slot vcpu (Some gfn) } }
     {
         self.vcpus[vcpu.index()].fault = Some(gfn.number());
@@ -246,7 +257,9 @@ impl Vm {
     pub fn spend_fault(&mut self, vcpu: VcpuId)
         ensures { self.new ≡ record self.old { slot = awaiting self.old.slot vcpu None } }
     {
-        self.vcpus[vcpu.index()].fault = None;
+        if let Some(there) = self.vcpus.get_mut(vcpu.index()) {
+            there.fault = None;
+        }
     }
 
     /// Activates a booting slot.
@@ -271,19 +284,20 @@ impl Vm {
         ensures { self.new ≡ empty_vm self.old.capacity }
     {
         self.phase = Phase::Empty;
-        self.vcpus = absent_vcpus();
+        self.vcpus.fill(Vcpu::default());
         self.images.clear();
         self.list = Ends::empty();
         self.table.clear();
     }
 }
 
-/// The virtual processors of a VM, none of them registered.
+/// Makes the virtual processors of a VM of a version, none of them registered; `Memory` if memory runs out.
 #[tactic(auto, unfolding(kc_model::specs::Slot::no_vcpus))]
-fn absent_vcpus() -> ArrayVec<Vcpu, VCPU_LIMIT>
-    ensures { result.items ≡ no_vcpus }
+fn absent_vcpus(alloc: Global, version: Version) -> Result<Vec<Vcpu>, Memory>
+    // No clause can rule out that memory runs out: a test makes a slot.
+    ensures { IfOk result (λ vcpus. vcpus.items ≡ no_vcpus version) }
 {
-    ArrayVec::from([Vcpu::default(); VCPU_LIMIT])
+    Ok(vec![in alloc; Vcpu::default(); version.vcpus() as usize]?)
 }
 
 /// Whether an image of `len` bytes at guest frame `base` shares a guest frame with this image.

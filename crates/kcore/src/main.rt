@@ -1,7 +1,8 @@
 //! The program: `kc_program` over the system.
 #![tactic(auto)]
 
-use kc_program::{Lanes, run};
+use kc_digests::Lanes;
+use kc_program::run;
 use std::env;
 use std::process::ExitCode;
 

@@ -9,12 +9,13 @@
 use anyhow::{Result, bail};
 use itoa::{Buffer, Integer};
 use kc_config_text::read_config;
-use kc_core::KCore;
+use kc_core::{Gate, KCore};
 use kc_digests::Lanes;
 use kc_dump_text::write_dump;
 use kc_dumping::dump;
+use kc_footprints::Plan;
 use kc_live::{Entry, History, LiveCore, LiveStop, Seat, Volume, VolumeDigest, run_trace};
-use kc_replay::{Gate, Outcome, Plan, footprints, replay};
+use kc_replay::{Outcome, footprints, replay};
 use kc_trace::{LONGEST_CALL, push_call, push_header, read_trace, write_replies, write_trace};
 use kc_types::{Actor, Call, Config, Resource, actor_of};
 use std::io::Write;

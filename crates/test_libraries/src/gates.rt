@@ -1,5 +1,5 @@
 //! A gate that holds calls and counts them.
-use kc_replay::Gate;
+use kc_core::Gate;
 use std::alloc::Global;
 use std::rt::Clock;
 use std::sync::atomic::{AtomicBool, Ordering};

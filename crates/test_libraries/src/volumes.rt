@@ -1,11 +1,11 @@
 //! A core that is turned over while its actors call, and a follower that replays the volumes.
 use crate::support::{calls_of, small_config};
-use kc_core::KCore;
+use kc_core::{KCore, OpenGate};
 use kc_digests::Lanes;
 use kc_dump_text::write_dump;
 use kc_dumping::dump;
 use kc_live::{Entry, LiveCore, LiveFault, Receipt, Seat, Volume, settle};
-use kc_replay::{OpenGate, Replayer};
+use kc_replay::Replayer;
 use kc_types::{Actor, CALL_LIMIT, Call, Reply};
 use std::alloc::Global;
 use std::sync::Wait;

@@ -7,7 +7,7 @@ use Rattle.kc_types.specs.declared.call.Call.TheVariants.{HostRead, HostWrite, G
 use Rattle.kc_types.specs.declared.owner.Owner.{Owner}
 use Rattle.kc_types.specs.declared.owner.Owner.TheVariants.{Core, Host, Free, Vm}
 use Rattle.kc_types.specs.declared.custody.Custody.{Custody}
-use Rattle.kc_model.specs.State.{State, Frame, Slot, frame_at, untouched, empty_slot}
+use Rattle.kc_model.specs.State.{State, Frame, Slot, frame_at, untouched, no_slot}
 use Rattle.kc_model.specs.Refusals.{refusal, is_active}
 use Rattle.kc_model.specs.Lawful.{IsLawful, same_owner}
 use Rattle.kc_model.specs.Custody.{custody_of}
@@ -76,7 +76,7 @@ pub from-view : (s : Secret) (m n : State) → Alike (view_of s) m n → hidden 
 from-view s m n alike = sym (ap (λ xs. record n { frames = xs }) frames ∙ others alike.config alike.free alike.slots)
   where
     running : is_running n s.vm ≡ is_running m s.vm
-    running = ap (λ (slots : List Slot). is_active (get_or slots s.vm empty_slot).phase) alike.slots
+    running = ap (λ (slots : List Slot). is_active (get_or slots s.vm no_slot).phase) alike.slots
 
     -- whether a frame is secret depends on its custody
     secret-alike : (f : ℕ) → is_secret s (is_running n s.vm) (frame_at n f) ≡ is_secret s (is_running m s.vm) (frame_at m f)

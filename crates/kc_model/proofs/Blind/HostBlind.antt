@@ -14,7 +14,7 @@ use Rattle.kc_model.proofs.Views.Calls.{all-kept}
 use Rattle.kc_model.proofs.Blind.Unseen.{and-false}
 use Rattle.kc_model.proofs.Blind.AsView.{view_of, is_view, running-alike, frames-hidden, to-view, from-view, calls-form, calls-may, reads-shown}
 use Rattle.kc_model.proofs.Blind.Private.{private-next, secret-owner}
-use Rattle.kc_model.proofs.Lawful.AtBoot.{slot_at-boot}
+use Rattle.kc_model.proofs.Lawful.AtBoot.{slot-boot}
 use Rattle.kc_model.specs.Boot.{boot}
 use Rattle.kc_types.specs.Configuration.{Configuration, slot_count}
 use Rattle.kc_types.specs.declared.owner.Owner.TheVariants.{Vm}
@@ -70,7 +70,7 @@ pub alike-boot : (s : Secret) (c : Configuration) → AreAlike s (boot c) (boot 
 alike-boot s c = record { same = refl; private = λ f secret. no_secret f secret }
   where
     idle : is_running (boot c) s.vm ≡ false
-    idle = ap (λ (x : Slot). is_active x.phase) (slot_at-boot c s.vm)
+    idle = slot-boot (λ (x : Slot). is_active x.phase) c s.vm refl
 
     no_secret : (f : ℕ) → is_secret s (is_running (boot c) s.vm) (frame_at (boot c) f) ≡ true → (frame_at (boot c) f).share ≡ 0
     no_secret f secret =

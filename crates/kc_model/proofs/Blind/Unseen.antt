@@ -6,7 +6,7 @@ use Rattle.kc_types.specs.declared.owner.Owner.{Owner}
 use Rattle.kc_types.specs.declared.owner.Owner.TheVariants.{Core, Host, Vm}
 use Rattle.kc_types.specs.declared.slot.Phase.TheVariants.{Active}
 use Rattle.kc_types.specs.Configuration.{slot_count}
-use Rattle.kc_model.specs.State.{State, Frame, Slot, frame_at, slot_at, mapped_at, with_slot, untouched, empty_slot}
+use Rattle.kc_model.specs.State.{State, Frame, Slot, frame_at, slot_at, mapped_at, with_slot, untouched, no_slot}
 use Rattle.kc_model.specs.Refusals.{is_active}
 use Rattle.kc_model.specs.Lawful.{IsLawful, same_owner}
 use Rattle.kc_model.specs.Blind.{Secret, has_gfn, is_secret, hidden_frame, is_running, hidden, names_secret, IsPrivate}
@@ -76,7 +76,7 @@ is_secret-mapped s m v g f is v_in active mapped names =
 
 -- a slot that is written and runs as before
 pub running-kept : (m : State) (w : ℕ) (slot : Slot) (v : ℕ) → is_active slot.phase ≡ is_active (slot_at m w).phase → is_running (with_slot m w slot) v ≡ is_running m v
-running-kept m w slot v same = part-set (λ (x : Slot). is_active x.phase) m.slots w slot empty_slot same v
+running-kept m w slot v same = part-set (λ (x : Slot). is_active x.phase) m.slots w slot no_slot same v
 
 -- another slot is written
 pub running-elsewhere : (m : State) (w : ℕ) (slot : Slot) (v : ℕ) → (v ≡ w → ⊥) → is_running (with_slot m w slot) v ≡ is_running m v

@@ -6,7 +6,7 @@ use Rattle.kc_types.specs.declared.refusal.Refusal.{Refusal}
 use Rattle.kc_types.specs.declared.slot.Phase.TheVariants.{Empty, Booting, Active}
 use Rattle.kc_types.specs.declared.call.Call.{Call}
 use Rattle.kc_types.specs.declared.call.Call.TheVariants.{RegisterVm, Verify, Clear}
-use Rattle.kc_model.specs.State.{State, Slot, slot_at, empty_slot}
+use Rattle.kc_model.specs.State.{State, Slot, slot_at, no_slot, empty_slot}
 use Rattle.kc_model.specs.Refusals.{refusal, conditions}
 use Rattle.kc_model.specs.Effects.{effect, cleared}
 use Rattle.kc_model.specs.Next.{next, unless_refused}
@@ -41,7 +41,7 @@ not-verified m v w active served = not-booting m v w active (verify-served m w s
 
 -- a slot that is cleared is empty
 clears : (m : State) (w : ℕ) → IsEmpty (cleared m w) w
-clears m w = elim (set-here m.slots w empty_slot empty_slot) [
+clears m w = elim (set-here m.slots w (empty_slot m.config.version) no_slot) [
   | inl is ↦ ap (λ (s : Slot). s.phase) is
   | inr is ↦ ap (λ (s : Slot). s.phase) is
 ]

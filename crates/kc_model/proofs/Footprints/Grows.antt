@@ -6,7 +6,7 @@ use Rattle.kc_types.specs.declared.call.Call.TheVariants.{Take, Give, HostFault,
 use Rattle.kc_types.specs.declared.refusal.Refusal.{Refusal}
 use Rattle.kc_types.specs.declared.owner.Owner.{Owner}
 use Rattle.kc_types.specs.declared.owner.Owner.TheVariants.{Core, Host, Free, Vm}
-use Rattle.kc_model.specs.State.{State, Slot, Image, slot_at, mapped_at, empty_slot}
+use Rattle.kc_model.specs.State.{State, Slot, Image, slot_at, mapped_at, no_slot, empty_slot}
 use Rattle.kc_model.specs.Refusals.{conditions, refusal, backing, pending, next_gfn}
 use Rattle.kc_model.specs.Effects.{effect, hand, host_takes, guest_read, guest_written, verified, all_trimmed, trimmed, first_failing, is_approved, without}
 use Rattle.kc_model.specs.Next.{next, unless_refused}
@@ -34,11 +34,11 @@ kept m call new free slots Free f h = or_left (is_in m.free f) _ (rw free at h)
 kept m call new free slots (Vm w) f h = or_left (is_in (slot_at m w).frames f) _ (rw (slots w) at h)
 
 -- a slot that keeps its list
-kept-slot : (m : State) (v : ℕ) (there : Slot) → there.frames ≡ (slot_at m v).frames → (w : ℕ) → (get_or (set m.slots v there) w empty_slot).frames ≡ (slot_at m w).frames
-kept-slot m v there same w = part-set (λ (s : Slot). s.frames) m.slots v there empty_slot same w
+kept-slot : (m : State) (v : ℕ) (there : Slot) → there.frames ≡ (slot_at m v).frames → (w : ℕ) → (get_or (set m.slots v there) w no_slot).frames ≡ (slot_at m w).frames
+kept-slot m v there same w = part-set (λ (s : Slot). s.frames) m.slots v there no_slot same w
 
 -- the element at a place after a write
-set-or : (xs : List Slot) (i : ℕ) (x : Slot) (k : ℕ) → ((k ≡ i) × (get_or (set xs i x) k empty_slot ≡ x)) ⊎ (get_or (set xs i x) k empty_slot ≡ get_or xs k empty_slot)
+set-or : (xs : List Slot) (i : ℕ) (x : Slot) (k : ℕ) → ((k ≡ i) × (get_or (set xs i x) k no_slot ≡ x)) ⊎ (get_or (set xs i x) k no_slot ≡ get_or xs k no_slot)
 set-or [] i x k = inr refl
 set-or (y ∷ ys) zero x zero = inl (refl, refl)
 set-or (y ∷ ys) zero x (suc k) = inr refl
@@ -46,7 +46,7 @@ set-or (y ∷ ys) (suc i) x zero = inr refl
 set-or (y ∷ ys) (suc i) x (suc k) = elim (set-or ys i x k) [ inl at ↦ inl (ap (λ n. suc n) at.0, at.1) | inr apart ↦ inr apart ]
 
 -- a slot that gets a frame
-pushed : (m : State) (v f : ℕ) (there : Slot) → there.frames ≡ (slot_at m v).frames ++ f ∷ [] → (w k : ℕ) → is_in (get_or (set m.slots v there) w empty_slot).frames k ≡ true → (is_in (slot_at m w).frames k || (nat_eq v w && nat_eq f k)) ≡ true
+pushed : (m : State) (v f : ℕ) (there : Slot) → there.frames ≡ (slot_at m v).frames ++ f ∷ [] → (w k : ℕ) → is_in (get_or (set m.slots v there) w no_slot).frames k ≡ true → (is_in (slot_at m w).frames k || (nat_eq v w && nat_eq f k)) ≡ true
 pushed m v f there is w k h = elim (set-or m.slots v there w) [
   | inl at ↦
       let here : is_in ((slot_at m v).frames ++ f ∷ []) k ≡ true = ap (λ (fs : List ℕ). is_in fs k) (sym (ap (λ (s : Slot). s.frames) at.1 ∙ is)) ∙ h in
@@ -55,7 +55,7 @@ pushed m v f there is w k h = elim (set-or m.slots v there w) [
 ]
 
 -- a slot that loses a frame
-fewer : (m : State) (v f : ℕ) (there : Slot) → there.frames ≡ without (slot_at m v).frames f → (w k : ℕ) → is_in (get_or (set m.slots v there) w empty_slot).frames k ≡ true → is_in (slot_at m w).frames k ≡ true
+fewer : (m : State) (v f : ℕ) (there : Slot) → there.frames ≡ without (slot_at m v).frames f → (w k : ℕ) → is_in (get_or (set m.slots v there) w no_slot).frames k ≡ true → is_in (slot_at m w).frames k ≡ true
 fewer m v f there is w k h = elim (set-or m.slots v there w) [
   | inl at ↦
       let here : is_in (without (slot_at m v).frames f) k ≡ true = ap (λ (fs : List ℕ). is_in fs k) (sym (ap (λ (s : Slot). s.frames) at.1 ∙ is)) ∙ h in
@@ -127,8 +127,8 @@ grows-clear m v served Core k h = cc
 grows-clear m v served Host k h = cc
 grows-clear m v served Free k h =
     or-map (is_in m.free k) (is_in (slot_at m v).frames k) (nat_lt v (slot_count m.config) && is_in (slot_at m v).frames k) (and_from (nat_lt v (slot_count m.config)) (is_in (slot_at m v).frames k) (lt-ltb v (slot_count m.config) (vm-in m v (none-of (conditions m (Clear v)) served 0)))) (is_in-append m.free (slot_at m v).frames k h)
-grows-clear m v served (Vm w) k h = or_left (is_in (slot_at m w).frames k) _ (elim (set-or m.slots v empty_slot w) [
-  | inl at ↦ let none : is_in (get_or (set m.slots v empty_slot) w empty_slot).frames k ≡ false = ap (λ (s : Slot). is_in s.frames k) at.1 in cc
+grows-clear m v served (Vm w) k h = or_left (is_in (slot_at m w).frames k) _ (elim (set-or m.slots v (empty_slot m.config.version) w) [
+  | inl at ↦ let none : is_in (get_or (set m.slots v (empty_slot m.config.version)) w no_slot).frames k ≡ false = ap (λ (s : Slot). is_in s.frames k) at.1 in cc
   | inr same ↦ ap (λ (s : Slot). is_in s.frames k) (sym same) ∙ h
 ])
 
@@ -140,7 +140,7 @@ grows-verified : (m : State) (v : ℕ) (failing : Option ℕ) → Grows m (Verif
 grows-verified m v None owner k h =
     let before = all_trimmed m v (slot_at m v).images in
     kept m (Verify v) (verified m v None).1 (free-trimmed m v (slot_at m v).images)
-    (λ w. kept-slot before v _ refl w ∙ ap (λ (slots : List Slot). (get_or slots w empty_slot).frames) (slots-trimmed m v (slot_at m v).images)) owner k h
+    (λ w. kept-slot before v _ refl w ∙ ap (λ (slots : List Slot). (get_or slots w no_slot).frames) (slots-trimmed m v (slot_at m v).images)) owner k h
 grows-verified m v (Some i) owner k h = kept m (Verify v) (verified m v (Some i)).1 refl (λ w. kept-slot m v _ refl w) owner k h
 
 grows-guest_read : (m : State) (v c g off len : ℕ) (at : Option ℕ) → Grows m (GuestRead v c g off len) (guest_read m v c g off len at).1

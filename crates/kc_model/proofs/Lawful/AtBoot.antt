@@ -1,7 +1,7 @@
 -- The state at boot is lawful.
 use Rattle.std.proofs.Common.{ℕ, zero, suc, ◌≡◌, ◌<◌, ◌≤◌, ◌+◌, ◌-◌, inl, inr, cond, ◌&&◌, [], length, nat_lt, nat_le, if◌then◌else◌, refl, sym, ap, ◌∙◌, arith}
 use Rattle.std.proofs.lemmas.Grind.{common_steps}
-use Rattle.std.proofs.lemmas.List.{get_or_past, length-replicate}
+use Rattle.std.proofs.lemmas.List.{get_or_past, get_or-replicate, length-replicate}
 use Rattle.std.proofs.lemmas.List.FromFn.{get_or-map-range_with_len, length-map-range_with_len}
 use Rattle.std.proofs.lemmas.Bool.{cases_lt}
 use Rattle.std.specs.List.{range_with_len}
@@ -9,11 +9,11 @@ use Rattle.std.specs.Ordering.{nat_cmp}
 use Rattle.std.specs.FinMap.{get-empty}
 use Rattle.kc_types.specs.Configuration.{Configuration, IsConfiguration, slot_count, boot_owner}
 use Rattle.kc_types.specs.declared.owner.Owner.TheVariants.{Core, Free, Vm}
-use Rattle.kc_model.specs.State.{Frame, frame_at, slot_at, untouched, empty_slot}
+use Rattle.kc_model.specs.State.{Frame, Slot, frame_at, slot_at, untouched, no_slot, empty_slot}
 use Rattle.kc_model.specs.Boot.{boot, boot_frame, no_vms}
 use Rattle.kc_model.specs.Lawful.{IsLawful, IsLawfulFrame, ListsOnce, same_owner, times_in}
 use Rattle.kc_model.proofs.States.ZeroPage.{zero_page-is}
-use Rattle.kc_model.proofs.States.Slots.{lawful-empty_slot, get_or-same}
+use Rattle.kc_model.proofs.States.Slots.{lawful-empty_slot}
 
 -- a range has each of its numbers once
 pub times_in-range : (first count f : ℕ) → times_in (range_with_len first count) f ≡ cond (nat_le first f && nat_lt f (first + count)) 1 0
@@ -22,11 +22,21 @@ times_in-range first (suc count) f = let rest = times_in-range (first + 1) count
 
 length-no_vms : (c : Configuration) → length (no_vms c) ≡ slot_count c
 unfolding no_vms
-length-no_vms c = length-replicate (slot_count c) empty_slot
+length-no_vms c = length-replicate (slot_count c) (empty_slot c.version)
 
-pub slot_at-boot : (c : Configuration) (v : ℕ) → slot_at (boot c) v ≡ empty_slot
+pub slot_at-boot : (c : Configuration) (v : ℕ) → v < slot_count c → slot_at (boot c) v ≡ empty_slot c.version
 unfolding no_vms
-slot_at-boot c v = get_or-same (slot_count c) empty_slot v
+slot_at-boot c v low = get_or-replicate (slot_count c) v (empty_slot c.version) no_slot low
+
+pub slot_past-boot : (c : Configuration) (v : ℕ) → slot_count c ≤ v → slot_at (boot c) v ≡ no_slot
+slot_past-boot c v past = get_or_past (no_vms c) v no_slot (rw length-no_vms past)
+
+-- whether there is a slot or not, it is empty
+pub slot-boot : {X : Type 0} (read : Slot → X) (c : Configuration) (v : ℕ) → read (empty_slot c.version) ≡ read no_slot → read (slot_at (boot c) v) ≡ read no_slot
+slot-boot read c v same = elim (cases_lt v (slot_count c)) [
+  | inl low ↦ ap read (slot_at-boot c v low) ∙ same
+  | inr past ↦ ap read (slot_past-boot c v past)
+]
 
 pub frame_at-boot : (c : Configuration) (f : ℕ) → f < c.frames → frame_at (boot c) f ≡ boot_frame c f
 frame_at-boot c f lt = get_or-map-range_with_len (boot_frame c) 0 c.frames f f (untouched Core) lt (omega arith)
@@ -74,9 +84,9 @@ lawful-boot c is = record {
   frames = length-map-range_with_len (boot_frame c) 0 c.frames;
   slots = length-no_vms c;
   each_frame = λ f lt. let within : f < c.frames = rw length-map-range_with_len at lt in rw (frame_at-boot c f within) (lawful_frame-boot c is f within);
-  each_slot = λ v lt. rw (slot_at-boot c v) (lawful-empty_slot c);
+  each_slot = λ v lt. rw (slot_at-boot c v lt) (lawful-empty_slot c);
   free = free-boot c is;
-  listed = λ v lt f. rw (slot_at-boot c v) (no_vm_owns c f v);
-  mapped = λ v g f lt. rw (slot_at-boot c v, get-empty nat_cmp g) (λ h. cc, λ h. absurd (not_owned c f v h.0));
+  listed = λ v lt f. rw (slot_at-boot c v lt) (no_vm_owns c f v);
+  mapped = λ v g f lt. rw (slot_at-boot c v lt, get-empty nat_cmp g) (λ h. cc, λ h. absurd (not_owned c f v h.0));
   shared = λ v f lt owned some. absurd (not_owned c f v owned);
 }

@@ -7,7 +7,7 @@ use Rattle.std.specs.FinMap as map
 use Rattle.kc_types.specs.Configuration.{Configuration, slot_count}
 use Rattle.kc_types.specs.declared.owner.Owner.{Owner}
 use Rattle.kc_types.specs.declared.owner.Owner.TheVariants.{Core, Host, Free, Vm}
-use Rattle.kc_model.specs.State.{State, Frame, frame_at, slot_at, mapped_at, untouched, empty_slot}
+use Rattle.kc_model.specs.State.{State, Frame, frame_at, slot_at, mapped_at, untouched, no_slot, empty_slot}
 use Rattle.kc_model.specs.Effects.{scrubbed, cleared}
 use Rattle.kc_model.specs.Lawful.{IsLawful, IsLawfulFrame, same_owner, times_in}
 use Rattle.kc_model.specs.Refusals.{refusal, conditions}
@@ -92,11 +92,11 @@ lawful-untouched config k v frame is owned = record {
   gfn = λ g h. cc;
 }
 
-pub slot-cleared : (m : State) (v : ℕ) → v < length m.slots → slot_at (cleared m v) v ≡ empty_slot
-slot-cleared m v lt = get_or-set_same m.slots v empty_slot empty_slot lt
+pub slot-cleared : (m : State) (v : ℕ) → v < length m.slots → slot_at (cleared m v) v ≡ empty_slot m.config.version
+slot-cleared m v lt = get_or-set_same m.slots v (empty_slot m.config.version) no_slot lt
 
 pub slot-kept : (m : State) (v w : ℕ) → (w ≡ v → ⊥) → slot_at (cleared m v) w ≡ slot_at m w
-slot-kept m v w ne = get_or-set_other m.slots v w empty_slot empty_slot ne
+slot-kept m v w ne = get_or-set_other m.slots v w (empty_slot m.config.version) no_slot ne
 
 listed-after : (m : State) (v w k : ℕ) → IsLawful m → v < slot_count m.config → w < slot_count m.config → times_in (slot_at (cleared m v) w).frames k ≡ cond (same_owner (frame_at (cleared m v) k).owner (Vm w)) 1 0
 listed-after m v w k is v_in lt = elim (cases_eq w v) [
@@ -127,7 +127,7 @@ pub lawful-cleared : (m : State) (v : ℕ) → IsLawful m → v < slot_count m.c
 lawful-cleared m v is v_in = record {
   config = is.config;
   frames = length-scrubbed m.frames (slot_at m v).frames ∙ is.frames;
-  slots = length-set m.slots v empty_slot ∙ is.slots;
+  slots = length-set m.slots v (empty_slot m.config.version) ∙ is.slots;
   each_frame = λ k lt. let within : k < length m.frames = rw length-scrubbed at lt in elim (after m v k is v_in) [
     | inl mine ↦ rw mine.1 (lawful-untouched m.config k v (frame_at m k) (is.each_frame k within) mine.0)
     | inr other ↦ rw other.1 (is.each_frame k within)

@@ -1,5 +1,5 @@
 -- A virtual processor's reads, writes, grants and revokes keep the state lawful.
-use Rattle.std.proofs.Common.{ℕ, ◌≡◌, ◌<◌, ◌≤◌, ◌+◌, ◌-◌, inl, inr, Bool, true, false, IsTrue, cond, Option, None, Some, List, length, nat_eq, refl, sym, ap, subst, ◌∙◌, arith}
+use Rattle.std.proofs.Common.{ℕ, ◌≡◌, ◌<◌, ◌≤◌, ◌+◌, inl, inr, Bool, true, IsTrue, Option, None, Some, List, length, nat_eq, refl, sym, ap, subst, ◌∙◌, arith}
 use Rattle.std.proofs.lemmas.Grind.{common_steps}
 use Rattle.std.proofs.lemmas.Bool.{leb-false}
 use Rattle.kc_types.specs.declared.refusal.Refusal.{Refusal}
@@ -15,13 +15,13 @@ use Rattle.kc_model.proofs.Refusals.Answered.{vm-in, vcpu-in, gfn-in, was-active
 use Rattle.kc_model.proofs.States.Changes.{lawful-with_frame, exists, vm-same}
 use Rattle.kc_model.proofs.Lawful.HostCalls.{lawful-written}
 use Rattle.kc_model.proofs.Lawful.SlotCalls.{lawful-with_fault}
-use Rattle.kc_types.specs.Configuration.{slot_count}
+use Rattle.kc_types.specs.Configuration.{slot_count, vcpus_of, gfns_of}
 
 -- a served call of a virtual processor on a guest frame
 pub record IsGuestCall (m : State) (v c g : ℕ) : Type 0 where
   pub vm : v < slot_count m.config
-  pub vcpu : c < 8
-  pub gfn : g < 262144
+  pub vcpu : c < vcpus_of m.config.version
+  pub gfn : g < gfns_of m.config.version
   pub active : (slot_at m v).phase ≡ Active
   pub registered : (vcpu_at m v c).registered ≡ true
 
@@ -30,8 +30,8 @@ guest_access-served m v c g off len served =
     let none = none-of (guest_access m v c g off len) served in (
       record {
         vm = vm-in m v (none 0);
-        vcpu = vcpu-in c (none 1);
-        gfn = gfn-in g (none 2);
+        vcpu = vcpu-in m c (none 1);
+        gfn = gfn-in m g (none 2);
         active = was-active m v (none 5);
         registered = was-registered m v c (none 6);
       },
@@ -49,8 +49,8 @@ guest_frame-served m v c g last served =
       record {
         call = record {
           vm = vm-in m v (none 0);
-          vcpu = vcpu-in c (none 1);
-          gfn = gfn-in g (none 2);
+          vcpu = vcpu-in m c (none 1);
+          gfn = gfn-in m g (none 2);
           active = was-active m v (none 4);
           registered = was-registered m v c (none 5);
         };

@@ -5,7 +5,8 @@ use Rattle.std.proofs.lemmas.Bool.{cases_eq, leb-false}
 use Rattle.std.proofs.lemmas.List.Elements.{All-set}
 use Rattle.std.specs.FinMap as map
 use Rattle.std.proofs.lemmas.List.{set-set}
-use Rattle.kc_types.specs.Configuration.{Configuration, slot_count}
+use Rattle.kc_types.specs.Configuration.{Configuration, slot_count, vcpus_of, gfns_of, roots_of, most_images}
+use Rattle.kc_types.specs.declared.version.Version.{Version}
 use Rattle.kc_types.specs.declared.call.Call.TheVariants.{Remap, Map}
 use Rattle.kc_types.specs.declared.owner.Owner.{Owner}
 use Rattle.kc_types.specs.declared.owner.Owner.TheVariants.{Host, Free, Vm}
@@ -17,7 +18,7 @@ use Rattle.kc_model.specs.Lawful.{IsLawful, IsLawfulFrame, IsLawfulSlot, IsLawfu
 use Rattle.kc_model.proofs.Refusals.Served.{when-none, none-of}
 use Rattle.kc_model.proofs.Refusals.Answered.{vm-in, vcpu-in, frame-in, was-host, was-booting, was-active, was-registered, was-pending, was-unmapped, was-room, is_none-of, is_short-is}
 use Rattle.kc_model.proofs.States.Lists.{lists-other, lists-gained, changed-same, changed-other}
-use Rattle.kc_model.proofs.States.Leaves.{leaves-grown}
+use Rattle.kc_model.proofs.States.Leaves.{leaves-grown, root-in}
 use Rattle.kc_model.proofs.States.Slots.{lawful-with_vcpu, waits-not, next-held, apart-set, holds-more, list_any-set_more}
 use Rattle.kc_model.proofs.States.Tables.{got-elsewhere, has-after, table-gained}
 use Rattle.kc_model.proofs.States.Changes.{lawful-handed, slot-here, other_vm}
@@ -29,7 +30,7 @@ handed_frame m v g f = record (frame_at m f) { owner = Vm v; gfn = Some g; prese
 pub handed_slot : Slot → ℕ → ℕ → List Image → Slot
 handed_slot slot g f images = record slot { frames = slot.frames ++ f ∷ []; mapped = map.insert slot.mapped g f; leaves = with_leaf slot.leaves g; images = images }
 
-lawful-handed_frame : (m : State) (v g f : ℕ) → IsLawfulFrame m.config f (frame_at m f) → (frame_at m f).owner ≡ Host → v < slot_count m.config → g < 262144 → IsLawfulFrame m.config f (handed_frame m v g f)
+lawful-handed_frame : (m : State) (v g f : ℕ) → IsLawfulFrame m.config f (frame_at m f) → (frame_at m f).owner ≡ Host → v < slot_count m.config → g < gfns_of m.config.version → IsLawfulFrame m.config f (handed_frame m v g f)
 unfolding handed_frame
 lawful-handed_frame m v g f is host v_in g_in = record {
   core = (λ h. absurd cc, λ h. let core = is.core.1 h in absurd cc);
@@ -43,11 +44,11 @@ lawful-handed_frame m v g f is host v_in g_in = record {
   gfn = λ h e. let same : g ≡ h = cc in omega arith;
 }
 
-lawful-handed_slot : (config : Configuration) (slot : Slot) (g f : ℕ) (images : List Image) → IsLawfulSlot config slot → (slot.phase ≡ Empty → ⊥) → g < 262144 → (has_leaf slot.leaves g ≡ true) ⊎ (length slot.leaves < config.leaves)
-    → length images ≤ 4 → All IsLawfulImage images → Apart images → (slot.phase ≡ Booting → (h : ℕ) → (is_some (map.get slot.mapped h) || nat_eq h g) ≡ list_any (holds h) images) → IsLawfulSlot config (handed_slot slot g f images)
+lawful-handed_slot : (config : Configuration) (slot : Slot) (g f : ℕ) (images : List Image) → IsLawfulSlot config slot → (slot.phase ≡ Empty → ⊥) → g < gfns_of config.version → (has_leaf slot.leaves g ≡ true) ⊎ (length slot.leaves < config.leaves)
+    → length images ≤ most_images config.version → All (IsLawfulImage config.version) images → Apart images → (slot.phase ≡ Booting → (h : ℕ) → (is_some (map.get slot.mapped h) || nat_eq h g) ≡ list_any (holds h) images) → IsLawfulSlot config (handed_slot slot g f images)
 unfolding handed_slot
 lawful-handed_slot config slot g f images is used g_in room few each apart booting =
-    let grown = leaves-grown config.leaves slot.leaves g room g_in is.few_leaves is.leaves_once is.each_leaf in
+    let grown = leaves-grown (roots_of config.version) config.leaves slot.leaves g room (root-in config.version g g_in) is.few_leaves is.leaves_once is.each_leaf in
     record {
       vcpus = is.vcpus;
       each_vcpu = is.each_vcpu;
@@ -69,7 +70,7 @@ host-no_vm : (owner : Owner) (w : ℕ) → owner ≡ Host → same_owner owner (
 host-no_vm owner w host = ap (λ (o : Owner). same_owner o (Vm w)) host
 
 -- handing a frame of the host's to a slot, which may change in other ways too
-pub lawful-hand : (m : State) (v g f : ℕ) (slot : Slot) → IsLawful m → v < slot_count m.config → g < 262144 → f < length m.frames → (frame_at m f).owner ≡ Host → mapped_at m v g ≡ None
+pub lawful-hand : (m : State) (v g f : ℕ) (slot : Slot) → IsLawful m → v < slot_count m.config → g < gfns_of m.config.version → f < length m.frames → (frame_at m f).owner ≡ Host → mapped_at m v g ≡ None
     → slot.frames ≡ (slot_at m v).frames ++ f ∷ [] → slot.mapped ≡ map.insert (slot_at m v).mapped g f → slot.phase ≡ (slot_at m v).phase → IsLawfulSlot m.config slot
     → IsLawful (with_slot (with_frame m f (handed_frame m v g f)) v slot)
 unfolding handed_frame
@@ -91,8 +92,8 @@ lawful-hand m v g f slot is v_in g_in lt host unmapped frames mapped phase there
 pub written-twice : (m : State) (v : ℕ) (slot : Slot) (change : Slot → Slot) → v < length m.slots → with_slot (with_slot m v slot) v (change (slot_at (with_slot m v slot) v)) ≡ with_slot m v (change slot)
 written-twice m v slot change lt = ap (λ (s : Slot). with_slot (with_slot m v slot) v (change s)) (slot-here m v slot lt) ∙ ap (λ (slots : List Slot). record m { slots = slots }) (set-set m.slots v slot (change slot))
 
-more_pages : (image : Image) → IsLawfulImage image → image.pages < pages_of image.len → IsLawfulImage (record image { pages = image.pages + 1 })
-more_pages image is short = record { some = is.some; small = is.small; within = is.within; pages = omega arith }
+more_pages : (version : Version) (image : Image) → IsLawfulImage version image → image.pages < pages_of image.len → IsLawfulImage version (record image { pages = image.pages + 1 })
+more_pages version image is short = record { some = is.some; small = is.small; within = is.within; pages = omega arith }
 
 -- a served `remap`
 pub record IsRemap (m : State) (v i f : ℕ) : Type 0 where
@@ -132,14 +133,14 @@ lawful-remap m v i f is served =
     let g = next_gfn m v i in
     let image = image_at m v i in
     let absent : Image = record { base = 0; len = 0; pages = 0 } in
-    let image_is : IsLawfulImage image = there.each_image i absent i_in in
-    let g_in : g < 262144 = (let within = image_is.within in omega arith) in
+    let image_is : IsLawfulImage m.config.version image = there.each_image i absent i_in in
+    let g_in : g < gfns_of m.config.version = (let within = image_is.within in omega arith) in
     let paged : Image = record image { pages = image.pages + 1 } in
-    let unheld = next-held slot.images i absent g there.apart there.each_image i_in refl short in
+    let unheld = next-held m.config.version slot.images i absent g there.apart there.each_image i_in refl short in
     let unmapped : mapped_at m v g ≡ None = is_none-of (mapped_at m v g) (there.booting booting g ∙ unheld) in
     let lawful_slot = lawful-handed_slot m.config slot g f (set slot.images i paged) there (λ h. cc) g_in seen.room
     (rw length-set there.few_images)
-    (All-set IsLawfulImage slot.images i paged (more_pages image image_is short) there.each_image)
+    (All-set (IsLawfulImage m.config.version) slot.images i paged (more_pages m.config.version image image_is short) there.each_image)
     (apart-set slot.images i paged absent i_in refl refl there.apart)
     (λ b h. rw (there.booting b h) (sym (list_any-set_more (holds h) slot.images i paged absent (nat_eq h g) i_in (holds-more h image.base image.pages)))) in
     subst IsLawful (sym (written-twice (with_frame m f (handed_frame m v g f)) v (handed_slot slot g f slot.images) (λ (s : Slot). record s { images = set slot.images i paged }) (rw is.slots v_in)))
@@ -148,7 +149,7 @@ lawful-remap m v i f is served =
 -- a served `map`
 pub record IsMap (m : State) (v c f : ℕ) : Type 0 where
   pub vm : v < slot_count m.config
-  pub vcpu : c < 8
+  pub vcpu : c < vcpus_of m.config.version
   pub frame : f < m.config.frames
   pub active : (slot_at m v).phase ≡ Active
   pub registered : (vcpu_at m v c).registered ≡ true
@@ -162,7 +163,7 @@ map-served m v c f served =
     let none = none-of (conditions m (Map v c f)) served in
     record {
       vm = vm-in m v (none 0);
-      vcpu = vcpu-in c (none 1);
+      vcpu = vcpu-in m c (none 1);
       frame = frame-in m f (none 2);
       active = was-active m v (none 4);
       registered = was-registered m v c (none 5);
@@ -184,9 +185,9 @@ lawful-map m v c f is served =
     let g = pending m v c in
     let slot = slot_at m v in
     let there = is.each_slot v v_in in
-    let g_in : g < 262144 = (there.each_vcpu c).gfn g seen.waits in
+    let g_in : g < gfns_of m.config.version = (there.each_vcpu c).gfn g seen.waits in
     let handed_is = lawful-handed_slot m.config slot g f slot.images there (λ h. cc) g_in seen.room there.few_images there.each_image there.apart (λ b h. absurd cc) in
     let spent = record (vcpu_at m v c) { fault = None } in
-    let lawful_slot = lawful-with_vcpu m.config (handed_slot slot g f slot.images) c spent handed_is (λ h. cc) c_in (waits-not slot.phase spent refl) in
+    let lawful_slot = lawful-with_vcpu m.config (handed_slot slot g f slot.images) c spent handed_is (λ h. cc) c_in (waits-not m.config.version slot.phase spent refl) in
     subst IsLawful (sym (written-twice (with_frame m f (handed_frame m v g f)) v (handed_slot slot g f slot.images) (λ (s : Slot). with_vcpu s c (record (get_or s.vcpus c absent_vcpu) { fault = None })) (rw is.slots v_in)))
     (lawful-hand m v g f (with_vcpu (handed_slot slot g f slot.images) c spent) is v_in g_in lt host seen.unmapped refl refl refl lawful_slot)

@@ -7,6 +7,7 @@ use Rattle.std.proofs.lemmas.Grind.{common_steps}
 use Rattle.std.proofs.lemmas.Bool.{or_right, or_left, and_from}
 use Rattle.kc_types.specs.declared.call.Call.{Call}
 use Rattle.kc_types.specs.declared.owner.Owner.TheVariants.{Free, Vm}
+use Rattle.kc_types.specs.declared.version.Version.{Version}
 use Rattle.kc_model.specs.State.{State, Image, frame_at, slot_at}
 use Rattle.kc_model.specs.Refusals.{pages_of}
 use Rattle.kc_model.specs.Lawful.{IsLawful, IsLawfulImage, holds, same_owner, times_in}
@@ -27,18 +28,18 @@ some-page len some = omega (arith, some)
 held-between : (g : ℕ) (image : Image) → image.base ≤ g → g < image.base + image.pages → holds g image ≡ true
 held-between g image from below = and_from (nat_le image.base g) (nat_lt g (image.base + image.pages)) (grind (arith, common_steps)) (grind (arith, common_steps))
 
-mapped-pages : (mapped : map.FinMap nat_cmp ℕ) (images : List Image) → All IsLawfulImage images → ((g : ℕ) → list_any (holds g) images ≡ true → is_some (map.get mapped g) ≡ true) → HasMappedPages mapped images
-mapped-pages mapped [] each held i d low = absurd (omega (arith, low))
-mapped-pages mapped (image ∷ images) each held zero d low = record {
+mapped-pages : (version : Version) (mapped : map.FinMap nat_cmp ℕ) (images : List Image) → All (IsLawfulImage version) images → ((g : ℕ) → list_any (holds g) images ≡ true → is_some (map.get mapped g) ≡ true) → HasMappedPages mapped images
+mapped-pages version mapped [] each held i d low = absurd (omega (arith, low))
+mapped-pages version mapped (image ∷ images) each held zero d low = record {
   some = some-page image.len (each 0 image (omega arith)).some;
   each_page = λ g from below. held g (or_left (holds g image) (list_any (holds g) images) (held-between g image from below));
 }
-mapped-pages mapped (image ∷ images) each held (suc i) d low =
-    mapped-pages mapped images (λ k d lt. each (suc k) d (omega (arith, lt))) (λ g h. held g (or_right (holds g image) (list_any (holds g) images) h)) i d (omega (arith, low))
+mapped-pages version mapped (image ∷ images) each held (suc i) d low =
+    mapped-pages version mapped images (λ k d lt. each (suc k) d (omega (arith, lt))) (λ g h. held g (or_right (holds g image) (list_any (holds g) images) h)) i d (omega (arith, low))
 
 -- a lawful state is orderly
 pub orderly-is : (m : State) → IsLawful m → IsOrderly m
-orderly-is m is = orderly-lawful m is (λ v low booting. let slot = is.each_slot v low in mapped-pages (slot_at m v).mapped (slot_at m v).images slot.each_image (λ g h. slot.booting booting g ∙ h))
+orderly-is m is = orderly-lawful m is (λ v low booting. let slot = is.each_slot v low in mapped-pages m.config.version (slot_at m v).mapped (slot_at m v).images slot.each_image (λ g h. slot.booting booting g ∙ h))
 
 -- each list holds the frames of its owner
 pub lists-all : (m : State) → IsLawful m → ListsAll m

@@ -1,9 +1,9 @@
 -- A virtual processor's grants and revokes of the guest frames of a range keep the state lawful.
-use Rattle.std.proofs.Common.{ℕ, zero, suc, ◌≡◌, ◌<◌, ◌≤◌, ◌+◌, ◌-◌, inl, inr, false, IsTrue, cond, Option, None, Some, nat_eq, nat_le, nat_lt, sym, subst, arith}
+use Rattle.std.proofs.Common.{ℕ, zero, suc, ◌≡◌, ◌<◌, ◌≤◌, ◌+◌, Option, None, Some, nat_eq, nat_le, nat_lt, sym, subst, arith}
 use Rattle.std.specs.List.{range_with_len}
 use Rattle.std.proofs.lemmas.Grind.{common_steps}
 use Rattle.std.proofs.lemmas.Bool.{leb-false, or_parts}
-use Rattle.kc_types.specs.Configuration.{slot_count}
+use Rattle.kc_types.specs.Configuration.{slot_count, gfns_of}
 use Rattle.kc_types.specs.declared.refusal.Refusal.{Refusal}
 use Rattle.kc_types.specs.declared.call.Call.TheVariants.{GrantRange, RevokeRange}
 use Rattle.kc_types.specs.declared.owner.Owner.TheVariants.{Vm}
@@ -15,7 +15,6 @@ use Rattle.kc_model.specs.Lawful.{IsLawful}
 use Rattle.kc_model.proofs.Refusals.Served.{when-none, none-of}
 use Rattle.kc_model.proofs.Refusals.Answered.{vm-in, vcpu-in, was-active, was-registered, backing-is}
 use Rattle.kc_model.proofs.States.Lists.{changed-other}
-use Rattle.kc_model.proofs.States.Changes.{exists}
 use Rattle.kc_model.proofs.Lawful.GuestCalls.{IsGuestCall, owner-mapped, lawful-shared, lawful-revoked}
 use Rattle.kc_model.proofs.States.Each.{none-in}
 
@@ -24,18 +23,18 @@ pub record IsRangeCall (m : State) (v c g n : ℕ) : Type 0 where
   pub call : IsGuestCall m v c g
   pub some : 0 < n
   pub few : n ≤ 64
-  pub within : g + n ≤ 262144
+  pub within : g + n ≤ gfns_of m.config.version
   pub mapped : (h : ℕ) → g ≤ h → h < g + n → mapped_at m v h ≡ Some (backing (mapped_at m v h))
 
 pub guest_range-served : (m : State) (v c g n : ℕ) (last : Option Refusal) → first_of_these (guest_range m v c g n last) ≡ None → IsRangeCall m v c g n × (last ≡ None)
 guest_range-served m v c g n last served =
     let none = none-of (guest_range m v c g n last) served in
-    let gfns = or_parts (nat_le 262144 g) (nat_lt 262144 (g + n)) (when-none _ _ (none 2)) in
+    let gfns = or_parts (nat_le (gfns_of m.config.version) g) (nat_lt (gfns_of m.config.version) (g + n)) (when-none _ _ (none 2)) in
     let count = or_parts (nat_eq n 0) (nat_lt 64 n) (when-none _ _ (none 3)) in (
       record {
         call = record {
           vm = vm-in m v (none 0);
-          vcpu = vcpu-in c (none 1);
+          vcpu = vcpu-in m c (none 1);
           gfn = leb-false _ _ gfns.0;
           active = was-active m v (none 5);
           registered = was-registered m v c (none 6);

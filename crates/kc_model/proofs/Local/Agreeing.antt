@@ -4,7 +4,7 @@ use Rattle.std.proofs.Common.{ℕ, zero, suc, ◌≡◌, ◌≤◌, Bool, true, 
 use Rattle.kc_types.specs.declared.call.Call.{Call}
 use Rattle.kc_types.specs.declared.reply.Reply.{Reply}
 use Rattle.kc_types.specs.declared.owner.Owner.TheVariants.{Core}
-use Rattle.kc_model.specs.State.{State, Frame, Slot, untouched, empty_slot}
+use Rattle.kc_model.specs.State.{State, Frame, Slot, untouched, no_slot}
 use Rattle.kc_model.specs.Effects.{Outcome}
 use Rattle.kc_model.specs.Next.{next}
 use Rattle.kc_model.specs.Resources.{Resources, Resource, pick, merged, part_of, Part, frame_part, slot_part, free_part, need, IsWithin}
@@ -40,7 +40,7 @@ frame_of_part _ = untouched Core
 
 abbrev pub slot_of_part : Part → Slot
 slot_of_part (slot_part slot) = slot
-slot_of_part _ = empty_slot
+slot_of_part _ = no_slot
 
 abbrev pub free_of_part : Part → List ℕ
 free_of_part (free_part free) = free
@@ -52,18 +52,18 @@ merged-agrees here m other agrees =
     ap (λ config. record (merged here m other) { config = config }) (sym agrees.size.config)
     ∙ ap (λ frames. record (merged here m other) { config = other.config; frames = frames }) (pick-agrees (λ f. here (resource.Frame f)) (untouched Core) m.frames other.frames agrees.size.frames (λ f is. ap frame_of_part (agrees.parts (resource.Frame f) is)))
     ∙ ap (λ free. record (merged here m other) { config = other.config; frames = other.frames; free = free }) (either_way (here resource.Free) m.free other.free (λ is. ap free_of_part (agrees.parts resource.Free is)))
-    ∙ ap (λ slots. record other { slots = slots }) (pick-agrees (λ v. here (resource.Vm v)) empty_slot m.slots other.slots agrees.size.slots (λ v is. ap slot_of_part (agrees.parts (resource.Vm v) is)))
+    ∙ ap (λ slots. record other { slots = slots }) (pick-agrees (λ v. here (resource.Vm v)) no_slot m.slots other.slots agrees.size.slots (λ v is. ap slot_of_part (agrees.parts (resource.Vm v) is)))
 
 -- the resources have the first state's parts
 merged-here : (here : Resources) (m rest : State) (r : Resource) → here r ≡ true → part_of (merged here m rest) r ≡ part_of m r
 merged-here here m rest (resource.Frame f) is = ap frame_part (pick-get (λ f. here (resource.Frame f)) (untouched Core) m.frames rest.frames f (λ lt. is))
-merged-here here m rest (resource.Vm v) is = ap slot_part (pick-get (λ v. here (resource.Vm v)) empty_slot m.slots rest.slots v (λ lt. is))
+merged-here here m rest (resource.Vm v) is = ap slot_part (pick-get (λ v. here (resource.Vm v)) no_slot m.slots rest.slots v (λ lt. is))
 merged-here here m rest resource.Free is = rw is refl
 
 -- everything else is the other's
 merged-elsewhere : (here : Resources) (m rest : State) (r : Resource) → IsSameSize m rest → here r ≡ false → part_of (merged here m rest) r ≡ part_of rest r
 merged-elsewhere here m rest (resource.Frame f) size is = ap frame_part (pick-other (λ f. here (resource.Frame f)) (untouched Core) m.frames rest.frames f (let h = size.frames in omega (arith, h)) is)
-merged-elsewhere here m rest (resource.Vm v) size is = ap slot_part (pick-other (λ v. here (resource.Vm v)) empty_slot m.slots rest.slots v (let h = size.slots in omega (arith, h)) is)
+merged-elsewhere here m rest (resource.Vm v) size is = ap slot_part (pick-other (λ v. here (resource.Vm v)) no_slot m.slots rest.slots v (let h = size.slots in omega (arith, h)) is)
 merged-elsewhere here m rest resource.Free size is = rw is refl
 
 agrees-self : (here : Resources) (m : State) → AgreesOn here m m

@@ -74,7 +74,7 @@ pub mapped-served : (m : State) (v c g : ℕ) (last : Option Refusal) → first_
 mapped-served m v c g last served = ap is_some (guest_frame-served m v c g last served).0.mapped
 
 guest_frame-merged : (here : Resources) (m rest : State) (v c g : ℕ) (last other : Option Refusal) → HasSlot here m v → (is_some (mapped_at m v g) ≡ true → last ≡ other) → first_of_these (guest_frame (merged here m rest) v c g last) ≡ first_of_these (guest_frame m v c g other)
-guest_frame-merged here m rest v c g last other has same = rw (slot-merged here m rest v has) (unless_unmapped (bad_vm m v) (bad_vcpu c) (bad_gfn g) (no_vm m v) (not_active m v) (no_vcpu m v c) (mapped_at m v g) last other same)
+guest_frame-merged here m rest v c g last other has same = rw (slot-merged here m rest v has) (unless_unmapped (bad_vm m v) (bad_vcpu m c) (bad_gfn m g) (no_vm m v) (not_active m v) (no_vcpu m v c) (mapped_at m v g) last other same)
 
 pub share-merged : (here : Resources) (m rest : State) (v g : ℕ) → HasSlot here m v → HasMapped here m v g → is_some (mapped_at m v g) ≡ true → share_at (merged here m rest) v g ≡ share_at m v g
 share-merged here m rest v g has mapped is =

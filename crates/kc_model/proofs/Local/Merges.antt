@@ -1,7 +1,7 @@
 -- Looking up and changing a state that is made of two.
 use Rattle.std.proofs.Common.{ℕ, zero, suc, ◌≡◌, ◌<◌, Bool, true, cond, List, [], ◌∷◌, length, get_or, set, drop, refl, ap, arith}
 use Rattle.kc_types.specs.declared.owner.Owner.TheVariants.{Core}
-use Rattle.kc_model.specs.State.{State, Frame, Slot, frame_at, slot_at, untouched, empty_slot}
+use Rattle.kc_model.specs.State.{State, Frame, Slot, frame_at, slot_at, untouched, no_slot}
 use Rattle.kc_model.specs.Resources.{Resources, pick, merged}
 use Rattle.kc_types.specs.declared.resource.Resource.TheVariants as resource
 
@@ -26,7 +26,7 @@ pub frame-merged : (here : Resources) (m rest : State) (f : ℕ) → HasFrame he
 frame-merged here m rest f has = pick-get (λ f. here (resource.Frame f)) (untouched Core) m.frames rest.frames f has
 
 pub slot-merged : (here : Resources) (m rest : State) (v : ℕ) → HasSlot here m v → slot_at (merged here m rest) v ≡ slot_at m v
-slot-merged here m rest v has = pick-get (λ v. here (resource.Vm v)) empty_slot m.slots rest.slots v has
+slot-merged here m rest v has = pick-get (λ v. here (resource.Vm v)) no_slot m.slots rest.slots v has
 
 pub free-merged : (here : Resources) (m rest : State) → here resource.Free ≡ true → (merged here m rest).free ≡ m.free
 free-merged here m rest has = ap (λ b. cond b m.free rest.free) has
@@ -37,5 +37,5 @@ pub frames-set : (here : Resources) (m rest : State) (f : ℕ) → HasFrame here
 frames-set here m rest f has new = pick-set (λ f. here (resource.Frame f)) (untouched Core) m.frames rest.frames f new has
 
 pub slots-set : (here : Resources) (m rest : State) (v : ℕ) → HasSlot here m v → (new : Slot)
-    → pick (λ v. here (resource.Vm v)) empty_slot (set m.slots v new) rest.slots ≡ set (pick (λ v. here (resource.Vm v)) empty_slot m.slots rest.slots) v new
-slots-set here m rest v has new = pick-set (λ v. here (resource.Vm v)) empty_slot m.slots rest.slots v new has
+    → pick (λ v. here (resource.Vm v)) no_slot (set m.slots v new) rest.slots ≡ set (pick (λ v. here (resource.Vm v)) no_slot m.slots rest.slots) v new
+slots-set here m rest v has new = pick-set (λ v. here (resource.Vm v)) no_slot m.slots rest.slots v new has

@@ -5,7 +5,7 @@ use Rattle.std.proofs.lemmas.List.{get_or_past}
 use Rattle.kc_types.specs.declared.owner.Owner.{Owner}
 use Rattle.kc_types.specs.declared.owner.Owner.TheVariants.{Core, Host, Free, Vm}
 use Rattle.kc_types.specs.declared.slot.Phase.TheVariants.{Booting}
-use Rattle.kc_model.specs.State.{State, Slot, Image, frame_at, slot_at, mapped_at, empty_slot}
+use Rattle.kc_model.specs.State.{State, Slot, Image, frame_at, slot_at, mapped_at, no_slot}
 use Rattle.kc_model.specs.Refusals.{pages_of}
 use Rattle.kc_model.specs.Lawful.{IsLawful, same_owner, times_in}
 use Rattle.kc_model.specs.Links.{list_of}
@@ -28,7 +28,7 @@ listed-owned m is Host f h = cc
 listed-owned m is Free f h = of-times (same_owner (frame_at m f).owner Free) (times_in m.free f) (times_in-held m.free f h) (is.free f)
 listed-owned m is (Vm v) f h = elim (cases_lt v (slot_count m.config)) [
   | inl low ↦ of-times (same_owner (frame_at m f).owner (Vm v)) (times_in (slot_at m v).frames f) (times_in-held (slot_at m v).frames f h) (is.listed v low f)
-  | inr high ↦ let none : is_in (slot_at m v).frames f ≡ false = ap (λ (there : Slot). is_in there.frames f) (get_or_past m.slots v empty_slot (rw is.slots high)) in cc
+  | inr high ↦ let none : is_in (slot_at m v).frames f ≡ false = ap (λ (there : Slot). is_in there.frames f) (get_or_past m.slots v no_slot (rw is.slots high)) in cc
 ]
 
 -- so it has that owner
@@ -52,7 +52,7 @@ next-unmapped : (m : State) (v : ℕ) → IsLawful m → v < slot_count m.config
 next-unmapped m v is low booting i absent within short =
     let slot = is.each_slot v low in
     let g = (get_or (slot_at m v).images i absent).base + (get_or (slot_at m v).images i absent).pages in
-    is_none-of (mapped_at m v g) (slot.booting booting g ∙ next-held (slot_at m v).images i absent g slot.apart slot.each_image within refl short)
+    is_none-of (mapped_at m v g) (slot.booting booting g ∙ next-held m.config.version (slot_at m v).images i absent g slot.apart slot.each_image within refl short)
 
 -- a lawful state whose booting slots have their images' pages mapped is orderly
 pub orderly-lawful : (m : State) → IsLawful m → ((v : ℕ) → v < slot_count m.config → (slot_at m v).phase ≡ Booting → HasMappedPages (slot_at m v).mapped (slot_at m v).images) → IsOrderly m

@@ -4,7 +4,7 @@ use Rattle.std.specs.Ordering.{nat_cmp}
 use Rattle.std.specs.FinMap as map
 use Rattle.kc_types.specs.declared.call.Call.{Call}
 use Rattle.kc_types.specs.declared.owner.Owner.TheVariants.{Core}
-use Rattle.kc_model.specs.State.{State, Slot, slot_at, empty_slot, untouched}
+use Rattle.kc_model.specs.State.{State, Slot, slot_at, no_slot, untouched}
 use Rattle.kc_model.specs.Resources.{Resources, Resource, pick, merged, is_in, names_frame, uses_free, of_slot, exists_slot, listed_in, need, IsWithin}
 use Rattle.kc_model.specs.Local.{IsOrderly, IsOrderlySlot, cut}
 use Rattle.kc_model.proofs.Local.Merges.{slot-merged, free-merged}
@@ -31,14 +31,14 @@ pick-or test d (x ∷ xs) (y ∷ ys) (suc i) lt = pick-or (λ j. test (suc j)) d
 pub orderly-merged : (here : Resources) (m rest : State) → IsOrderly m → ((v : ℕ) → v < slot_count m.config → IsOrderlySlot (slot_at rest v)) → IsOrderly (merged here m rest)
 orderly-merged here m rest is others = record {
   frames = length-pick (λ f. here (resource.Frame f)) (untouched Core) m.frames rest.frames ∙ is.frames;
-  slots = length-pick (λ v. here (resource.Vm v)) empty_slot m.slots rest.slots ∙ is.slots;
-  each_slot = λ v low. elim (pick-or (λ v. here (resource.Vm v)) empty_slot m.slots rest.slots v (rw is.slots low)) [
+  slots = length-pick (λ v. here (resource.Vm v)) no_slot m.slots rest.slots ∙ is.slots;
+  each_slot = λ v low. elim (pick-or (λ v. here (resource.Vm v)) no_slot m.slots rest.slots v (rw is.slots low)) [
     | inl one ↦ subst IsOrderlySlot (sym one) (is.each_slot v low)
     | inr other ↦ subst IsOrderlySlot (sym other) (others v low)
   ];
 }
 
-orderly-empty : IsOrderlySlot empty_slot
+orderly-empty : IsOrderlySlot no_slot
 orderly-empty = record { listed = λ g f e. let none = map.get-empty {X = ℕ} nat_cmp g in cc; images = λ booting. cc; next_page = λ booting. cc }
 
 -- a part of an orderly state is orderly

@@ -2,7 +2,8 @@
 use Rattle.std.proofs.Common.{ℕ, zero, suc, ◌≡◌, ◌<◌, ◌+◌, ◌||◌, Bool, true, false, Option, Some, None, is_some, is_none, nat_le, nat_lt, nat_eq, List, [], ◌∷◌, length, get_or, set, refl, sym, ap, subst, ◌∙◌, eqb-true, length-set}
 use Rattle.std.specs.List.{range_with_len}
 use Rattle.std.proofs.lemmas.Bool.{or_parts}
-use Rattle.kc_types.specs.Limits.{gfn_limit, range_limit}
+use Rattle.kc_types.specs.Limits.{range_limit}
+use Rattle.kc_types.specs.Configuration.{gfns_of}
 use Rattle.kc_types.specs.declared.call.Call.TheVariants.{GrantRange, RevokeRange}
 use Rattle.kc_types.specs.declared.owner.Owner.TheVariants.{Core}
 use Rattle.kc_types.specs.declared.refusal.Refusal.{Refusal}
@@ -58,7 +59,7 @@ unless_unmapped a b c d e f g false last other same = ap (λ last. first_of_thes
 
 module _ (here : Resources) (m rest : State) (v c g n : ℕ) (has : HasSlot here m v) (mapped : (h : ℕ) → HasMapped here m v h) where
   range-merged : (last other : Option Refusal) → (any_from g n (λ h. is_none (mapped_at m v h)) ≡ false → last ≡ other) → first_of_these (guest_range (merged here m rest) v c g n last) ≡ first_of_these (guest_range m v c g n other)
-  range-merged last other same = rw (slot-merged here m rest v has) (unless_unmapped (bad_vm m v) (bad_vcpu c) (when (nat_le gfn_limit g || nat_lt gfn_limit (g + n)) BadGfn) (when (nat_eq n 0 || nat_lt range_limit n) BadRange)
+  range-merged last other same = rw (slot-merged here m rest v has) (unless_unmapped (bad_vm m v) (bad_vcpu m c) (when (nat_le (gfns_of m.config.version) g || nat_lt (gfns_of m.config.version) (g + n)) BadGfn) (when (nat_eq n 0 || nat_lt range_limit n) BadRange)
       (no_vm m v) (not_active m v) (no_vcpu m v c) (any_from g n (λ h. is_none (mapped_at m v h))) last other same)
 
   -- a test of the shares

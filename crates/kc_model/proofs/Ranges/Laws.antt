@@ -4,7 +4,7 @@ use Rattle.kc_types.specs.declared.call.Call.{Call}
 use Rattle.kc_types.specs.declared.call.Call.TheVariants.{HostFault, Remap, Map, GuestRead, Grant, Revoke}
 use Rattle.kc_types.specs.declared.refusal.Refusal.{Refusal}
 use Rattle.kc_types.specs.Slots.{slot_of}
-use Rattle.kc_model.specs.State.{State, Frame, Slot, slot_at, mapped_at, with_slot, empty_slot}
+use Rattle.kc_model.specs.State.{State, Frame, Slot, slot_at, mapped_at, with_slot, no_slot}
 use Rattle.kc_model.specs.Refusals.{refusal, next_gfn, pending}
 use Rattle.kc_model.specs.Effects.{effect, guest_read, hand}
 use Rattle.kc_model.specs.Next.{next, unless_refused, state_after}
@@ -135,7 +135,7 @@ all-single r = record {
 }
 
 phase-kept : (m : State) (w : ℕ) (slot : Slot) (v : ℕ) → slot.phase ≡ (slot_at m w).phase → (slot_at (with_slot m w slot) v).phase ≡ (slot_at m v).phase
-phase-kept m w slot v same = part-set (λ (s : Slot). s.phase) m.slots w slot empty_slot same v
+phase-kept m w slot v same = part-set (λ (s : Slot). s.phase) m.slots w slot no_slot same v
 
 waits-phase : (m : State) (w c g off len : ℕ) (at : Option ℕ) → KeepsPhases m (guest_read m w c g off len at).1
 waits-phase m w c g off len None v = phase-kept m w _ v refl

@@ -4,6 +4,7 @@ use Rattle.std.proofs.lemmas.Grind.{common_steps}
 use Rattle.kc_types.specs.declared.call.Call.TheVariants.{Grant, Revoke, GrantRange, RevokeRange}
 use Rattle.kc_types.specs.declared.refusal.Refusal.{Refusal}
 use Rattle.kc_types.specs.declared.refusal.Refusal.TheVariants.{BadGfn, NotMapped, ShareFull, NotShared}
+use Rattle.kc_types.specs.Configuration.{gfns_of}
 use Rattle.kc_model.specs.State.{State, mapped_at}
 use Rattle.kc_model.specs.Refusals.{refusal, conditions, first_of_these, or_else, when, any_from, guest_frame, guest_range, bad_vm, bad_vcpu, no_vm, not_active, no_vcpu, share_at}
 use Rattle.kc_model.specs.Together.{either}
@@ -30,28 +31,28 @@ module _ (m : State) (v c : ℕ) (test : ℕ → Bool) (reason : Refusal) where
   row h = guest_frame m v c h (when (test h) reason)
 
   joined : ℕ → ℕ → List (Option Refusal)
-  joined g n = bad_vm m v ∷ bad_vcpu c ∷ when (any_from g n (nat_le 262144)) BadGfn ∷ no_vm m v ∷ not_active m v ∷ no_vcpu m v c ∷ when (any_from g n (λ h. is_none (mapped_at m v h))) NotMapped ∷ when (any_from g n test) reason ∷ []
+  joined g n = bad_vm m v ∷ bad_vcpu m c ∷ when (any_from g n (nat_le (gfns_of m.config.version))) BadGfn ∷ no_vm m v ∷ not_active m v ∷ no_vcpu m v c ∷ when (any_from g n (λ h. is_none (mapped_at m v h))) NotMapped ∷ when (any_from g n test) reason ∷ []
 
   rows-join : (g n : ℕ) → row_of row g n ≡ joined g (suc n)
   unfolding row joined
-  rows-join g zero = rw (or-false (nat_le 262144 g), or-false (is_none (mapped_at m v g)), or-false (test g)) refl
+  rows-join g zero = rw (or-false (nat_le (gfns_of m.config.version) g), or-false (is_none (mapped_at m v g)), or-false (test g)) refl
   rows-join g (suc n) =
       ap (either (row g)) (rows-join (g + 1) n)
       ∙ rw (
         same-twice (bad_vm m v),
-        same-twice (bad_vcpu c),
+        same-twice (bad_vcpu m c),
         same-twice (no_vm m v),
         same-twice (not_active m v),
         same-twice (no_vcpu m v c),
-        both-when (nat_le 262144 g) (any_from (g + 1) (suc n) (nat_le 262144)) BadGfn,
+        both-when (nat_le (gfns_of m.config.version) g) (any_from (g + 1) (suc n) (nat_le (gfns_of m.config.version))) BadGfn,
         both-when (is_none (mapped_at m v g)) (any_from (g + 1) (suc n) (λ h. is_none (mapped_at m v h))) NotMapped,
         both-when (test g) (any_from (g + 1) (suc n) test) reason,
       ) refl
 
   -- one of the guest frames is past the last
-  any-past : (g n : ℕ) → any_from g (suc n) (nat_le 262144) ≡ (nat_le 262144 g || nat_lt 262144 (g + suc n))
-  any-past g zero = or-false (nat_le 262144 g) ∙ grind (arith, common_steps)
-  any-past g (suc n) = ap (λ b. nat_le 262144 g || b) (any-past (g + 1) n) ∙ grind (arith, common_steps)
+  any-past : (g n : ℕ) → any_from g (suc n) (nat_le (gfns_of m.config.version)) ≡ (nat_le (gfns_of m.config.version) g || nat_lt (gfns_of m.config.version) (g + suc n))
+  any-past g zero = or-false (nat_le (gfns_of m.config.version) g) ∙ grind (arith, common_steps)
+  any-past g (suc n) = ap (λ b. nat_le (gfns_of m.config.version) g || b) (any-past (g + 1) n) ∙ grind (arith, common_steps)
 
   range-by-row : (g n : ℕ) → n < 64 → first_of_these (guest_range m v c g (suc n) (when (any_from g (suc n) test) reason)) ≡ first_of_these (row_of row g n)
   unfolding row joined

@@ -3,7 +3,7 @@ use Rattle.std.proofs.Common.{ℕ, zero, suc, ◌≡◌, ◌<◌, ◌≤◌, ◌
 use Rattle.std.specs.List.{range_with_len}
 use Rattle.std.proofs.lemmas.Grind.{common_steps}
 use Rattle.std.proofs.lemmas.Bool.{cases_eq}
-use Rattle.kc_types.specs.Configuration.{slot_count}
+use Rattle.kc_types.specs.Configuration.{slot_count, vcpus_of, gfns_of}
 use Rattle.kc_types.specs.declared.call.Call.{Call}
 use Rattle.kc_types.specs.declared.call.Call.TheVariants.{Grant, Revoke, GrantRange, RevokeRange}
 use Rattle.kc_types.specs.declared.reply.Reply.TheVariants as reply
@@ -25,6 +25,12 @@ use Rattle.kc_model.proofs.Lawful.Keeps.{lawful-next}
 
 below : (n k : ℕ) → n < k → nat_le k n ≡ false
 below n k lt = grind (arith, common_steps, lt)
+
+range-in : (limit g n : ℕ) → 0 < n → g + n ≤ limit → (nat_le limit g || nat_lt limit (g + n)) ≡ false
+range-in limit g n some within = grind (arith, common_steps, some, within)
+
+count-in : (n : ℕ) → 0 < n → n ≤ 64 → (nat_eq n 0 || nat_lt 64 n) ≡ false
+count-in n some few = grind (arith, common_steps, some, few)
 
 pub next-served : (r : Option Refusal) (m : State) (call : Call) → r ≡ None → unless_refused r m call ≡ effect m call
 next-served None m call served = refl
@@ -49,8 +55,8 @@ none-from p g (suc n) none =
 -- what single calls of a virtual processor on the guest frames of a range need: `full` is what refuses them
 record IsReady (full : ℕ → Bool) (m : State) (v c g n : ℕ) : Type 0 where
   vm : v < slot_count m.config
-  vcpu : c < 8
-  within : g + n ≤ 262144
+  vcpu : c < vcpus_of m.config.version
+  within : g + n ≤ gfns_of m.config.version
   active : (slot_at m v).phase ≡ Active
   registered : (vcpu_at m v c).registered ≡ true
   each : (h : ℕ) → g ≤ h → h < g + n → (mapped_at m v h ≡ Some (backing (mapped_at m v h))) × (full (share_at m v h) ≡ false)
@@ -63,8 +69,8 @@ module _ (v c : ℕ) (full : ℕ → Bool) (reason : Refusal) (change : Frame �
       let here = ready.each g (omega arith) (omega arith) in
       let within = ready.within in
       let b0 = below v (slot_count m.config) ready.vm in
-      let b1 = below c 8 ready.vcpu in
-      let b2 = below g 262144 (omega (arith, within)) in
+      let b1 = below c (vcpus_of m.config.version) ready.vcpu in
+      let b2 = below g (gfns_of m.config.version) (omega (arith, within)) in
       let b4 : is_empty (slot_at m v).phase ≡ false = ap is_empty ready.active in
       let b5 : is_active (slot_at m v).phase ≡ true = ap is_active ready.active in
       let b6 : (vcpu_at m v c).registered ≡ true = ready.registered in
@@ -168,9 +174,9 @@ module _ (v c : ℕ) (full : ℕ → Bool) (reason : Refusal) (change : Frame �
   range-served m g n some few ready =
       let within = ready.within in
       let b0 = below v (slot_count m.config) ready.vm in
-      let b1 = below c 8 ready.vcpu in
-      let b2 : (nat_le 262144 g || nat_lt 262144 (g + n)) ≡ false = grind (arith, common_steps, some, within) in
-      let b3 : (nat_eq n 0 || nat_lt 64 n) ≡ false = grind (arith, common_steps, some, few) in
+      let b1 = below c (vcpus_of m.config.version) ready.vcpu in
+      let b2 : (nat_le (gfns_of m.config.version) g || nat_lt (gfns_of m.config.version) (g + n)) ≡ false = range-in (gfns_of m.config.version) g n some within in
+      let b3 : (nat_eq n 0 || nat_lt 64 n) ≡ false = count-in n some few in
       let b4 : is_empty (slot_at m v).phase ≡ false = ap is_empty ready.active in
       let b5 : is_active (slot_at m v).phase ≡ true = ap is_active ready.active in
       let b6 : (vcpu_at m v c).registered ≡ true = ready.registered in

@@ -6,7 +6,7 @@ use Rattle.kc_types.specs.declared.call.Call.TheVariants.{HostWrite, GuestWrite}
 use Rattle.kc_types.specs.declared.owner.Owner.{Owner}
 use Rattle.kc_types.specs.declared.owner.Owner.TheVariants.{Core, Host, Free, Vm}
 use Rattle.kc_types.specs.declared.custody.Custody.{Custody}
-use Rattle.kc_model.specs.State.{State, Frame, Slot, frame_at, zero_page, untouched, empty_slot}
+use Rattle.kc_model.specs.State.{State, Frame, Slot, frame_at, zero_page, untouched, no_slot}
 use Rattle.kc_model.specs.Refusals.{is_active}
 use Rattle.kc_model.specs.Next.{next, state_after}
 use Rattle.kc_model.specs.Lawful.{IsLawful, IsLawfulFrame, IsPage}
@@ -88,7 +88,7 @@ guests-by : (m n : State) → n.slots ≡ m.slots → (x : Frame) → blank_fram
 guests-by m n slots x = ap (λ b. record x { bytes = cond b zero_page x.bytes }) (by-owner x.owner)
   where
     by-owner : (owner : Owner) → is_guests n owner ≡ is_guests m owner
-    by-owner (Vm v) = ap (λ (slots : List Slot). is_active (get_or slots v empty_slot).phase) slots
+    by-owner (Vm v) = ap (λ (slots : List Slot). is_active (get_or slots v no_slot).phase) slots
     by-owner Core = refl
     by-owner Host = refl
     by-owner Free = refl

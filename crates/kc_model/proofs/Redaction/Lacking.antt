@@ -10,7 +10,7 @@ use Rattle.kc_types.specs.declared.owner.Owner.TheVariants.{Core}
 use Rattle.kc_types.specs.declared.slot.Phase.TheVariants.{Active}
 use Rattle.kc_types.specs.declared.custody.Change.TheVariants as change
 use Rattle.kc_types.specs.Configuration.{slot_count}
-use Rattle.kc_model.specs.State.{State, Frame, Slot, Vcpu, frame_at, slot_at, vcpu_at, mapped_at, with_frame, untouched, absent_vcpu, empty_slot}
+use Rattle.kc_model.specs.State.{State, Frame, Slot, Vcpu, frame_at, slot_at, vcpu_at, mapped_at, with_frame, untouched, absent_vcpu, no_slot}
 use Rattle.kc_model.specs.Slot.{awaiting, vcpu_of}
 use Rattle.kc_model.specs.Refusals.{refusal, is_active}
 use Rattle.kc_model.specs.Effects.{effect, guest_read, guest_written, written, with_fault}
@@ -56,7 +56,7 @@ goes-on m v c none =
     let slot = slot_at m v in
     let vcpus : set slot.vcpus c (record (vcpu_of slot c) { fault = None }) ≡ slot.vcpus = ap (set slot.vcpus c) (same-vcpu (vcpu_of slot c) none) ∙ set-get_or slot.vcpus c absent_vcpu in
     let same : awaiting slot c None ≡ slot = ap (λ vcpus. record slot { vcpus = vcpus }) vcpus in
-    ap (λ (slots : List Slot). record m { slots = slots }) (ap (set m.slots v) same ∙ set-get_or m.slots v empty_slot)
+    ap (λ (slots : List Slot). record m { slots = slots }) (ap (set m.slots v) same ∙ set-get_or m.slots v no_slot)
 
 reads-nothing : (kept : ℕ → Bool) (m : State) (v c g off len : ℕ) (at : Option ℕ) → is_none (vcpu_at m v c).fault ≡ true → is_some at ≡ true → DifferInBytes kept m (guest_read m v c g off len at).1
 reads-nothing kept m v c g off len None none some = absurd cc

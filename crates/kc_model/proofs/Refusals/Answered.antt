@@ -11,19 +11,19 @@ use Rattle.kc_model.specs.State.{State, Image, frame_at, slot_at, vcpu_at, mappe
 use Rattle.kc_model.specs.Refusals.{when, is_host, is_empty, is_booting, is_active, bad_vm, bad_vcpu, bad_frame, bad_gfn, not_booting, not_active, no_vcpu, not_mapped, not_host, tables_full, backing, is_short, pages_of}
 use Rattle.kc_model.specs.Lawful.{has_leaf}
 use Rattle.kc_model.proofs.Refusals.Served.{when-none}
-use Rattle.kc_types.specs.Configuration.{slot_count}
+use Rattle.kc_types.specs.Configuration.{slot_count, vcpus_of, gfns_of}
 
 pub vm-in : (m : State) (v : ℕ) → bad_vm m v ≡ None → v < slot_count m.config
 vm-in m v h = leb-false _ _ (when-none _ _ h)
 
-pub vcpu-in : (c : ℕ) → bad_vcpu c ≡ None → c < 8
-vcpu-in c h = leb-false _ _ (when-none _ _ h)
+pub vcpu-in : (m : State) (c : ℕ) → bad_vcpu m c ≡ None → c < vcpus_of m.config.version
+vcpu-in m c h = leb-false _ _ (when-none _ _ h)
 
 pub frame-in : (m : State) (f : ℕ) → bad_frame m f ≡ None → f < m.config.frames
 frame-in m f h = leb-false _ _ (when-none _ _ h)
 
-pub gfn-in : (g : ℕ) → bad_gfn g ≡ None → g < 262144
-gfn-in g h = leb-false _ _ (when-none _ _ h)
+pub gfn-in : (m : State) (g : ℕ) → bad_gfn m g ≡ None → g < gfns_of m.config.version
+gfn-in m g h = leb-false _ _ (when-none _ _ h)
 
 is_empty-is : (phase : Phase) → not (is_empty phase) ≡ false → phase ≡ Empty
 is_empty-is Empty h = refl

@@ -9,7 +9,7 @@ use Rattle.kc_types.specs.declared.call.Call.TheVariants.{Take, Give, HostFault,
 use Rattle.kc_types.specs.declared.refusal.Refusal.{Refusal}
 use Rattle.kc_types.specs.declared.owner.Owner.TheVariants.{Core, Host, Free, Vm}
 use Rattle.kc_types.specs.Slots.{slot_of}
-use Rattle.kc_model.specs.State.{State, Frame, Image, Slot, frame_at, slot_at, mapped_at, untouched, empty_slot}
+use Rattle.kc_model.specs.State.{State, Frame, Image, Slot, frame_at, slot_at, mapped_at, untouched, no_slot}
 use Rattle.kc_model.specs.Refusals.{refusal, backing, conditions, next_gfn, pending}
 use Rattle.kc_model.specs.Effects.{effect, host_takes, hand, freed, guest_read, guest_written, trimmed, all_trimmed, verified, first_failing, is_approved, frames_under, changed_each, granted, revoked}
 use Rattle.kc_model.specs.Next.{next, unless_refused}
@@ -82,7 +82,7 @@ verifies : {Away : ℕ → Type 0} (m : State) (w : ℕ) (first : Option ℕ) (v
 verifies m w None v is served differ ne =
     let seen = verify-served m w served in
     one m _ v
-    (slot-elsewhere (all_trimmed m w (slot_at m w).images) w _ v ne ∙ ap (λ (slots : List Slot). get_or slots v empty_slot) (slots-trimmed m w (slot_at m w).images))
+    (slot-elsewhere (all_trimmed m w (slot_at m w).images) w _ v ne ∙ ap (λ (slots : List Slot). get_or slots v no_slot) (slots-trimmed m w (slot_at m w).images))
     (λ f mine private. frames-trimmed m w (slot_at m w).images v f is seen.0 (each_last_page m w is seen.0 seen.1 seen.2) mine differ)
 verifies m w (Some i) v is served differ ne = one m _ v (slot-elsewhere m w _ v ne) (λ f mine private. refl)
 

@@ -7,13 +7,12 @@ use Rattle.kc_types.specs.declared.call.Call.{Call}
 use Rattle.kc_types.specs.declared.call.Call.TheVariants.{Take, Give, HostFault, HostRead, HostWrite, RegisterVm, RegisterVcpu, SetBoot, Remap, Verify, Map, GuestRead, GuestWrite, Grant, Revoke, GrantRange, RevokeRange, Drop, Clear}
 use Rattle.kc_types.specs.declared.refusal.Refusal.{Refusal}
 use Rattle.kc_types.specs.declared.slot.Phase.TheVariants.{Booting}
-use Rattle.kc_types.specs.Configuration.{slot_count}
-use Rattle.kc_model.specs.State.{State, Slot, slot_at, vcpu_at, mapped_at, empty_slot}
-use Rattle.kc_model.specs.Refusals.{refusal, backing, conditions, next_gfn, pending}
+use Rattle.kc_model.specs.State.{State, Slot, slot_at, vcpu_at, mapped_at, no_slot, empty_slot}
+use Rattle.kc_model.specs.Refusals.{refusal, conditions, next_gfn, pending}
 use Rattle.kc_model.specs.Effects.{effect, hand, first_failing, is_approved}
 use Rattle.kc_model.specs.Next.{next, unless_refused}
 use Rattle.kc_model.specs.Lawful.{IsLawful}
-use Rattle.kc_model.specs.Arriving.{IsAwaited, ArrivesAwaited, IsArrived}
+use Rattle.kc_model.specs.Arriving.{ArrivesAwaited, IsArrived}
 use Rattle.kc_model.proofs.States.Changes.{slot-elsewhere}
 use Rattle.kc_model.proofs.States.Tables.{got-here, got-elsewhere, gone-here, gone-elsewhere}
 use Rattle.kc_model.proofs.Refusals.Served.{none-of}
@@ -31,7 +30,7 @@ appears : (m : State) (w h k v g f : ℕ) → w < length m.slots → mapped_at m
 appears m w h k v g f lt free mapped = elim (cases_eq v w) [
   | inr other ↦ absurd (never (mapped_at m v g) (mapped_at (hand m w h k) v g) f (ap (λ (s : Slot). map.get s.mapped g) (slot-elsewhere m w _ v other)) free mapped)
   | inl same ↦
-      let here : mapped_at (hand m w h k) w g ≡ map.get (map.insert (slot_at m w).mapped h k) g = ap (λ (s : Slot). map.get s.mapped g) (get_or-set_same m.slots w _ empty_slot lt) in
+      let here : mapped_at (hand m w h k) w g ≡ map.get (map.insert (slot_at m w).mapped h k) g = ap (λ (s : Slot). map.get s.mapped g) (get_or-set_same m.slots w _ no_slot lt) in
       let got : mapped_at (hand m w h k) w g ≡ Some f = subst (λ x. mapped_at (hand m w h k) x g ≡ Some f) same mapped in
       let none : mapped_at m w g ≡ None = subst (λ x. mapped_at m x g ≡ None) same free in
       elim (cases_eq g h) [
@@ -47,7 +46,7 @@ drops : (m : State) (w c h v g : ℕ) → w < length m.slots → mapped_at m v g
 drops m w c h v g lt free = elim (cases_eq v w) [
   | inr other ↦ ap (λ (s : Slot). map.get s.mapped g) (slot-elsewhere m w _ v other) ∙ free
   | inl same ↦ subst (λ x. mapped_at (effect m (Drop w c h)).1 x g ≡ None) (sym same) (
-      ap (λ (s : Slot). map.get s.mapped g) (get_or-set_same m.slots w _ empty_slot lt)
+      ap (λ (s : Slot). map.get s.mapped g) (get_or-set_same m.slots w _ no_slot lt)
       ∙ elim (cases_eq g h) [
         | inl also ↦ subst (λ x. map.get (map.remove (slot_at m w).mapped h) x ≡ None) (sym also) (gone-here (slot_at m w).mapped h)
         | inr other ↦ gone-elsewhere (slot_at m w).mapped h g other ∙ subst (λ x. mapped_at m x g ≡ None) same free
@@ -56,8 +55,8 @@ drops m w c h v g lt free = elim (cases_eq v w) [
 
 clears : (m : State) (w v g : ℕ) → w < length m.slots → mapped_at m v g ≡ None → mapped_at (effect m (Clear w)).1 v g ≡ None
 clears m w v g lt free = elim (cases_eq v w) [
-  | inr other ↦ ap (λ (s : Slot). map.get s.mapped g) (get_or-set_other m.slots w v empty_slot empty_slot other) ∙ free
-  | inl same ↦ subst (λ x. mapped_at (effect m (Clear w)).1 x g ≡ None) (sym same) (ap (λ (s : Slot). map.get s.mapped g) (get_or-set_same m.slots w empty_slot empty_slot lt) ∙ map.get-empty nat_cmp g)
+  | inr other ↦ ap (λ (s : Slot). map.get s.mapped g) (get_or-set_other m.slots w v (empty_slot m.config.version) no_slot other) ∙ free
+  | inl same ↦ subst (λ x. mapped_at (effect m (Clear w)).1 x g ≡ None) (sym same) (ap (λ (s : Slot). map.get s.mapped g) (get_or-set_same m.slots w (empty_slot m.config.version) no_slot lt) ∙ map.get-empty nat_cmp g)
 ]
 
 absent : {X : Type 0} (new : Option ℕ) (f : ℕ) → new ≡ None → new ≡ Some f → X

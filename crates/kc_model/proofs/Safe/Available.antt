@@ -2,16 +2,15 @@
 use Rattle.std.proofs.Common.{ℕ, ◌≡◌, ◌<◌, ◌+◌, inl, inr, true, false, nat_eq, nat_le, nat_lt, ◌||◌, get_or, List, [], ◌∷◌, length, refl, sym, ap, subst, ◌∙◌, Option, None, Some, arith, get_or-set_other, eq-eqb}
 use Rattle.std.proofs.lemmas.Grind.{common_steps}
 use Rattle.std.proofs.lemmas.Bool.{cases_eq, cases_lt, and_cases}
-use Rattle.std.proofs.lemmas.List.{get_or_past}
 use Rattle.std.specs.FinMap as map
-use Rattle.kc_types.specs.Configuration.{slot_count}
+use Rattle.kc_types.specs.Configuration.{slot_count, vcpus_of, gfns_of}
 use Rattle.kc_types.specs.declared.call.Call.{Call}
 use Rattle.kc_types.specs.declared.call.Call.TheVariants.{Take, RegisterVm, RegisterVcpu, SetBoot, Remap, Verify, Map, GuestRead, GuestWrite, Drop, Clear}
 use Rattle.kc_types.specs.declared.reply.Reply.TheVariants as reply
 use Rattle.kc_types.specs.declared.refusal.Refusal.{Refusal}
 use Rattle.kc_types.specs.declared.slot.Phase.{Phase}
 use Rattle.kc_types.specs.declared.slot.Phase.TheVariants.{Empty, Booting, Active, Dead}
-use Rattle.kc_model.specs.State.{State, Slot, slot_at, vcpu_at, mapped_at, with_slot, empty_slot, absent_vcpu}
+use Rattle.kc_model.specs.State.{State, Slot, slot_at, vcpu_at, mapped_at, with_slot, no_slot, empty_slot}
 use Rattle.kc_model.specs.Refusals.{refusal, first_of_these, guest_access, next_gfn, pending, is_active, is_empty}
 use Rattle.kc_model.specs.Effects.{effect, host_takes, hand, guest_read, guest_written, verified, all_trimmed, first_failing, is_approved}
 use Rattle.kc_model.specs.Next.{next, unless_refused}
@@ -19,7 +18,7 @@ use Rattle.kc_model.specs.Lawful.{IsLawful}
 use Rattle.kc_model.specs.Availability.{MayAccess, ServesAlways, KeepsPages, takes_page, IsAvailable}
 use Rattle.kc_model.proofs.States.Frames.{part-set}
 use Rattle.kc_model.proofs.States.Changes.{slot-elsewhere, exists}
-use Rattle.kc_model.proofs.States.Slots.{slot-past, next-held}
+use Rattle.kc_model.proofs.States.Slots.{slot-past, next-held, registered-within}
 use Rattle.kc_model.proofs.States.Tables.{got-elsewhere, gone-elsewhere}
 use Rattle.kc_model.proofs.Refusals.Answered.{is_none-of}
 use Rattle.kc_model.proofs.Lawful.HandCalls.{remap-served, map-served}
@@ -41,18 +40,15 @@ access-served m v c g off len f is may =
     let here = may.active in
     let v_in = slot-exists m v is (λ empty. cc) in
     let slot = is.each_slot v v_in in
-    let c_in : c < 8 = elim (cases_lt c 8) [
-      | inl lt ↦ lt
-      | inr past ↦ let absent = get_or_past (slot_at m v).vcpus c absent_vcpu (rw slot.vcpus past) in let yes = may.registered in cc
-    ] in
+    let c_in : c < vcpus_of m.config.version = rw (← slot.vcpus) (registered-within (slot_at m v).vcpus c may.registered) in
     let owner = (is.mapped v g f v_in).0 may.mapped in
     let lt : f < length m.frames = exists m f (λ core. let o = owner.0 in cc) in
-    let g_in : g < 262144 = (is.each_frame f lt).gfn g owner.1 in
+    let g_in : g < gfns_of m.config.version = (is.each_frame f lt).gfn g owner.1 in
     let some = may.some in
     let within = may.within in
     let b0 = below v (slot_count m.config) v_in in
-    let b1 = below c 8 c_in in
-    let b2 = below g 262144 g_in in
+    let b1 = below c (vcpus_of m.config.version) c_in in
+    let b2 = below g (gfns_of m.config.version) g_in in
     let b3 : (nat_eq len 0 || nat_lt 4096 (off + len)) ≡ false = grind (arith, common_steps, some, within) in
     let b4 : is_empty (slot_at m v).phase ≡ false = ap is_empty here in
     let b5 : is_active (slot_at m v).phase ≡ true = ap is_active here in
@@ -88,7 +84,7 @@ serves m _ is = tt
 
 -- a slot is written, and the guest frame is mapped in it as before
 pub same-entry : (m : State) (w : ℕ) (slot : Slot) (v g : ℕ) → map.get slot.mapped g ≡ mapped_at m w g → mapped_at (with_slot m w slot) v g ≡ mapped_at m v g
-same-entry m w slot v g same = part-set (λ (s : Slot). map.get s.mapped g) m.slots w slot empty_slot same v
+same-entry m w slot v g same = part-set (λ (s : Slot). map.get s.mapped g) m.slots w slot no_slot same v
 
 -- a page is mapped at a guest frame that had none
 hands : (m : State) (w h k v g f : ℕ) → mapped_at m w h ≡ None → mapped_at m v g ≡ Some f → mapped_at (hand m w h k) v g ≡ Some f
@@ -115,7 +111,7 @@ writes m w c h off bytes (Some k) v g = same-entry m w _ v g refl
 pub verifies : (m : State) (w : ℕ) (first : Option ℕ) (v g : ℕ) → mapped_at (verified m w first).1 v g ≡ mapped_at m v g
 verifies m w None v g =
     same-entry (all_trimmed m w (slot_at m w).images) w _ v g refl
-    ∙ ap (λ (slots : List Slot). map.get (get_or slots v empty_slot).mapped g) (slots-trimmed m w (slot_at m w).images)
+    ∙ ap (λ (slots : List Slot). map.get (get_or slots v no_slot).mapped g) (slots-trimmed m w (slot_at m w).images)
 verifies m w (Some i) v g = same-entry m w _ v g refl
 
 other_vm : (v w : ℕ) → nat_eq w v ≡ false → v ≡ w → ⊥
@@ -141,7 +137,7 @@ keeps-effect m (SetBoot w base len) v g f is served mapped kept = same-entry m w
 keeps-effect m (Remap w i k) v g f is served mapped kept =
     let seen = remap-served m w i k served in
     let there = is.each_slot w seen.vm in
-    let unheld = next-held (slot_at m w).images i (record { base = 0; len = 0; pages = 0 }) (next_gfn m w i) there.apart there.each_image seen.image refl seen.short in
+    let unheld = next-held m.config.version (slot_at m w).images i (record { base = 0; len = 0; pages = 0 }) (next_gfn m w i) there.apart there.each_image seen.image refl seen.short in
     let free : mapped_at m w (next_gfn m w i) ≡ None = is_none-of (mapped_at m w (next_gfn m w i)) (there.booting seen.booting (next_gfn m w i) ∙ unheld) in
     same-entry (hand m w (next_gfn m w i) k) w _ v g refl ∙ hands m w (next_gfn m w i) k v g f free mapped
 keeps-effect m (Verify w) v g f is served mapped kept = verifies m w (first_failing (is_approved m w) (slot_at m w).images) v g ∙ mapped
@@ -149,7 +145,7 @@ keeps-effect m (Map w c k) v g f is served mapped kept = same-entry (hand m w (p
 keeps-effect m (GuestRead w c h off len) v g f is served mapped kept = reads m w c h off len (mapped_at m w h) v g ∙ mapped
 keeps-effect m (GuestWrite w c h off bytes) v g f is served mapped kept = writes m w c h off bytes (mapped_at m w h) v g ∙ mapped
 keeps-effect m (Drop w c h) v g f is served mapped kept = drops m w c h v g f mapped kept
-keeps-effect m (Clear w) v g f is served mapped kept = ap (λ (s : Slot). map.get s.mapped g) (get_or-set_other m.slots w v empty_slot empty_slot (other_vm v w kept)) ∙ mapped
+keeps-effect m (Clear w) v g f is served mapped kept = ap (λ (s : Slot). map.get s.mapped g) (get_or-set_other m.slots w v (empty_slot m.config.version) no_slot (other_vm v w kept)) ∙ mapped
 keeps-effect m _ v g f is served mapped kept = mapped
 
 keeps-unless : (refused : Option Refusal) (m : State) (call : Call) → IsLawful m → refusal m call ≡ refused → KeepsPages m call (unless_refused refused m call).0 (unless_refused refused m call).1

@@ -13,7 +13,7 @@ use Rattle.kc_model.proofs.States.Phases.{phase-effect}
 use Rattle.kc_model.proofs.Lawful.Verifies.{slots-trimmed}
 use Rattle.kc_types.specs.declared.call.Call.{Call}
 use Rattle.kc_types.specs.declared.slot.Phase.TheVariants.{Active}
-use Rattle.kc_model.specs.State.{State, Slot, slot_at, with_slot, empty_slot}
+use Rattle.kc_model.specs.State.{State, Slot, slot_at, with_slot, no_slot, empty_slot}
 use Rattle.kc_model.specs.Next.{next, unless_refused, state_after}
 use Rattle.kc_model.specs.Safety.{IsActive, Measures, Clears, NeverCleared, EachStep, IsMeasured}
 
@@ -26,11 +26,11 @@ set-here (y ∷ ys) (suc i) x d = set-here ys i x d
 -- a slot that is active after a slot was written: the written one, or one that was active before
 written-active : (m : State) (w : ℕ) (slot : Slot) (v : ℕ) → IsActive (with_slot m w slot) v → ((v ≡ w) × (slot.phase ≡ Active)) ⊎ ((v ≡ w → ⊥) × IsActive m v)
 written-active m w slot v active = elim (cases_eq v w) [
-  | inl same ↦ elim (set-here m.slots w slot empty_slot) [
+  | inl same ↦ elim (set-here m.slots w slot no_slot) [
     | inl is ↦ inl (same, sym (ap (λ (s : Slot). s.phase) is) ∙ (let h : IsActive (with_slot m w slot) w = subst (λ k. IsActive (with_slot m w slot) k) same active in h))
     | inr is ↦ let h : IsActive (with_slot m w slot) w = subst (λ k. IsActive (with_slot m w slot) k) same active in let e = ap (λ (s : Slot). s.phase) is in absurd cc
   ]
-  | inr other ↦ inr (other, sym (ap (λ (s : Slot). s.phase) (get_or-set_other m.slots w v slot empty_slot other)) ∙ active)
+  | inr other ↦ inr (other, sym (ap (λ (s : Slot). s.phase) (get_or-set_other m.slots w v slot no_slot other)) ∙ active)
 ]
 
 Becomes : ℕ → State → Call → Reply → Type 0
@@ -53,7 +53,7 @@ verifies-active : (v : ℕ) (m : State) (w : ℕ) (first : Option ℕ) → first
 unfolding Becomes
 verifies-active v m w None e active = elim (written-active (all_trimmed m w (slot_at m w).images) w _ v active) [
   | inl set ↦ inr (sym set.0, rw set.0 (all_pass (is_approved m w) (slot_at m w).images e))
-  | inr other ↦ inl (λ h. h, subst (λ (slots : List Slot). (get_or slots v empty_slot).phase ≡ Active) (slots-trimmed m w (slot_at m w).images) other.1)
+  | inr other ↦ inl (λ h. h, subst (λ (slots : List Slot). (get_or slots v no_slot).phase ≡ Active) (slots-trimmed m w (slot_at m w).images) other.1)
 ]
 verifies-active v m w (Some i) e active = elim (written-active m w _ v active) [
   | inl set ↦ absurd (let h = set.1 in cc)
@@ -67,7 +67,7 @@ effect-active v m (RegisterVm w) active = elim (written-active m w _ v active) [
   | inr other ↦ inl (λ h. h, other.1)
 ]
 effect-active v m (Verify w) active = verifies-active v m w _ refl active
-effect-active v m (Clear w) active = elim (written-active m w empty_slot v active) [
+effect-active v m (Clear w) active = elim (written-active m w (empty_slot m.config.version) v active) [
   | inl set ↦ absurd (let h = set.1 in cc)
   | inr other ↦ inl (λ h. other.0 (sym h), other.1)
 ]

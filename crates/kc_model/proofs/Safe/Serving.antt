@@ -1,28 +1,27 @@
 -- Every trace from a lawful state serves active VMs alone, and these may take back what they share.
-use Rattle.std.proofs.Common.{set, ℕ, ◌≡◌, ◌<◌, ◌+◌, ◌-◌, inl, inr, true, false, nat_eq, nat_le, nat_lt, ◌||◌, List, refl, sym, ap, subst, ◌∙◌, Option, None, Some, arith, get_or-set_same}
+use Rattle.std.proofs.Common.{set, ℕ, ◌≡◌, ◌<◌, ◌-◌, true, false, nat_eq, nat_le, nat_lt, List, refl, sym, ap, subst, Option, None, Some, arith, get_or-set_same}
 use Rattle.std.proofs.lemmas.Grind.{common_steps}
-use Rattle.std.proofs.lemmas.Bool.{cases_lt}
-use Rattle.std.proofs.lemmas.List.{get_or_past}
-use Rattle.kc_types.specs.Configuration.{slot_count}
+use Rattle.kc_types.specs.Configuration.{slot_count, vcpus_of, gfns_of}
 use Rattle.kc_types.specs.Actors.{actor}
 use Rattle.kc_types.specs.declared.call.Actor.TheVariants.{Vcpu}
 use Rattle.kc_types.specs.declared.call.Call.{Call}
-use Rattle.kc_types.specs.declared.call.Call.TheVariants.{Take, Give, HostFault, HostRead, HostWrite, RegisterVm, RegisterVcpu, SetBoot, Remap, Verify, Map, GuestRead, GuestWrite, Grant, Revoke, GrantRange, RevokeRange, Drop, Clear}
+use Rattle.kc_types.specs.declared.call.Call.TheVariants.{GuestRead, GuestWrite, Grant, Revoke, GrantRange, RevokeRange, Drop}
 use Rattle.kc_types.specs.declared.reply.Reply.TheVariants as reply
 use Rattle.kc_types.specs.declared.refusal.Refusal.{Refusal}
-use Rattle.kc_model.specs.State.{State, Frame, frame_at, slot_at, vcpu_at, mapped_at, absent_vcpu, untouched}
-use Rattle.kc_model.specs.Refusals.{refusal, first_of_these, guest_frame, backing, share_at, is_active, is_empty}
+use Rattle.kc_model.specs.State.{State, Frame, frame_at, slot_at, vcpu_at, mapped_at, untouched}
+use Rattle.kc_model.specs.Refusals.{refusal, backing, share_at, is_active, is_empty}
 use Rattle.kc_model.specs.Effects.{effect, revoked}
 use Rattle.kc_model.specs.Next.{next, unless_refused}
 use Rattle.kc_model.specs.Lawful.{IsLawful}
 use Rattle.kc_model.specs.Safety.{IsActive}
-use Rattle.kc_model.specs.Serving.{IsServed, ServesActive, MayAsk, ServesOwner, TakesBack, IsServing}
+use Rattle.kc_model.specs.Serving.{ServesActive, MayAsk, ServesOwner, TakesBack, IsServing}
 use Rattle.kc_types.specs.declared.owner.Owner.TheVariants.{Core}
 use Rattle.kc_model.proofs.Refusals.Served.{when-none}
-use Rattle.kc_model.proofs.Lawful.GuestCalls.{IsGuestCall, guest_access-served, guest_frame-served, exists-mapped}
+use Rattle.kc_model.proofs.Lawful.GuestCalls.{guest_access-served, guest_frame-served, exists-mapped}
 use Rattle.kc_model.proofs.Lawful.RangeCalls.{guest_range-served}
 use Rattle.kc_model.proofs.Safe.Safe.{every_step}
 use Rattle.kc_model.proofs.Safe.Available.{slot-exists}
+use Rattle.kc_model.proofs.States.Slots.{registered-within}
 
 asks : (m : State) (call : Call) (v c : ℕ) → refusal m call ≡ None → actor call ≡ Vcpu v c → IsActive m v × ((vcpu_at m v c).registered ≡ true)
 asks m (GuestRead w d g off len) v c served same = let seen = (guest_access-served m w d g off len served).0 in let a = seen.active in let b = seen.registered in (cc, cc)
@@ -72,8 +71,8 @@ below n k lt = grind (arith, common_steps, lt)
 -- what such a call needs
 record IsAsked (m : State) (v c g : ℕ) : Type 0 where
   vm : nat_le (slot_count m.config) v ≡ false
-  vcpu : nat_le 8 c ≡ false
-  gfn : nat_le 262144 g ≡ false
+  vcpu : nat_le (vcpus_of m.config.version) c ≡ false
+  gfn : nat_le (gfns_of m.config.version) g ≡ false
   there : is_empty (slot_at m v).phase ≡ false
   active : is_active (slot_at m v).phase ≡ true
 
@@ -82,16 +81,13 @@ asked m v c g f is may =
     let here = may.active in
     let v_in = slot-exists m v is (λ empty. cc) in
     let slot = is.each_slot v v_in in
-    let c_in : c < 8 = elim (cases_lt c 8) [
-      | inl lt ↦ lt
-      | inr past ↦ let absent = get_or_past (slot_at m v).vcpus c absent_vcpu (rw slot.vcpus past) in let yes = may.registered in cc
-    ] in
+    let c_in : c < vcpus_of m.config.version = rw (← slot.vcpus) (registered-within (slot_at m v).vcpus c may.registered) in
     let owner = (is.mapped v g f v_in).0 may.mapped in
     let lt = exists-mapped m v g f is v_in may.mapped in
     record {
       vm = below v (slot_count m.config) v_in;
-      vcpu = below c 8 c_in;
-      gfn = below g 262144 ((is.each_frame f lt).gfn g owner.1);
+      vcpu = below c (vcpus_of m.config.version) c_in;
+      gfn = below g (gfns_of m.config.version) ((is.each_frame f lt).gfn g owner.1);
       there = ap is_empty here;
       active = ap is_active here;
     }

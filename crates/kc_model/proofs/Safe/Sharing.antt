@@ -1,5 +1,5 @@
 -- Every trace from a lawful state counts grants.
-use Rattle.std.proofs.Common.{ℕ, zero, suc, ◌≡◌, ◌<◌, ◌≤◌, ◌+◌, ◌-◌, inl, inr, Bool, true, false, cond, ◌&&◌, length, List, [], ◌∷◌, nat_eq, nat_le, nat_lt, get_or, set, refl, sym, ap, subst, ◌∙◌, Option, None, Some, arith, length-set, get_or-set_same, get_or-set_other, IsTrue}
+use Rattle.std.proofs.Common.{ℕ, zero, suc, ◌≡◌, ◌<◌, ◌≤◌, ◌+◌, inl, inr, Bool, true, false, cond, ◌&&◌, length, List, [], ◌∷◌, nat_eq, get_or, set, refl, sym, ap, subst, ◌∙◌, Option, None, Some, arith, length-set, get_or-set_same, get_or-set_other}
 use Rattle.std.proofs.lemmas.Grind.{common_steps}
 use Rattle.std.proofs.lemmas.Bool.{cases_eq, cases_lt, eq-eqb, ne_eqb, le-leb, lt-ltb, eqb-false}
 use Rattle.std.specs.List.{range_with_len}
@@ -10,14 +10,13 @@ use Rattle.kc_types.specs.declared.call.Call.{Call}
 use Rattle.kc_types.specs.declared.call.Call.TheVariants.{Take, Give, HostFault, HostRead, HostWrite, RegisterVm, RegisterVcpu, SetBoot, Remap, Verify, Map, GuestRead, GuestWrite, Grant, Revoke, GrantRange, RevokeRange, Drop, Clear}
 use Rattle.kc_types.specs.declared.reply.Reply.TheVariants as reply
 use Rattle.kc_types.specs.declared.refusal.Refusal.{Refusal}
-use Rattle.kc_types.specs.declared.owner.Owner.TheVariants.{Core, Host, Free, Vm}
+use Rattle.kc_types.specs.declared.owner.Owner.TheVariants.{Core, Host, Vm}
 use Rattle.kc_model.specs.State.{State, Frame, Slot, Image, frame_at, slot_at, mapped_at, untouched}
 use Rattle.kc_model.specs.Refusals.{refusal, backing, conditions}
 use Rattle.kc_model.specs.Effects.{effect, host_takes, guest_read, guest_written, trimmed, all_trimmed, verified, first_failing, is_approved, frames_under, changed_each, with_each, granted, revoked}
 use Rattle.kc_model.specs.Next.{next, unless_refused}
 use Rattle.kc_model.specs.Lawful.{IsLawful, is_vm}
-use Rattle.kc_model.specs.Availability.{takes_page}
-use Rattle.kc_model.specs.Sharing.{is_within, share_after, CountsGrants, ComesUnshared, IsShared}
+use Rattle.kc_model.specs.Sharing.{is_within, CountsGrants, ComesUnshared, IsShared}
 use Rattle.kc_model.proofs.States.Frames.{part-set}
 use Rattle.kc_model.proofs.States.Each.{part-changed}
 use Rattle.kc_model.proofs.States.Changes.{exists, vm-same}

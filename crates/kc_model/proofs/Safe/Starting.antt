@@ -11,7 +11,7 @@ use Rattle.kc_types.specs.declared.reply.Reply.{Reply}
 use Rattle.kc_types.specs.declared.reply.Reply.TheVariants as reply
 use Rattle.kc_types.specs.declared.refusal.Refusal.{Refusal}
 use Rattle.kc_types.specs.declared.slot.Phase.TheVariants.{Active}
-use Rattle.kc_model.specs.State.{State, Slot, Image, frame_at, slot_at, empty_slot}
+use Rattle.kc_model.specs.State.{State, Slot, Image, frame_at, slot_at, no_slot}
 use Rattle.kc_model.specs.Refusals.{refusal, backing, is_short, pages_of}
 use Rattle.kc_model.specs.Effects.{trimmed, all_trimmed, verified, with_phase, first_failing, is_approved, same_bytes, image_bytes, bytes_at, gfns_of}
 use Rattle.kc_model.specs.Next.{next, unless_refused}
@@ -40,7 +40,7 @@ starts-verified m v is served approved =
     let images = (slot_at m v).images in
     let n = all_trimmed m v images in
     let slots : n.slots ≡ m.slots = slots-trimmed m v images in
-    let was : slot_at n v ≡ slot_at m v = ap (λ (l : List Slot). get_or l v empty_slot) slots in
+    let was : slot_at n v ≡ slot_at m v = ap (λ (l : List Slot). get_or l v no_slot) slots in
     let new = with_phase n v Active in
     let low : v < length n.slots = rw (slots, is.slots) seen.0 in
     let now = slot-here n v (record (slot_at n v) { phase = Active }) low in

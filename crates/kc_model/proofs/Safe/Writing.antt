@@ -1,5 +1,5 @@
 -- Every trace from a lawful state changes bytes as it should.
-use Rattle.std.proofs.Common.{ℕ, ◌≡◌, ◌<◌, inl, inr, true, false, cond, length, List, [], ◌∷◌, nat_eq, refl, sym, ap, subst, ◌∙◌, Option, None, Some}
+use Rattle.std.proofs.Common.{ℕ, ◌≡◌, ◌<◌, inl, inr, false, cond, length, List, [], ◌∷◌, nat_eq, refl, sym, ap, subst, ◌∙◌, Option, None, Some}
 use Rattle.std.proofs.lemmas.Bool.{cases_eq, eq-eqb, ne_eqb}
 use Rattle.std.specs.List.{range_with_len}
 use Rattle.kc_types.specs.Configuration.{slot_count}
@@ -7,13 +7,13 @@ use Rattle.kc_types.specs.declared.call.Call.{Call}
 use Rattle.kc_types.specs.declared.call.Call.TheVariants.{Take, Give, HostFault, HostRead, HostWrite, RegisterVm, RegisterVcpu, SetBoot, Remap, Verify, Map, GuestRead, GuestWrite, Grant, Revoke, GrantRange, RevokeRange, Drop, Clear}
 use Rattle.kc_types.specs.declared.reply.Reply.TheVariants as reply
 use Rattle.kc_types.specs.declared.refusal.Refusal.{Refusal}
-use Rattle.kc_types.specs.declared.owner.Owner.TheVariants.{Core, Host, Free, Vm}
+use Rattle.kc_types.specs.declared.owner.Owner.TheVariants.{Core, Free}
 use Rattle.kc_model.specs.State.{State, Frame, frame_at, slot_at, mapped_at, with_frame, untouched, zero_page, overwritten}
 use Rattle.kc_model.specs.Refusals.{refusal, backing, conditions}
-use Rattle.kc_model.specs.Effects.{effect, host_takes, guest_read, guest_written, written, frames_under, granted, revoked, cleared}
+use Rattle.kc_model.specs.Effects.{effect, host_takes, guest_read, guest_written, written, frames_under, granted, revoked}
 use Rattle.kc_model.specs.Next.{next, unless_refused}
 use Rattle.kc_model.specs.Lawful.{IsLawful}
-use Rattle.kc_model.specs.Writing.{bytes_after, measures, WritesOnly, IsWritten}
+use Rattle.kc_model.specs.Writing.{bytes_after, WritesOnly, IsWritten}
 use Rattle.kc_model.proofs.States.Frames.{part-set}
 use Rattle.kc_model.proofs.States.Each.{part-changed}
 use Rattle.kc_model.proofs.States.Lists.{changed-same, changed-other}

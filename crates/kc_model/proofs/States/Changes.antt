@@ -6,7 +6,7 @@ use Rattle.std.specs.FinMap as map
 use Rattle.kc_types.specs.declared.owner.Owner.{Owner}
 use Rattle.kc_types.specs.declared.owner.Owner.TheVariants.{Core, Host, Free, Vm}
 use Rattle.kc_types.specs.declared.slot.Phase.TheVariants.{Active}
-use Rattle.kc_model.specs.State.{State, Frame, Slot, frame_at, slot_at, with_frame, with_slot, untouched, empty_slot}
+use Rattle.kc_model.specs.State.{State, Frame, Slot, frame_at, slot_at, with_frame, with_slot, untouched, no_slot}
 use Rattle.kc_model.specs.Lawful.{IsLawful, IsLawfulFrame, IsLawfulSlot, ListsOnce, same_owner, is_vm}
 use Rattle.kc_model.proofs.States.Frames.{each-set, part-set}
 use Rattle.kc_model.proofs.States.Lists.{lists-other, changed-same, changed-other}
@@ -14,10 +14,10 @@ use Rattle.kc_types.specs.Configuration.{slot_count}
 
 -- a slot after the change, and another one
 pub slot-here : (m : State) (v : ℕ) (slot : Slot) → v < length m.slots → slot_at (with_slot m v slot) v ≡ slot
-slot-here m v slot lt = get_or-set_same m.slots v slot empty_slot lt
+slot-here m v slot lt = get_or-set_same m.slots v slot no_slot lt
 
 pub slot-elsewhere : (m : State) (v : ℕ) (slot : Slot) (w : ℕ) → (w ≡ v → ⊥) → slot_at (with_slot m v slot) w ≡ slot_at m w
-slot-elsewhere m v slot w ne = get_or-set_other m.slots v w slot empty_slot ne
+slot-elsewhere m v slot w ne = get_or-set_other m.slots v w slot no_slot ne
 
 -- owners that differ
 pub not_vm-of : (owner : Owner) (v : ℕ) → is_vm owner ≡ false → same_owner owner (Vm v) ≡ false
@@ -96,8 +96,8 @@ lawful-moved m f frame free is lt before after here once = record {
 pub lawful-with_slot : (m : State) (v : ℕ) (slot : Slot) → IsLawful m → v < slot_count m.config → slot.frames ≡ (slot_at m v).frames → slot.mapped ≡ (slot_at m v).mapped → IsLawfulSlot m.config slot
     → ((slot_at m v).phase ≡ Active → slot.phase ≡ Active) → IsLawful (with_slot m v slot)
 lawful-with_slot m v slot is v_in frames mapped here active =
-    let lists = part-set (λ (x : Slot). x.frames) m.slots v slot empty_slot frames in
-    let tables = part-set (λ (x : Slot). x.mapped) m.slots v slot empty_slot mapped in
+    let lists = part-set (λ (x : Slot). x.frames) m.slots v slot no_slot frames in
+    let tables = part-set (λ (x : Slot). x.mapped) m.slots v slot no_slot mapped in
     record {
       config = is.config;
       frames = is.frames;

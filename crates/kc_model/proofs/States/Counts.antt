@@ -8,7 +8,7 @@ use Rattle.std.specs.List.{range_with_len, count_by, sum_by}
 use Rattle.kc_types.specs.Configuration.{slot_count}
 use Rattle.kc_types.specs.declared.owner.Owner.{Owner}
 use Rattle.kc_types.specs.declared.owner.Owner.TheVariants.{Core, Host, Free, Vm}
-use Rattle.kc_model.specs.State.{State, Slot, frame_at, slot_at, untouched, empty_slot}
+use Rattle.kc_model.specs.State.{State, Slot, frame_at, slot_at, untouched, no_slot}
 use Rattle.kc_model.specs.Effects.{without}
 use Rattle.kc_model.specs.Lawful.{IsLawful, ListsOnce, same_owner, times_in}
 use Rattle.kc_model.specs.Passing.{frames_of}
@@ -98,7 +98,7 @@ total-one a (suc n) w low high = elim (cases_eq w a) [
 ]
 
 -- the total length of the slots' lists is the sum of a function of the slots' numbers
-lists-total : (slots : List Slot) (a : ℕ) (F : ℕ → ℕ) → ((i : ℕ) → i < length slots → length (get_or slots i empty_slot).frames ≡ F (a + i)) → sum_by (λ (slot : Slot). length slot.frames) slots ≡ total F a (length slots)
+lists-total : (slots : List Slot) (a : ℕ) (F : ℕ → ℕ) → ((i : ℕ) → i < length slots → length (get_or slots i no_slot).frames ≡ F (a + i)) → sum_by (λ (slot : Slot). length slot.frames) slots ≡ total F a (length slots)
 lists-total [] a F each = refl
 lists-total (slot ∷ slots) a F each =
     let here : length slot.frames ≡ F a = each 0 (omega arith) ∙ ap F (omega arith) in

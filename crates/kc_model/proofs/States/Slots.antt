@@ -1,18 +1,19 @@
 -- What holds of a slot alone, change by change.
 use Rattle.std.proofs.Common.{ℕ, zero, suc, ◌≡◌, ◌<◌, ◌≤◌, ◌+◌, inl, inr, Bool, true, false, ◌&&◌, ◌||◌, nat_eq, nat_le, nat_lt, None, List, [], ◌∷◌, ◌++◌, length, get_or, set, replicate, refl, sym, ap, ◌∙◌, arith, length-set, length-append, get_or-set_same, get_or-set_other, All}
-use Rattle.std.proofs.lemmas.Bool.{cases_eq, cases_Bool, or_parts}
+use Rattle.std.proofs.lemmas.Bool.{cases_eq, cases_lt, cases_Bool, or_parts}
 use Rattle.std.proofs.lemmas.Grind.{common_steps}
 use Rattle.std.proofs.lemmas.List.Elements.{All-append, All-nil}
 use Rattle.std.proofs.lemmas.List.Folds.{list_any-append, list_any_at}
-use Rattle.std.proofs.lemmas.List.{get_or_past}
+use Rattle.std.proofs.lemmas.List.{get_or_past, length-replicate}
 use Rattle.std.proofs.Math.Bool.{or_assoc, or-false}
 use Rattle.std.specs.List.{list_any}
 use Rattle.std.specs.Ordering.{nat_cmp}
 use Rattle.std.specs.FinMap as map
-use Rattle.kc_types.specs.Configuration.{Configuration, slot_count}
+use Rattle.kc_types.specs.Configuration.{Configuration, slot_count, vcpus_of, most_images}
+use Rattle.kc_types.specs.declared.version.Version.{Version}
 use Rattle.kc_types.specs.declared.slot.Phase.{Phase}
 use Rattle.kc_types.specs.declared.slot.Phase.TheVariants.{Empty, Booting}
-use Rattle.kc_model.specs.State.{State, Slot, Vcpu, Image, absent_vcpu, no_vcpus, empty_slot, slot_at, with_vcpu}
+use Rattle.kc_model.specs.State.{State, Slot, Vcpu, Image, absent_vcpu, no_vcpus, no_slot, empty_slot, slot_at, with_vcpu}
 use Rattle.kc_model.specs.Refusals.{pages_of, overlaps}
 use Rattle.kc_model.specs.Lawful.{IsLawfulSlot, IsLawfulVcpu, IsLawfulImage, Apart, holds}
 
@@ -22,33 +23,33 @@ get_or-same zero x i = refl
 get_or-same (suc n) x zero = refl
 get_or-same (suc n) x (suc i) = get_or-same n x i
 
-pub length-no_vcpus : length no_vcpus ≡ 8
+pub length-no_vcpus : (version : Version) → length (no_vcpus version) ≡ vcpus_of version
 unfolding no_vcpus
-length-no_vcpus = refl
+length-no_vcpus version = length-replicate (vcpus_of version) absent_vcpu
 
-pub at-no_vcpus : (c : ℕ) → get_or no_vcpus c absent_vcpu ≡ absent_vcpu
+pub at-no_vcpus : (version : Version) (c : ℕ) → get_or (no_vcpus version) c absent_vcpu ≡ absent_vcpu
 unfolding no_vcpus
-at-no_vcpus c = get_or-same 8 absent_vcpu c
+at-no_vcpus version c = get_or-same (vcpus_of version) absent_vcpu c
 
 -- a virtual processor that waits for nothing
-pub waits-not : (phase : Phase) (vcpu : Vcpu) → vcpu.fault ≡ None → IsLawfulVcpu phase vcpu
-waits-not phase vcpu none = record {
+pub waits-not : (version : Version) (phase : Phase) (vcpu : Vcpu) → vcpu.fault ≡ None → IsLawfulVcpu version phase vcpu
+waits-not version phase vcpu none = record {
   registered = λ g h. cc;
   active = λ g h. cc;
   gfn = λ g h. cc;
 }
 
 -- a slot with nothing in it, in a phase
-pub fresh_slot : Phase → Slot
-fresh_slot phase = record empty_slot { phase = phase }
+pub fresh_slot : Version → Phase → Slot
+fresh_slot version phase = record (empty_slot version) { phase = phase }
 
-lawful-fresh : (config : Configuration) (phase : Phase) → (phase ≡ Empty → fresh_slot phase ≡ empty_slot) → IsLawfulSlot config (fresh_slot phase)
+lawful-fresh : (config : Configuration) (phase : Phase) → (phase ≡ Empty → fresh_slot config.version phase ≡ empty_slot config.version) → IsLawfulSlot config (fresh_slot config.version phase)
 unfolding fresh_slot
 lawful-fresh config phase empty = record {
-  vcpus = length-no_vcpus;
-  each_vcpu = λ c. rw at-no_vcpus (waits-not phase absent_vcpu refl);
+  vcpus = length-no_vcpus config.version;
+  each_vcpu = λ c. rw (at-no_vcpus config.version) (waits-not config.version phase absent_vcpu refl);
   few_images = omega arith;
-  each_image = All-nil IsLawfulImage;
+  each_image = All-nil (IsLawfulImage config.version);
   apart = tt;
   few_leaves = omega arith;
   leaves_once = λ root. omega arith;
@@ -58,7 +59,7 @@ lawful-fresh config phase empty = record {
   empty = empty;
 }
 
-pub lawful-empty_slot : (config : Configuration) → IsLawfulSlot config empty_slot
+pub lawful-empty_slot : (config : Configuration) → IsLawfulSlot config (empty_slot config.version)
 unfolding fresh_slot
 lawful-empty_slot config = lawful-fresh config Empty (λ h. refl)
 
@@ -74,11 +75,18 @@ each-place P xs i x d lt all here k = elim (cases_eq k i) [
   | inr other ↦ rw (get_or-set_other xs i k x d other) (all k)
 ]
 
--- a virtual processor is written
-pub lawful-with_vcpu : (config : Configuration) (slot : Slot) (c : ℕ) (vcpu : Vcpu) → IsLawfulSlot config slot → (slot.phase ≡ Empty → ⊥) → c < 8 → IsLawfulVcpu slot.phase vcpu → IsLawfulSlot config (with_vcpu slot c vcpu)
+-- only one that the slot has can be registered
+pub registered-within : (vcpus : List Vcpu) (c : ℕ) → (get_or vcpus c absent_vcpu).registered ≡ true → c < length vcpus
+registered-within vcpus c is = elim (cases_lt c (length vcpus)) [
+  | inl low ↦ low
+  | inr past ↦ let none : false ≡ true = sym (ap (λ (vcpu : Vcpu). vcpu.registered) (get_or_past vcpus c absent_vcpu past)) ∙ is in cc
+]
+
+-- a virtual processor that is written
+pub lawful-with_vcpu : (config : Configuration) (slot : Slot) (c : ℕ) (vcpu : Vcpu) → IsLawfulSlot config slot → (slot.phase ≡ Empty → ⊥) → c < vcpus_of config.version → IsLawfulVcpu config.version slot.phase vcpu → IsLawfulSlot config (with_vcpu slot c vcpu)
 lawful-with_vcpu config slot c vcpu is used lt here = record {
   vcpus = length-set slot.vcpus c vcpu ∙ is.vcpus;
-  each_vcpu = each-place (IsLawfulVcpu slot.phase) slot.vcpus c vcpu absent_vcpu (rw is.vcpus lt) is.each_vcpu here;
+  each_vcpu = each-place (IsLawfulVcpu config.version slot.phase) slot.vcpus c vcpu absent_vcpu (rw is.vcpus lt) is.each_vcpu here;
   few_images = is.few_images;
   each_image = is.each_image;
   apart = is.apart;
@@ -127,12 +135,12 @@ holds-none : (g : ℕ) (image : Image) → image.pages ≡ 0 → holds g image �
 holds-none g image none = grind (arith, common_steps)
 
 -- one more image, with no pages yet
-pub lawful-with_image : (config : Configuration) (slot : Slot) (image : Image) → IsLawfulSlot config slot → slot.phase ≡ Booting → length slot.images < 4 → IsLawfulImage image → image.pages ≡ 0 → list_any (overlaps image.base image.len) slot.images ≡ false → IsLawfulSlot config (record slot { images = slot.images ++ image ∷ [] })
+pub lawful-with_image : (config : Configuration) (slot : Slot) (image : Image) → IsLawfulSlot config slot → slot.phase ≡ Booting → length slot.images < most_images config.version → IsLawfulImage config.version image → image.pages ≡ 0 → list_any (overlaps image.base image.len) slot.images ≡ false → IsLawfulSlot config (record slot { images = slot.images ++ image ∷ [] })
 lawful-with_image config slot image is was few here none apart = record {
   vcpus = is.vcpus;
   each_vcpu = is.each_vcpu;
   few_images = simp length-append (omega arith);
-  each_image = All-append IsLawfulImage slot.images (image ∷ []) is.each_image (only image here);
+  each_image = All-append (IsLawfulImage config.version) slot.images (image ∷ []) is.each_image (only image here);
   apart = apart-push slot.images image is.apart apart;
   few_leaves = is.few_leaves;
   leaves_once = is.leaves_once;
@@ -142,7 +150,7 @@ lawful-with_image config slot image is was few here none apart = record {
   empty = λ h. absurd cc;
 }
   where
-    only : (x : Image) → IsLawfulImage x → All IsLawfulImage (x ∷ [])
+    only : (x : Image) → IsLawfulImage config.version x → All (IsLawfulImage config.version) (x ∷ [])
     only x h zero d lt = h
     only x h (suc k) d lt = absurd (omega arith)
 
@@ -174,14 +182,14 @@ pub holds-more : (g base pages : ℕ) → (nat_le base g && nat_lt g (base + (pa
 holds-more g base pages = grind (arith, common_steps)
 
 -- no image holds a guest frame in the extent of an image that no other overlaps
-outside-others : (base len g : ℕ) (images : List Image) → list_any (overlaps base len) images ≡ false → All IsLawfulImage images → base ≤ g → g < base + pages_of len → list_any (holds g) images ≡ false
-outside-others base len g [] none all low high = refl
-outside-others base len g (image ∷ images) none all low high =
+outside-others : (version : Version) (base len g : ℕ) (images : List Image) → list_any (overlaps base len) images ≡ false → All (IsLawfulImage version) images → base ≤ g → g < base + pages_of len → list_any (holds g) images ≡ false
+outside-others version base len g [] none all low high = refl
+outside-others version base len g (image ∷ images) none all low high =
     let parts = or_parts (overlaps base len image) (list_any (overlaps base len) images) none in
     let is = all zero image (omega arith) in
     let pages = is.pages in
     let first : holds g image ≡ false = grind (arith, common_steps, parts.0, pages) in
-    rw first (outside-others base len g images parts.1 (λ k d lt. all (suc k) d (omega arith)) low high)
+    rw first (outside-others version base len g images parts.1 (λ k d lt. all (suc k) d (omega arith)) low high)
 
 -- what fails for each element of a list fails for this one
 pub none-at : {X : Type 0} (p : X → Bool) (xs : List X) (j : ℕ) (d : X) → j < length xs → list_any p xs ≡ false → p (get_or xs j d) ≡ false
@@ -191,19 +199,19 @@ none-at p xs j d lt none = elim (cases_Bool (p (get_or xs j d))) [
 ]
 
 -- no image holds the next page of an image
-pub next-held : (images : List Image) (i : ℕ) (d : Image) (g : ℕ) → Apart images → All IsLawfulImage images → i < length images → g ≡ (get_or images i d).base + (get_or images i d).pages → (get_or images i d).pages < pages_of (get_or images i d).len → list_any (holds g) images ≡ false
-next-held [] i d g apart all lt is short = refl
-next-held (image ∷ images) zero d g apart all lt is short =
+pub next-held : (version : Version) (images : List Image) (i : ℕ) (d : Image) (g : ℕ) → Apart images → All (IsLawfulImage version) images → i < length images → g ≡ (get_or images i d).base + (get_or images i d).pages → (get_or images i d).pages < pages_of (get_or images i d).len → list_any (holds g) images ≡ false
+next-held version [] i d g apart all lt is short = refl
+next-held version (image ∷ images) zero d g apart all lt is short =
     let first : holds g image ≡ false = grind (arith, common_steps, is) in
-    rw first (outside-others image.base image.len g images apart.0 (λ k e l. all (suc k) e (omega arith)) (omega arith) (omega arith))
-next-held (image ∷ images) (suc i) d g apart all lt is short =
+    rw first (outside-others version image.base image.len g images apart.0 (λ k e l. all (suc k) e (omega arith)) (omega arith) (omega arith))
+next-held version (image ∷ images) (suc i) d g apart all lt is short =
     let within : i < length images = omega arith in
     let turned : overlaps image.base image.len (get_or images i d) ≡ false = none-at (overlaps image.base image.len) images i d within apart.0 in
     let here = all zero image (omega arith) in
     let pages = here.pages in
     let first : holds g image ≡ false = grind (arith, common_steps, is, pages, turned, short) in
-    rw first (next-held images i d g apart.1 (λ k e l. all (suc k) e (omega arith)) within is short)
+    rw first (next-held version images i d g apart.1 (λ k e l. all (suc k) e (omega arith)) within is short)
 
 -- there is no slot past the last
-pub slot-past : (m : State) (v : ℕ) → length m.slots ≡ slot_count m.config → slot_count m.config ≤ v → slot_at m v ≡ empty_slot
-slot-past m v slots past = get_or_past m.slots v empty_slot (rw slots past)
+pub slot-past : (m : State) (v : ℕ) → length m.slots ≡ slot_count m.config → slot_count m.config ≤ v → slot_at m v ≡ no_slot
+slot-past m v slots past = get_or_past m.slots v no_slot (rw slots past)

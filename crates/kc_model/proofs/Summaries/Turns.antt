@@ -7,7 +7,7 @@ use Rattle.kc_types.specs.declared.slot.Phase.TheVariants.{Empty, Booting, Activ
 use Rattle.kc_types.specs.declared.call.Call.{Call}
 use Rattle.kc_types.specs.declared.call.Call.TheVariants.{RegisterVm, Verify, Clear}
 use Rattle.kc_types.specs.declared.reply.Reply.{Reply}
-use Rattle.kc_model.specs.State.{State, Slot, slot_at, with_slot, empty_slot}
+use Rattle.kc_model.specs.State.{State, Slot, slot_at, with_slot, no_slot, empty_slot}
 use Rattle.kc_model.specs.Slot.{in_phase}
 use Rattle.kc_model.specs.Refusals.{refusal, conditions}
 use Rattle.kc_model.specs.Effects.{effect, verified, all_trimmed, first_failing, is_approved}
@@ -38,7 +38,7 @@ turns-verify v m w None low booting =
     let same = slots-trimmed m w (slot_at m w).images in
     elim (cases_eq v w) [
       | inl here ↦ activates (ap (λ k. (slot_at m k).phase) here ∙ booting) (ap (λ (s : Slot). s.phase) (phase-here trimmed w (in_phase (slot_at trimmed w) Active) v (rw same low) here))
-      | inr other ↦ stays (phase-elsewhere trimmed w (in_phase (slot_at trimmed w) Active) v other ∙ ap (λ (slots : List Slot). (get_or slots v empty_slot).phase) same)
+      | inr other ↦ stays (phase-elsewhere trimmed w (in_phase (slot_at trimmed w) Active) v other ∙ ap (λ (slots : List Slot). (get_or slots v no_slot).phase) same)
     ]
 turns-verify v m w (Some i) low booting = elim (cases_eq v w) [
   | inl here ↦ rejects (ap (λ k. (slot_at m k).phase) here ∙ booting) (ap (λ (s : Slot). s.phase) (phase-here m w (in_phase (slot_at m w) Dead) v low here))
@@ -63,8 +63,8 @@ turns-clear : (v : ℕ) (m : State) (w : ℕ) → IsLawful m → refusal m (Clea
 turns-clear v m w is served =
     let low : w < length m.slots = rw is.slots (vm-in m w (none-of (conditions m (Clear w)) served 0)) in
     elim (cases_eq v w) [
-      | inl here ↦ clears (sym here) (ap (λ (s : Slot). s.phase) (phase-here m w empty_slot v low here))
-      | inr other ↦ stays (phase-elsewhere m w empty_slot v other)
+      | inl here ↦ clears (sym here) (ap (λ (s : Slot). s.phase) (phase-here m w (empty_slot m.config.version) v low here))
+      | inr other ↦ stays (phase-elsewhere m w (empty_slot m.config.version) v other)
     ]
 
 turns-effect : (v : ℕ) (m : State) (call : Call) → IsLawful m → refusal m call ≡ None → Turns v m call (effect m call).0 (effect m call).1

@@ -7,12 +7,14 @@ use Rattle.std.specs.FinMap as map
 use Rattle.std.specs.Ordering.{nat_cmp}
 use Rattle.sha2.specs.Sha256.{sha256}
 use Rattle.kc_types.specs.Configuration.{slot_count}
+use Rattle.kc_types.specs.declared.version.Version.{Version}
+use Rattle.kc_types.proofs.Ranges.{same-version}
 use Rattle.kc_types.specs.declared.call.Call.{Call}
 use Rattle.kc_types.specs.declared.call.Call.TheVariants.{RegisterVm, RegisterVcpu, SetBoot, Verify, GuestRead, GuestWrite, Grant, Revoke, GrantRange, RevokeRange, Drop, Clear}
 use Rattle.kc_types.specs.declared.reply.Reply.TheVariants as reply
 use Rattle.kc_types.specs.declared.slot.Phase.TheVariants.{Booting, Active, Dead}
 use Rattle.kc_types.specs.declared.owner.Owner.TheVariants as owner
-use Rattle.kc_model.specs.State.{State, Frame, Slot, SlotOf, Image, frame_at, slot_at, mapped_at, with_frame, with_slot, empty_slot, overwritten, untouched}
+use Rattle.kc_model.specs.State.{State, Frame, Slot, SlotOf, Image, frame_at, slot_at, mapped_at, with_frame, with_slot, no_slot, empty_slot, overwritten, untouched}
 use Rattle.kc_model.specs.Slot.{in_phase, awaiting, with_image, with_vcpu}
 use Rattle.kc_model.specs.Refusals.{refusal, backing, is_short, pages_of}
 use Rattle.kc_model.specs.Effects.{Outcome, effect, guest_read, guest_written, granted, revoked, with_each, trimmed, all_trimmed, verified, first_failing, is_approved, image_bytes, bytes_at, same_bytes, dropped, freed, cleared}
@@ -170,7 +172,7 @@ module _ (s : ℕ → Bool) (v : ℕ) (m n : State) (same : HasTheSame s v m n) 
       }
 
   clear-page : (x : State) (g : ℕ) → v < length x.slots → page_at s (cleared x v) v g ≡ None
-  clear-page x g within = ap (λ (y : Slot). page_under s (cleared x v).frames g (map.get y.mapped g)) (get_or-set_same x.slots v empty_slot empty_slot within) ∙ ap (page_under s (cleared x v).frames g) (map.get-empty nat_cmp g)
+  clear-page x g within = ap (λ (y : Slot). page_under s (cleared x v).frames g (map.get y.mapped g)) (get_or-set_same x.slots v (empty_slot x.config.version) no_slot within) ∙ ap (page_under s (cleared x v).frames g) (map.get-empty nat_cmp g)
 
   pub own-clear : IsAlike s v (Clear v) (effect m (Clear v)) (effect n (Clear v))
   own-clear = record {
@@ -178,7 +180,7 @@ module _ (s : ℕ → Bool) (v : ℕ) (m n : State) (same : HasTheSame s v m n) 
       slots = same.slots;
       leaves = same.leaves;
       approved = same.approved;
-      slot = ap own_slot (get_or-set_same m.slots v empty_slot empty_slot lt) ∙ sym (ap own_slot (get_or-set_same n.slots v empty_slot empty_slot in_n));
+      slot = ap own_slot (get_or-set_same m.slots v (empty_slot m.config.version) no_slot lt) ∙ ap (λ (version : Version). own_slot (empty_slot version)) (same-version m.config n.config same.slots) ∙ sym (ap own_slot (get_or-set_same n.slots v (empty_slot n.config.version) no_slot in_n));
       pages = λ g. clear-page m g lt ∙ sym (clear-page n g in_n);
     };
     answer = refl;

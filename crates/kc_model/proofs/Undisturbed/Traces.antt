@@ -4,11 +4,14 @@ use Rattle.std.proofs.lemmas.Option.{same_Some}
 use Rattle.std.specs.List.{AllByRecursion}
 use Rattle.std.specs.FinMap as map
 use Rattle.std.specs.Ordering.{nat_cmp}
-use Rattle.kc_types.specs.Configuration.{Configuration, IsConfiguration}
+use Rattle.kc_types.specs.Configuration.{Configuration, IsConfiguration, slot_count}
+use Rattle.kc_types.specs.declared.version.Version.{Version}
+use Rattle.kc_types.proofs.Ranges.{same-version}
+use Rattle.std.proofs.lemmas.Bool.{cases_lt}
 use Rattle.kc_types.specs.declared.call.Call.{Call}
 use Rattle.kc_types.specs.declared.owner.Owner.{Owner}
 use Rattle.kc_types.specs.declared.owner.Owner.TheVariants.{Core, Host, Vm}
-use Rattle.kc_model.specs.State.{State, Frame, Slot, frame_at, mapped_at, untouched}
+use Rattle.kc_model.specs.State.{State, Frame, Slot, frame_at, slot_at, mapped_at, untouched, empty_slot}
 use Rattle.kc_model.specs.Boot.{boot}
 use Rattle.kc_model.specs.Refusals.{is_active}
 use Rattle.kc_model.specs.Next.{next, state_after}
@@ -16,7 +19,7 @@ use Rattle.kc_model.specs.Lawful.{IsLawful, same_owner}
 use Rattle.kc_model.specs.Blind.{Secret, IsPrivate, is_secret, is_running, has_gfn}
 use Rattle.kc_model.specs.Undisturbed.{Page, watched, page_of, page_under, page_at, own_slot, HasTheSame, Input, own_call, image_page, fresh_page, host_bytes, input, inputs, with_input, answers, with_answer, is_by_host, IsMeasuredWhole, IsTreatedAlike, TreatsAlike, KeepsUnwritten, WatchesFewer, IsUndisturbed, IsUndisturbedFromBoot}
 use Rattle.kc_model.proofs.Refusals.Served.{host_access-served}
-use Rattle.kc_model.proofs.Lawful.AtBoot.{slot_at-boot, lawful-boot}
+use Rattle.kc_model.proofs.Lawful.AtBoot.{slot_at-boot, slot_past-boot, slot-boot, lawful-boot}
 use Rattle.kc_model.proofs.Lawful.Keeps.{lawful-next}
 use Rattle.kc_model.proofs.Blind.Private.{private-next}
 use Rattle.kc_model.proofs.Undisturbed.Pages.{same-then, same-back, page-bytes}
@@ -190,7 +193,7 @@ pub undisturbed : (m : State) (calls : List Call) → IsLawful m → IsUndisturb
 undisturbed m calls is = record { alike = treats_alike m calls is; unwritten = unwritten m calls is; fewer = fewer m }
 
 no-page : (s : ℕ → Bool) (v : ℕ) (c : Configuration) (g : ℕ) → page_at s (boot c) v g ≡ None
-no-page s v c g = ap (λ (y : Slot). page_under s (boot c).frames g (map.get y.mapped g)) (slot_at-boot c v) ∙ ap (page_under s (boot c).frames g) (map.get-empty nat_cmp g)
+no-page s v c g = slot-boot (λ (y : Slot). page_under s (boot c).frames g (map.get y.mapped g)) c v refl ∙ ap (page_under s (boot c).frames g) (map.get-empty nat_cmp g)
 
 pub undisturbed_from_boot : (c : Configuration) (calls : List Call) → IsConfiguration c → IsUndisturbedFromBoot c calls
 undisturbed_from_boot c calls is s v d others d_is slots leaves approved e whole =
@@ -198,6 +201,12 @@ undisturbed_from_boot c calls is s v d others d_is slots leaves approved e whole
       slots = slots;
       leaves = leaves;
       approved = approved;
-      slot = ap own_slot (slot_at-boot c v ∙ sym (slot_at-boot d v));
+      slot = same-slot;
       pages = λ g. no-page s v c g ∙ sym (no-page s v d g);
     }) e whole
+  where
+    same-slot : own_slot (slot_at (boot c) v) ≡ own_slot (slot_at (boot d) v)
+    same-slot = elim (cases_lt v (slot_count c)) [
+      | inl low ↦ ap own_slot (slot_at-boot c v low) ∙ ap (λ (version : Version). own_slot (empty_slot version)) (same-version c d slots) ∙ sym (ap own_slot (slot_at-boot d v (omega (arith, low, slots))))
+      | inr past ↦ ap own_slot (slot_past-boot c v past) ∙ sym (ap own_slot (slot_past-boot d v (omega (arith, past, slots))))
+    ]

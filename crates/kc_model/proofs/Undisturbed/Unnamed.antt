@@ -12,7 +12,7 @@ use Rattle.kc_types.specs.declared.refusal.Refusal.{Refusal}
 use Rattle.kc_types.specs.declared.owner.Owner.{Owner}
 use Rattle.kc_types.specs.declared.owner.Owner.TheVariants.{Core, Vm}
 use Rattle.kc_types.specs.Slots.{slot_of}
-use Rattle.kc_model.specs.State.{State, Frame, Slot, frame_at, slot_at, mapped_at, untouched, empty_slot, overwritten}
+use Rattle.kc_model.specs.State.{State, Frame, Slot, frame_at, slot_at, mapped_at, untouched, no_slot, overwritten}
 use Rattle.kc_model.specs.Refusals.{refusal, backing}
 use Rattle.kc_model.specs.Effects.{effect}
 use Rattle.kc_model.specs.Next.{next, unless_refused}
@@ -31,7 +31,7 @@ in-range m v g f is e = elim (cases_lt v (slot_count m.config)) [
   | inl lt ↦ lt
   | inr past ↦
       let beyond : length m.slots ≤ v = rw is.slots past in
-      let none : mapped_at m v g ≡ None = ap (λ (x : Slot). map.get x.mapped g) (get_or_past m.slots v empty_slot beyond) ∙ map.get-empty nat_cmp g in
+      let none : mapped_at m v g ≡ None = ap (λ (x : Slot). map.get x.mapped g) (get_or_past m.slots v no_slot beyond) ∙ map.get-empty nat_cmp g in
       absurd cc
 ]
 

@@ -6,7 +6,7 @@ use Rattle.kc_types.specs.Configuration.{Configuration}
 use Rattle.kc_types.specs.declared.custody.Custody.{Custody}
 use Rattle.kc_types.specs.declared.owner.Owner.{Owner}
 use Rattle.kc_types.specs.declared.owner.Owner.TheVariants.{Core, Host, Free, Vm}
-use Rattle.kc_model.specs.State.{State, Frame, Slot, frame_at, slot_at, with_slot, untouched, empty_slot}
+use Rattle.kc_model.specs.State.{State, Frame, Slot, frame_at, slot_at, with_slot, untouched, no_slot}
 use Rattle.kc_model.specs.Refusals.{is_active}
 use Rattle.kc_model.specs.Effects.{changed_each}
 use Rattle.kc_model.specs.Custody.{custody_of}
@@ -112,7 +112,7 @@ frames-less view m n xs ys less alike f =
     alike-less (seen view m f x) (seen view n f x) x (get_or ys f (untouched Core)) (less f x.owner x.gfn) (alike f)
 
 -- slots stay active, and perhaps one becomes active
-more-active : (slots : List Slot) (w : ℕ) (slot : Slot) → (is_active (get_or slots w empty_slot).phase ≡ true → is_active slot.phase ≡ true) → (v : ℕ) → is_active (get_or slots v empty_slot).phase ≡ true → is_active (get_or (set slots w slot) v empty_slot).phase ≡ true
+more-active : (slots : List Slot) (w : ℕ) (slot : Slot) → (is_active (get_or slots w no_slot).phase ≡ true → is_active slot.phase ≡ true) → (v : ℕ) → is_active (get_or slots v no_slot).phase ≡ true → is_active (get_or (set slots w slot) v no_slot).phase ≡ true
 more-active [] w slot stays v h = h
 more-active (s ∷ slots) zero slot stays zero h = stays h
 more-active (s ∷ slots) zero slot stays (suc v) h = h
@@ -136,7 +136,7 @@ frames-slot view m w slot xs ys stays alike = frames-less view m (with_slot m w 
 -- states
 
 pub sees-by : (view : View) (m n : State) → n.slots ≡ m.slots → (f : ℕ) (owner : Owner) (gfn : Option ℕ) → sees view n f owner gfn ≡ sees view m f owner gfn
-sees-by view m n slots f (Vm v) gfn = ap (λ (slots : List Slot). not (view.hides v gfn && is_active (get_or slots v empty_slot).phase)) slots
+sees-by view m n slots f (Vm v) gfn = ap (λ (slots : List Slot). not (view.hides v gfn && is_active (get_or slots v no_slot).phase)) slots
 sees-by view m n slots f Core gfn = refl
 sees-by view m n slots f Host gfn = refl
 sees-by view m n slots f Free gfn = refl
@@ -186,7 +186,7 @@ pub differ-slot : (view : View) (m n : State) (w : ℕ) (change : Slot → Slot)
 differ-slot view m n w change stays differ = record {
   config = differ.config;
   free = differ.free;
-  slots = ap (λ (slots : List Slot). set slots w (change (get_or slots w empty_slot))) differ.slots;
+  slots = ap (λ (slots : List Slot). set slots w (change (get_or slots w no_slot))) differ.slots;
   number = differ.number;
   frames = frames-slot view m w (change (slot_at m w)) m.frames n.frames stays differ.frames;
 }

@@ -12,7 +12,7 @@ use Rattle.kc_types.specs.declared.refusal.Refusal.{Refusal}
 use Rattle.kc_types.specs.declared.custody.Event.TheVariants as event
 use Rattle.kc_types.specs.declared.custody.Change.TheVariants as change
 use Rattle.kc_types.specs.declared.custody.MeasuredImage.{MeasuredImage}
-use Rattle.kc_model.specs.State.{State, Frame, Slot, frame_at, slot_at, with_slot, empty_slot}
+use Rattle.kc_model.specs.State.{State, Frame, Slot, frame_at, slot_at, with_slot, no_slot, empty_slot}
 use Rattle.kc_model.specs.Refusals.{refusal}
 use Rattle.kc_model.specs.Effects.{effect}
 use Rattle.kc_model.specs.Next.{next, unless_refused}
@@ -59,10 +59,10 @@ slots-told view line m n m' n' before after images =
     let config = before.config in
     let first = before.slots in
     let second = after.slots in
-    let turned : (v : ℕ) → has_turned n n' v ≡ has_turned m m' v = λ v. ap₂ (λ (a b : List Slot). not (same_phase (get_or a v empty_slot).phase (get_or b v empty_slot).phase)) first second in
+    let turned : (v : ℕ) → has_turned n n' v ≡ has_turned m m' v = λ v. ap₂ (λ (a b : List Slot). not (same_phase (get_or a v no_slot).phase (get_or b v no_slot).phase)) first second in
     picked-same (has_turned n n') (has_turned m m') (phase_change line n n') (phase_change line m m') (range_with_len 0 (slot_count n.config)) turned
     (λ v h.
-    ap (λ (slots : List Slot). record { line = line; vm = v; phase = (get_or slots v empty_slot).phase; images = images_for (get_or slots v empty_slot).phase (measured_images n v) }) second
+    ap (λ (slots : List Slot). record { line = line; vm = v; phase = (get_or slots v no_slot).phase; images = images_for (get_or slots v no_slot).phase (measured_images n v) }) second
     ∙ ap (λ told. record { line = line; vm = v; phase = (slot_at m' v).phase; images = told }) (images v (sym (turned v) ∙ h)))
     ∙ ap (λ (c : Configuration). map (phase_change line m m') (filter (has_turned m m') (range_with_len 0 (slot_count c)))) config
 
@@ -84,11 +84,11 @@ quiet-images m n m' v quiet turned = elim quiet [
 -- a slot is written in a phase without images
 written-quiet : (m : State) (w : ℕ) (slot : Slot) (v : ℕ) → ((images : List MeasuredImage) → images_for slot.phase images ≡ []) → IsQuiet m (with_slot m w slot) v
 written-quiet m w slot v none = elim (cases_eq v w) [
-  | inl same ↦ elim (set-here m.slots w slot empty_slot) [
+  | inl same ↦ elim (set-here m.slots w slot no_slot) [
     | inl is ↦ inr (λ images. ap (λ k. images_for (slot_at (with_slot m w slot) k).phase images) same ∙ ap (λ (s : Slot). images_for s.phase images) is ∙ none images)
     | inr is ↦ inr (λ images. ap (λ k. images_for (slot_at (with_slot m w slot) k).phase images) same ∙ ap (λ (s : Slot). images_for s.phase images) is)
   ]
-  | inr other ↦ inl (ap (λ (s : Slot). s.phase) (get_or-set_other m.slots w v slot empty_slot other))
+  | inr other ↦ inl (ap (λ (s : Slot). s.phase) (get_or-set_other m.slots w v slot no_slot other))
 ]
 
 -- the images of the slot that is measured
@@ -111,7 +111,7 @@ images-effect view m ys (Verify w) is other_is differ served v turned = elim (ca
   | inl same ↦ ap (images_for (slot_at (effect m (Verify w)).1 v).phase) (subst (λ k. measured_images (beside m ys) k ≡ measured_images m k) (sym same) (verify-images view m ys w is other_is differ served))
   | inr other ↦ by-quiet m ys (Verify w) v (inl (phase-effect m (Verify w) v (λ e. other (same-slot w v e)))) turned
 ]
-images-effect view m ys (Clear w) is other_is differ served v turned = by-quiet m ys (Clear w) v (written-quiet m w empty_slot v (λ images. refl)) turned
+images-effect view m ys (Clear w) is other_is differ served v turned = by-quiet m ys (Clear w) v (written-quiet m w (empty_slot m.config.version) v (λ images. refl)) turned
 images-effect view m ys call is other_is differ served v turned = by-quiet m ys call v (inl (phase-effect m call v (λ e. cc))) turned
 
 images-unless : (refused : Option Refusal) (view : View) (m : State) (ys : List Frame) (call : Call) → IsLawful m → IsLawful (beside m ys) → Alike view m (beside m ys) → refusal m call ≡ refused → SameImages m (beside m ys) (unless_refused refused m call).1

@@ -1,6 +1,6 @@
 -- One call on two states that differ only in bytes that do not count; the bytes that it writes may differ too if these
 -- do not count.
-use Rattle.std.proofs.Common.{ℕ, zero, suc, ◌≡◌, ◌<◌, ◌≤◌, ◌+◌, ◌-◌, ◌%◌, ◌⊎◌, inl, inr, Bool, true, false, cond, not, ◌&&◌, List, [], ◌∷◌, ◌++◌, length, take, replicate, get_or, set, nat_eq, nat_le, nat_lt, refl, sym, ap, ap₂, subst, ◌∙◌, arith, Option, None, Some, length-drop}
+use Rattle.std.proofs.Common.{ℕ, zero, suc, ◌≡◌, ◌<◌, ◌≤◌, ◌+◌, ◌-◌, ◌%◌, ◌⊎◌, inl, inr, Bool, true, false, not, ◌&&◌, List, [], ◌∷◌, ◌++◌, length, take, replicate, get_or, set, nat_eq, nat_le, nat_lt, refl, sym, ap, ap₂, subst, ◌∙◌, arith, Option, None, Some, length-drop}
 use Rattle.std.proofs.lemmas.List.{length-take}
 use Rattle.std.proofs.lemmas.List.Folds.{list_any_at}
 use Rattle.std.proofs.lemmas.Grind.{common_steps}

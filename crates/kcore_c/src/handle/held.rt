@@ -36,6 +36,7 @@ impl Held {
         }
     }
 
+    /// Makes a handle of the parts of a box.
     pub fn of_parts(parts: Parts<Session, Global>) -> Held
         ensures { result.session ≡ Some parts.value }
     {
@@ -46,6 +47,7 @@ impl Held {
         }
     }
 
+    /// Takes a handle apart, into the parts of its box.
     pub fn into_parts(self) -> Parts<Session, Global>
         requires { IsSome self.session }
         ensures { self.session ≡ Some result.value }

@@ -1,5 +1,6 @@
-use Rattle.std.proofs.Common.{false, Some, is_some, refl, ap}
-use Rattle.kc_types.specs.declared.owner.Owner.TheVariants.{Vm}
+use Rattle.std.proofs.Common.{false, is_some, refl, ap}
+use Rattle.kc_model.proofs.States.Leaves.{root-in}
+use Rattle.kc_vms.specs.Vm.{Capacity}
 use Rattle.kc_parts.specs.States.{state_of}
 use Rattle.kc_parts.proofs.SlotChanges.{vm-set}
 use Rattle.kc_parts.proofs.Looked.{slot-is}
@@ -8,7 +9,7 @@ use Rattle.kc_core.proofs.hand.hand.Goals as goal
 use Rattle.kc_core.proofs.hand.hand.Goals.{After-page_mut-page}
 
 handing : (c : After-page_mut-page) → IsHanding c.args.config.now c.args.parts.now c.args.vm c.args.gfn c.args.frame c.slot_mut-slot.result.now c.map.new.self c.page_mut-page.result.now
-    (record c.page_mut-page.result.now { meta = record c.page_mut-page.result.now.meta { owner = Vm c.args.vm; gfn = Some c.args.gfn; present = false } })
+    (record c.page_mut-page.result.now { meta = record c.page_mut-page.result.now.meta { owner = c.of-owner.result; gfn = c.of-place.result; present = false } })
 handing c = record {
   linked = c.requires.linked;
   low = c.requires.exists;
@@ -17,8 +18,13 @@ handing c = record {
   host = c.requires.host;
   maps = rw (c.unwrap.ensures, c.table_mut.ensures.value) at c.map.ensures.ok;
   same = refl;
-  to = refl;
+  to = rw (c.of-owner.ensures, c.of-place.ensures) refl;
 }
+
+pub map-requires : goal.map-requires
+map-requires c =
+    let roots = ap (λ (made : Capacity). made.roots) (c.requires.linked.vms _ _ c.slot_mut-slot.ensures.value) in
+    rw (c.table_mut.ensures.value, roots) (root-in c.args.config.now.version c.args.gfn c.requires.within)
 
 pub unwrap-requires : goal.unwrap-requires
 unwrap-requires c =

@@ -44,7 +44,7 @@ pub append_free-requires-clause-loose : goal.append_free-requires-clause-loose
 append_free-requires-clause-loose c = loose-page _ _ _ _ c.page_mut-page.ensures.value refl (loose (goal.at.append_free-requires-clause-loose c).In_ok-frame)
 
 pub append_free-requires-clause-free : goal.append_free-requires-clause-free
-append_free-requires-clause-free c = ap (λ there. (frame_in there).owner) (page-set c.args.parts.now c.in_ok-frame.frame c.page_mut-page.result.now _ c.page_mut-page.ensures.value)
+append_free-requires-clause-free c = ap (λ there. (frame_in there).owner) (page-set c.args.parts.now c.in_ok-frame.frame c.page_mut-page.result.now _ c.page_mut-page.ensures.value) ∙ c.of-page.ensures
 
 pub append_free-requires-clause-here : goal.append_free-requires-clause-here
 append_free-requires-clause-here c = c.requires.here resource.Free refl
@@ -58,7 +58,7 @@ returns c =
     let is = loose k in
     let move = c.append_free.ensures.rest in
     rw (← c.in_ok-frame.ensures.frame) (answer-served c.args.config.now old c.append_free.new.self (Give c.in_ok-frame.frame) reply.Done (served k) refl
-    (state-given _ old c.append_free.new.self _ _ _ (seen k).0 at refl (rw c.scrub.ensures refl) move c.append_free.ensures.frames)
+    (state-given _ old c.append_free.new.self _ _ _ (seen k).0 at refl (rw (c.of-page.ensures, c.scrub.ensures) refl) move c.append_free.ensures.frames)
     (move.linked _ (linked-moved _ _ _ _ _ c.requires.linked at refl is.absent (λ host. is.alone)))
     (places-through _ _ _ (places-page _ _ _ _ at refl (λ away. let no = sym near ∙ away in cc)) (places-move _ _ move)))
 

@@ -58,5 +58,5 @@ returns c =
     (c.pages_of_four-2.ensures.value ∙ ap (λ k. map (λ image. bytes (image.base + k)) images) (sym number)) c.pages_of_four-2.ensures.whole here in
     c.finish.ensures j low _ (c.loop-number.invariant.fed j first low)
     ∙ ap (λ (page : List ℕ). sha256 (joined bytes image.base n ++ take used page)) last.0
-    ∙ ap sha256 (last-fed bytes image.base image.len n used (c.requires.lawful j first here).some ended part (c.loop-number.invariant.whole j first low) last.1)
+    ∙ ap sha256 (last-fed bytes image.base image.len n used (c.requires.measurable j first here).some ended part (c.loop-number.invariant.whole j first low) last.1)
     ∙ sym (get_or-map digest images j first [] here))

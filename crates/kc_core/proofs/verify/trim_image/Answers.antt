@@ -14,7 +14,7 @@ returns-clause-state c =
     let there = c.slot-slot.ensures in
     let leads : c.backing-frame.result ≡ backing (map.get slot.slot.mapped (image.base + (pages_of image.len - 1))) =
     c.backing-frame.ensures ∙ ap (λ (t : Table). backing (map.get t.mapped (image.base + (c.pages_of.result - 1)))) c.table.ensures ∙ ap (λ n. backing (map.get slot.slot.mapped (image.base + (n - 1)))) c.pages_of.ensures in
-    state-trimmed c.args.config.now c.args.parts.now _ slot image _ _ _ c.requires.low c.requires.linked there c.requires.lawful.some leads c.page_mut-page.ensures.value refl (rw c.zero_from.ensures refl)
+    state-trimmed c.args.config.now c.args.parts.now _ slot image _ _ _ c.requires.low c.requires.linked there c.requires.measurable.some leads c.page_mut-page.ensures.value refl (rw c.zero_from.ensures refl)
 
 pub returns-clause-linked : goal.returns-clause-linked
 returns-clause-linked c = linked-kept _ _ _ _ _ c.requires.linked c.page_mut-page.ensures.value refl refl

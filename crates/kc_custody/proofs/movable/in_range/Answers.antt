@@ -1,6 +1,7 @@
-use Rattle.std.proofs.Common.{◌≡◌, ◌+◌, ◌++◌, [], ◌∷◌, ℕ, Option, Some, None, sym, ap, ◌∙◌, arith, append-nil}
+use Rattle.std.proofs.Common.{◌≡◌, ◌<◌, ◌+◌, ◌++◌, [], ◌∷◌, ℕ, Option, Some, None, sym, ap, subst, ◌∙◌, arith, append-nil}
 use Rattle.std.specs.List.{range_with_len, filter_map}
 use Rattle.std.specs.Option.{option_to_list}
+use Rattle.kc_types.specs.Configuration.{Configuration, gfns_of}
 use Rattle.kc_model.specs.State.{mapped_at}
 use Rattle.kc_custody.proofs.Pushed.{ranged-more, mapped-is}
 use Rattle.kc_custody.proofs.movable.in_range.Goals as goal
@@ -25,4 +26,6 @@ pub returns : goal.returns
 returns c =
     let past = c.loop-i-test.false in
     let within = c.loop-i.auto.i-end in
-    mapped-is c.args.core.now c.args.vm c.args.gfn c.args.count c.loop-i.i c.loop-i.frames.items c.if-count-gt-RANGE_LIMIT.false c.if-gfn-ge-GFN_LIMIT.false (omega (arith, past, within)) c.loop-i.invariant
+    let version = c.version.ensures ∙ ap (λ (config : Configuration). config.version) c.config.ensures.value in
+    let low : c.args.gfn < gfns_of c.args.core.now.config.version = subst (λ n. c.args.gfn < n) (c.gfns-gfns.ensures.value ∙ ap gfns_of version) c.if-gfn-gfns.false in
+    mapped-is c.args.core.now c.args.vm c.args.gfn c.args.count c.loop-i.i c.loop-i.frames.items c.if-count-gt-RANGE_LIMIT.false low (omega (arith, past, within)) c.loop-i.invariant

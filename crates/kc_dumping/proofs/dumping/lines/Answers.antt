@@ -22,4 +22,4 @@ loop-number-preserved c =
     let here = long_in form m in
     let low : n < length told.frames = omega (arith, end, same, before, long, here) in
     more (λ f. frame_line (frame_at told f) (link_at told f)) n n c.loop-number.lines.items _ _ c.loop-number.invariant c.in_ok-push.ensures.items
-    (line-made told n c.unwrap-meta.result _ (record_in form m n c.unwrap-meta.result is) (digest-at told c.as_slice-each.result.now n _ (c.as_slice-each.ensures.value ∙ c.requires) low)) refl
+    (rw (c.get.ensures, c.from.ensures, c.get-in-loop-number.ensures, c.get-in-loop-number-2.ensures, c.get-in-loop-number-3.ensures) (line-made told n c.unwrap-meta.result _ (record_in form m n c.unwrap-meta.result is) (digest-at told c.as_slice-each.result.now n _ (c.as_slice-each.ensures.value ∙ c.requires) low))) refl

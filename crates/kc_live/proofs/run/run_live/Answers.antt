@@ -1,8 +1,13 @@
 use Rattle.std.proofs.Common.{◌∙◌}
 use Rattle.kc_live.specs.Plans.{MayRunTogether}
 use Rattle.kc_live.proofs.Logs.{whole_from}
-use Rattle.kc_live.proofs.Runs.{run_calls, run_others, run_begun, no_cause}
+use Rattle.kc_live.proofs.Runs.{run_calls, run_others, run_begun, no_cause, late_cause}
 use Rattle.kc_live.proofs.run.run_live.Goals as goal
+
+pub returns-in-Some-run_cause-clause-stop : goal.returns-in-Some-run_cause-clause-stop
+returns-in-Some-run_cause-clause-stop g c =
+    let sound : MayRunTogether c.args.config c.args.programs.items = rw c.as_slice.ensures.value at c.in_default.ensures.cause in
+    rw c.stopped.ensures (late_cause _ _ _ c.in-Some-run_cause.ensures.late sound)
 
 pub returns-in-Some-run_cause-clause-left : goal.returns-in-Some-run_cause-clause-left
 returns-in-Some-run_cause-clause-left g c =

@@ -4,7 +4,11 @@ use Rattle.kc_dump.specs.Dump.{Dumped}
 use Rattle.kc_state.specs.Told.{Told, told_of}
 use Rattle.kc_state.specs.Making.{AreVmsTold}
 use Rattle.kc_state.proofs.Assembled.{core-assembled, told-assembled}
+use Rattle.kc_state.proofs.Shares.{few_shares}
 use Rattle.kc_state.proofs.making.make_core.Goals as goal
+
+pub make_pages-pages-requires-clause-shares : goal.make_pages-pages-requires-clause-shares
+make_pages-pages-requires-clause-shares c f here = rw c.frames.ensures.value (few_shares _ c.frames.ensures.kept f (rw c.frames.ensures.value at here))
 
 pub whole-requires-clause-frames : goal.whole-requires-clause-frames
 whole-requires-clause-frames c =

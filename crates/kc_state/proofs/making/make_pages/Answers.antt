@@ -8,6 +8,12 @@ use Rattle.kc_state.specs.Making.{page_told}
 use Rattle.kc_state.proofs.Mappings.{first-left, rest-left, more-told}
 use Rattle.kc_state.proofs.making.make_pages.Goals as goal
 
+pub make_page-page-requires : goal.make_page-page-requires
+make_page-page-requires c =
+    let i = c.loop-line.line-index in
+    let line : c.line-item.result ≡ line_at c.args.lines.now i = get_or_read c.args.lines.now i c.line-item.result c.loop-line-test.true c.line-item.is absent_line in
+    rw line (c.requires.shares i c.loop-line-test.true)
+
 pub loop-line-preserved : goal.loop-line-preserved
 loop-line-preserved c =
     let i = c.loop-line.line-index in

@@ -1,5 +1,5 @@
 use Rattle.std.proofs.Common.{◌≡◌, ◌≤◌, ◌++◌, length, All}
-use Rattle.kc_types.specs.Limits.{image_limit}
+use Rattle.kc_types.specs.Limits.{first_image_limit}
 use Rattle.kc_state_text.specs.StateText.{images_words}
 use Rattle.kc_state_text.specs.Refused.{AreImageWords}
 use Rattle.kc_state_text.proofs.line_reader.read_images.Given as goal
@@ -9,7 +9,7 @@ abbrev pub invariant-loop-words : goal.invariant-loop-words
 invariant-loop-words l = record {
   spelled : l.initial.words ≡ images_words l.images.items ++ l.words;
   each : All AreImageWords l.images.items;
-  few : length l.images.items ≤ image_limit;
+  few : length l.images.items ≤ first_image_limit;
 }
 
 abbrev pub decreases-loop-words : goal.decreases-loop-words

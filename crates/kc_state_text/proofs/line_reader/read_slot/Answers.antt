@@ -1,8 +1,8 @@
 use Rattle.std.proofs.Common.{sym, ◌∙◌}
 use Rattle.std.specs.Prelude.{codes}
-use Rattle.kc_state_text.specs.Words.{words_in}
 use Rattle.kc_state_text.proofs.Gathered.{no-images}
 use Rattle.kc_state_text.proofs.line_reader.read_slot.Goals as goal
+use Rattle.kc_trace.specs.HeadReading.{words_in}
 
 pub returns-in_err-images : goal.returns-in_err-images
 returns-in_err-images c =

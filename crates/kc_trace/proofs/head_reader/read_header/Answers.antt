@@ -1,4 +1,4 @@
-use Rattle.std.proofs.Common.{◌≡◌, ◌++◌, ◌∷◌, [], None, Some, refl, ap, sym, ◌∙◌}
+use Rattle.std.proofs.Common.{◌≡◌, ◌++◌, None, Some, refl, ap, sym, ◌∙◌}
 use Rattle.kc_trace.specs.declared.head_reader.NextLine.TheVariants.{More, Whole}
 use Rattle.kc_trace.specs.Header.{ended_lines}
 use Rattle.kc_trace.specs.HeadReading.{next_line}

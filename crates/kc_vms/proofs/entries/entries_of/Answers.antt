@@ -1,5 +1,5 @@
-use Rattle.std.proofs.Common.{sym, ◌∙◌}
-use Rattle.kc_vms.proofs.Rising.{none-below, slot-some, slot-none}
+use Rattle.std.proofs.Common.{sym, ◌∙◌, arith}
+use Rattle.kc_vms.proofs.Rising.{none-below, rest-none, slot-some, slot-none}
 use Rattle.kc_vms.proofs.entries.entries_of.Goals as goal
 use Rattle.kc_vms.proofs.entries.entries_of.Goals.{in-Some+in_ok-push_leaf, in_default}
 
@@ -13,3 +13,13 @@ loop-slot-preserved c =
       | in-Some+in_ok-push_leaf w ↦ rw w.entries-is (slot-some t.root.items t.pool c.loop-slot.slot _ w.in_ok-push_leaf.ensures)
       | in_default w ↦ rw w.entries-is (slot-none t.root.items t.pool c.loop-slot.slot c.loop-slot.entries.items (sym c.leaf_at.ensures ∙ w.in_default.is) c.loop-slot.invariant)
     ]
+
+pub returns : goal.returns
+returns c =
+    let t = c.args.levels.now in
+    let long = t.root.ok.0 in
+    let end = c.len-slot-end.ensures in
+    let past = c.loop-slot-test.false in
+    let within = c.loop-slot.auto.slot-end in
+    let few = c.requires.table.long in
+    rest-none t.root.items t.pool c.loop-slot.slot c.loop-slot.entries.items (omega (arith, long, end, past)) (omega (arith, long, end, within, few)) c.loop-slot.invariant

@@ -9,7 +9,7 @@ use Rattle.kc_core.proofs.kcore.KCore.active_slots.Goals as goal
 pub slots-init : goal.slots-init
 slots-init c = record {
   so_far = λ v low. absurd (omega (arith, low));
-  past = λ v high. get_or-same 64 false v;
+  past = λ v high. get_or-same 1024 false v;
   long = refl;
   lawful = λ some. absurd (omega (arith, some));
 }

@@ -10,6 +10,6 @@ abbrev pub invariant-slots : goal.invariant-slots
 invariant-slots l = record {
   so_far : (v : ℕ) → v < l.vm → slice_index_or l.marks v false ≡ is_active (slot_at l.self v).phase;
   past : (v : ℕ) → l.vm ≤ v → slice_index_or l.marks v false ≡ false;
-  long : length l.marks ≡ 64;
+  long : length l.marks ≡ 1024;
   lawful : 0 < l.vm → IsLawful l.self;
 }

@@ -6,5 +6,6 @@ abbrev pub invariant-loop-entry : goal.invariant-loop-entry
 invariant-loop-entry l = record {
   entries : finite.entries l.self.mapped ≡ take l.entry-index l.entries;
   leaves : l.self.leaves ≡ l.initial.self.leaves;
+  roots : l.self.roots ≡ l.initial.self.roots;
   capacity : l.self.capacity ≡ l.initial.self.capacity;
 }

@@ -5,4 +5,4 @@ pub invariant_of-self : goal.invariant_of-self
 invariant_of-self c =
     let served = next_page-served c.args.self.now.slot c.args.image c.requires in
     let inside = rw (← c.self.view_is) at served in
-    slot-with_page c.self.inside.phase c.self.inside.vcpus.items c.self.inside.images.items c.deref_mut.result.now c.args.image _ c.self.invariant c.deref_mut.ensures.value inside.0 inside.1
+    slot-with_page c.self.inside.version c.self.inside.phase c.self.inside.vcpus.items c.self.inside.images.items c.deref_mut.result.now c.args.image _ c.self.invariant c.deref_mut.ensures.value inside.0 inside.1
