@@ -1,16 +1,16 @@
 -- What options ask for, unless they contradict each other.
 use Rattle.std.specs.Prelude.{ℕ, Bool, true, false, ◌&&◌, List, Option, Some, None, Result, Ok, Err}
 use Rattle.std.specs.Borrow.{Bor}
-use Rattle.kc_faults.specs.declared.origin.Origin.{Origin}
-use Rattle.kc_faults.specs.declared.origin.Origin.TheVariants as origins
+use Rattle.kc_texts.specs.declared.order.Origin.{Origin}
+use Rattle.kc_texts.specs.declared.order.Origin.TheVariants as origins
 use Rattle.kc_remarks.specs.declared.remark.Remarks.{Remarks}
-use Rattle.kc_cli.specs.declared.order.ReplayForm.{ReplayForm}
-use Rattle.kc_cli.specs.declared.order.ReplayForm.TheVariants as replies
-use Rattle.kc_cli.specs.declared.account.CustodyForm.{CustodyForm}
-use Rattle.kc_cli.specs.declared.account.CustodyForm.TheVariants as forms
-use Rattle.kc_cli.specs.declared.account.Named.{Named}
-use Rattle.kc_cli.specs.declared.account.Named.TheVariants as names
-use Rattle.kc_cli.specs.declared.account.Scope.{Scope}
+use Rattle.kc_texts.specs.declared.order.ReplayForm.{ReplayForm}
+use Rattle.kc_texts.specs.declared.order.ReplayForm.TheVariants as replies
+use Rattle.kc_texts.specs.declared.order.CustodyForm.{CustodyForm}
+use Rattle.kc_texts.specs.declared.order.CustodyForm.TheVariants as forms
+use Rattle.kc_texts.specs.declared.order.Named.{Named}
+use Rattle.kc_texts.specs.declared.order.Named.TheVariants as names
+use Rattle.kc_texts.specs.declared.order.Scope.{Scope}
 use Rattle.kc_args.specs.declared.job.Start.{Start}
 use Rattle.kc_args.specs.declared.job.Start.TheVariants as starts
 use Rattle.kc_args.specs.declared.job.Action.{Action}

@@ -12,7 +12,7 @@ use crate::judging::action_of;
 use crate::options::{files_after, input_in, is_set, options_in};
 use clap::error::ErrorKind;
 use clap::{ArgMatches, Error};
-use kc_cli::ReplayForm;
+use kc_texts::ReplayForm;
 use std::alloc::{AllocError, Global};
 
 /// Why there is no job.

@@ -2,8 +2,7 @@
 ghost use Rattle.std.specs.Prelude.{◌≡◌};
 ghost use Rattle.kc_args.specs.Jobs.{path_of, origin_at};
 
-use kc_cli::{CustodyForm, ReplayForm, Scope};
-use kc_faults::Origin;
+use kc_texts::{CustodyForm, Origin, ReplayForm, Scope};
 
 /// Where calls begin.
 #[derive(Clone, Copy, Debug, PartialEq, Eq)]

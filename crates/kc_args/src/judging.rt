@@ -5,8 +5,8 @@ ghost use Rattle.kc_args.specs.Jobs.{start_of, replay_form, is_alone, volumes_ac
 use crate::clash::Clash;
 use crate::job::{Action, Start};
 use crate::options::Options;
-use kc_cli::{CustodyForm, Named, ReplayForm, Scope};
 use kc_remarks::Remarks;
+use kc_texts::{CustodyForm, Named, ReplayForm, Scope};
 
 /// Where calls begin, by `--config` and `--from`; nothing for both.
 fn start_of<'a>(config: Option<&'a str>, from: Option<&'a str>) -> Option<Start<'a>>

@@ -14,7 +14,7 @@ use Rattle.kc_types.specs.Limits.{call_limit}
 use Rattle.kc_texts.specs.Ends.{Seen}
 use Rattle.kc_faults.specs.Origins.{SpellsMachine}
 use Rattle.kc_faults.specs.Outcomes.{TellsTexts}
-use Rattle.kc_faults.specs.declared.origin.Origin.TheVariants as origins
+use Rattle.kc_texts.specs.declared.order.Origin.TheVariants as origins
 use Rattle.kc_faults.specs.declared.fault.TextFault.{TextFault}
 use Rattle.kc_trace.specs.declared.expected.Expected.TheVariants.{First}
 use Rattle.kc_faults.proofs.Told.{boots, texts_trace}

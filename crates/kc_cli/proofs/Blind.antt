@@ -22,10 +22,10 @@ use Rattle.kc_remarks.proofs.Unread.{notes_redacted}
 use Rattle.kc_trace.specs.declared.custody_writer.Heading.{Heading}
 use Rattle.kc_trace.specs.declared.volume_writer.VolumeEntry.{VolumeEntry}
 use Rattle.kc_trace.specs.SummaryText.{summary_text_of}
-use Rattle.kc_faults.specs.declared.origin.Origin.{Origin}
-use Rattle.kc_cli.specs.declared.account.CustodyForm.{CustodyForm}
-use Rattle.kc_cli.specs.declared.account.CustodyForm.TheVariants.{Changes, Summary, Picture, Html}
-use Rattle.kc_cli.specs.declared.account.Scope.{Scope}
+use Rattle.kc_texts.specs.declared.order.Origin.{Origin}
+use Rattle.kc_texts.specs.declared.order.CustodyForm.{CustodyForm}
+use Rattle.kc_texts.specs.declared.order.CustodyForm.TheVariants.{Changes, Summary, Picture, Html}
+use Rattle.kc_texts.specs.declared.order.Scope.{Scope}
 use Rattle.kc_trace.specs.declared.expected.Expected.{Expected}
 use Rattle.kc_cli.specs.Traced.{Traced, redacted_trace}
 use Rattle.kc_cli.specs.Custody.{joined, IsAccount, listed, entries_in, heading_of, IsMadeOf, IsMadeBlind}

@@ -19,14 +19,15 @@ use Rattle.kc_trace.specs.declared.expected.Expected.{Expected}
 use Rattle.kc_trace.specs.Header.{is_host_redacted}
 use Rattle.kc_trace.specs.Expected.{head_number}
 use Rattle.kc_faults.specs.Origins.{position_at}
-use Rattle.kc_faults.specs.declared.origin.Origin.{Origin}
-use Rattle.kc_faults.specs.declared.origin.Origin.TheVariants as origins
-use Rattle.kc_cli.specs.declared.account.Named.{Named}
-use Rattle.kc_cli.specs.declared.account.Named.TheVariants as names
-use Rattle.kc_cli.specs.declared.account.Scope.{Scope}
+use Rattle.kc_texts.specs.declared.order.Origin.{Origin}
+use Rattle.kc_texts.specs.declared.order.Origin.TheVariants as origins
+use Rattle.kc_texts.specs.declared.order.Named.{Named}
+use Rattle.kc_texts.specs.declared.order.Named.TheVariants as names
+use Rattle.kc_texts.specs.declared.order.Scope.{Scope}
 use Rattle.kc_redact.specs.Witness.{witness_header}
 use Rattle.kc_cli.specs.Traced.{Traced, redacted_trace, trace_named}
-use Rattle.kc_cli.specs.Custody.{entries_of, entries_in, names_trace, first_number, trace_digest, chain_of, digests_of, heading_of}
+use Rattle.kc_texts.specs.Orders.{names_trace}
+use Rattle.kc_cli.specs.Custody.{entries_of, entries_in, first_number, trace_digest, chain_of, digests_of, heading_of}
 
 -- redacting twice is redacting once
 bytes_twice : (bytes : List ℕ) → blanked (blanked bytes) ≡ blanked bytes

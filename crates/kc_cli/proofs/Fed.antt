@@ -12,7 +12,7 @@ use Rattle.kc_model.proofs.Lawful.LawfulTraces.{lawful-after}
 use Rattle.kc_model.proofs.Promises.{promises_kept}
 use Rattle.kc_model.proofs.States.Sizes.{config-after}
 use Rattle.kc_model.proofs.Redaction.Blank.{audited_blank}
-use Rattle.kc_dumping.proofs.Drawn.{sound-drawn}
+use Rattle.kc_snapshot.proofs.Drawn.{sound-drawn}
 use Rattle.kc_trace.specs.declared.header.Header.{Header}
 use Rattle.kc_trace.specs.declared.expected.Expected.{Expected}
 use Rattle.kc_trace.specs.Trace.{IsTraceUnder}
@@ -20,8 +20,8 @@ use Rattle.kc_trace.specs.Expected.{MayHave, IsHeaderFault, IsRefusedThere, posi
 use Rattle.kc_trace.specs.declared.expected.HeaderFault.{HeaderFault}
 use Rattle.kc_trace.specs.declared.fault.TraceFault.TheVariants.{Misplaced}
 use Rattle.kc_faults.proofs.Placed.{misplaced_there}
-use Rattle.kc_cli.specs.declared.order.ReplayForm.{ReplayForm}
-use Rattle.kc_cli.specs.declared.order.ReplayForm.TheVariants as forms
+use Rattle.kc_texts.specs.declared.order.ReplayForm.{ReplayForm}
+use Rattle.kc_texts.specs.declared.order.ReplayForm.TheVariants as forms
 use Rattle.kc_trace.specs.declared.header.Header.TheVariants.{One, Two, Three}
 use Rattle.kc_cli.specs.Traced.{Traced, IsDigested, position_next, digest_if}
 use Rattle.kc_cli.specs.Engine.{KnowsNext, IsReplayed, IsKept, kept_more, left_as}

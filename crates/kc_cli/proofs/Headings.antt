@@ -2,14 +2,15 @@
 use Rattle.std.proofs.Common.{ℕ, ◌≡◌, true, false, List, Option, Some, None, refl, ap}
 use Rattle.kc_model.specs.State.{State}
 use Rattle.kc_trace.specs.declared.expected.Expected.{Expected}
-use Rattle.kc_faults.specs.declared.origin.Origin.{Origin}
-use Rattle.kc_faults.specs.declared.origin.Origin.TheVariants as origins
+use Rattle.kc_texts.specs.declared.order.Origin.{Origin}
+use Rattle.kc_texts.specs.declared.order.Origin.TheVariants as origins
 use Rattle.kc_trace.specs.declared.custody_writer.Digests.{Digests}
 use Rattle.kc_trace.specs.declared.volume_writer.VolumeEntry.{VolumeEntry}
-use Rattle.kc_cli.specs.declared.account.Named.{Named}
-use Rattle.kc_cli.specs.declared.account.Named.TheVariants as names
-use Rattle.kc_cli.specs.declared.account.Scope.{Scope}
-use Rattle.kc_cli.specs.Custody.{NamesStart, names_start, first_number, trace_digest, chain_of, digests_of, heading_of}
+use Rattle.kc_texts.specs.declared.order.Named.{Named}
+use Rattle.kc_texts.specs.declared.order.Named.TheVariants as names
+use Rattle.kc_texts.specs.declared.order.Scope.{Scope}
+use Rattle.kc_texts.specs.Orders.{names_start}
+use Rattle.kc_cli.specs.Custody.{NamesStart, first_number, trace_digest, chain_of, digests_of, heading_of}
 use Rattle.kc_cli.specs.Headings.{digests_by, heading_by}
 
 digests_are : (named : Named) (origin : Origin) (start : List ℕ) (m : State) (expected : Expected) (of_start : Option (List ℕ)) (first : Option ℕ) (of_trace : Option (List ℕ)) → NamesStart (names_start named) origin (Some start) m expected of_start

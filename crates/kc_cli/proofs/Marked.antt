@@ -10,7 +10,7 @@ use Rattle.kc_remarks.specs.declared.remark.Note.TheVariants as note
 use Rattle.kc_remarks.specs.declared.remark.Remarks.{Remarks}
 use Rattle.kc_remarks.specs.Remarks.{event_in, events_in}
 use Rattle.kc_types.specs.declared.custody.Event.{Event}
-use Rattle.kc_vm_picture.specs.Marks.{mark_of, marks}
+use Rattle.kc_picture.specs.Marks.{mark_of, marks}
 use Rattle.kc_cli.specs.Ledgers.{is_remark}
 
 -- a note that is chosen from one list or from another

@@ -6,17 +6,17 @@ use Rattle.kc_types.specs.declared.call.Call.{Call}
 use Rattle.kc_types.specs.declared.reply.Reply.{Reply}
 use Rattle.kc_model.specs.State.{State}
 use Rattle.kc_dump.specs.Sound.{IsSound}
-use Rattle.kc_dumping.specs.Dumping.{dump_of}
+use Rattle.kc_snapshot.specs.Dumping.{dump_of}
 use Rattle.kc_state_text.specs.StateText.{placed_state_text}
 use Rattle.kc_state_text.specs.Differences.{IsDifference}
 use Rattle.kc_remarks.specs.declared.denials.Answered.{Answered}
 use Rattle.kc_remarks.specs.Denials.{IsAnsweredBy}
-use Rattle.kc_faults.specs.declared.origin.Origin.{Origin}
+use Rattle.kc_texts.specs.declared.order.Origin.{Origin}
 use Rattle.kc_trace.specs.declared.expected.Expected.{Expected}
 use Rattle.kc_faults.specs.Origins.{BeginsIn}
 use Rattle.kc_texts.specs.Written.{Writes, Begins}
-use Rattle.kc_cli.specs.declared.order.ReplayForm.{ReplayForm}
-use Rattle.kc_cli.specs.declared.order.ReplayForm.TheVariants as forms
+use Rattle.kc_texts.specs.declared.order.ReplayForm.{ReplayForm}
+use Rattle.kc_texts.specs.declared.order.ReplayForm.TheVariants as forms
 use Rattle.kc_cli.specs.Answers.{AreAnswered}
 use Rattle.kc_trace.specs.declared.header.Position.{Position}
 use Rattle.kc_cli.specs.Traced.{Traced, position_next}

@@ -36,7 +36,7 @@ use Rattle.kc_custody.specs.Growing.{HasRoom}
 use Rattle.kc_custody.proofs.Few.{few-of-trace}
 use Rattle.kc_remarks.proofs.Lived.{attempts_counted}
 use Rattle.kc_custody.proofs.Own.{names_only}
-use Rattle.kc_cli.specs.declared.account.CustodyForm.{CustodyForm}
+use Rattle.kc_texts.specs.declared.order.CustodyForm.{CustodyForm}
 use Rattle.kc_cli.specs.declared.telling.Kept.{Kept}
 use Rattle.kc_cli.specs.Custody.{IsCustodyTold, IsCustodyOfAll}
 use Rattle.kc_texts.specs.declared.source.Failed.{Failed}

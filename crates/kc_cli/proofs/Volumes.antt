@@ -24,7 +24,7 @@ use Rattle.kc_texts.specs.Ends.{Seen}
 use Rattle.std.specs.Io.KnownBytes.{IsAtEnd}
 use Rattle.kc_model.proofs.States.Sizes.{config-after}
 use Rattle.kc_trace.specs.declared.volume_writer.VolumeEntry.{VolumeEntry}
-use Rattle.kc_faults.specs.declared.origin.Origin.{Origin}
+use Rattle.kc_texts.specs.declared.order.Origin.{Origin}
 use Rattle.kc_faults.specs.Origins.{BeginsIn}
 use Rattle.kc_texts.specs.Written.{Writes, Begins}
 use Rattle.kc_cli.specs.declared.account.Told.{Told}
@@ -35,14 +35,15 @@ use Rattle.kc_cli.specs.Traced.{Traced, IsDigested, digest_if, expected_next, ex
 use Rattle.kc_cli.specs.declared.sequence.Sequence.{Sequence}
 use Rattle.kc_cli.specs.declared.sequence.TheConstants.{CALLS_BEFORE}
 use Rattle.kc_cli.specs.Kinds.{IsNextRefused}
-use Rattle.kc_cli.specs.Custody.{joined, AreVolumes, IsMadeOf, IsCustodyText, NamesStart, entry_of, entries_of, entries_in, names_trace, names_start, heading_of, listed, chain_of, first_number, trace_digest, numbers_in, lacks_digest, order_by}
+use Rattle.kc_texts.specs.Orders.{names_trace, names_start}
+use Rattle.kc_cli.specs.Custody.{joined, AreVolumes, IsMadeOf, IsCustodyText, NamesStart, entry_of, entries_of, entries_in, heading_of, listed, chain_of, first_number, trace_digest, numbers_in, lacks_digest, order_by}
 use Rattle.kc_cli.specs.Headings.{digests_by, heading_by}
-use Rattle.kc_cli.specs.declared.account.Scope.{Scope}
+use Rattle.kc_texts.specs.declared.order.Scope.{Scope}
 use Rattle.kc_trace.specs.declared.custody_writer.Digests.{Digests}
 use Rattle.kc_trace.specs.declared.custody_writer.Heading.{Heading}
 use Rattle.kc_trace.specs.declared.volume_writer.Order.{Order}
 use Rattle.kc_trace.specs.declared.volume_writer.Chain.{Chain}
-use Rattle.kc_cli.specs.declared.account.CustodyForm.{CustodyForm}
+use Rattle.kc_texts.specs.declared.order.CustodyForm.{CustodyForm}
 use Rattle.kc_cli.specs.declared.ledger.Ledger.{Ledger}
 use Rattle.kc_types.specs.declared.custody.Event.{Event}
 use Rattle.kc_custody.specs.Within.{IsWithin}

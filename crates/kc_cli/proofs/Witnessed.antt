@@ -11,7 +11,7 @@ use Rattle.kc_redact.specs.Witness.{witnessed, HasSeen}
 use Rattle.kc_trace.specs.declared.header.Header.{Header}
 use Rattle.kc_trace.specs.declared.expected.Expected.{Expected}
 use Rattle.kc_cli.specs.Traced.{Traced, trace_named, digest_if, HasWitnessed, MayHaveWitnessed, IsDigested}
-use Rattle.kc_faults.specs.declared.origin.Origin.TheVariants as origins
+use Rattle.kc_texts.specs.declared.order.Origin.TheVariants as origins
 use Rattle.kc_cli.specs.Custody.{NamesStart}
 
 -- one call more

@@ -27,7 +27,7 @@ use Rattle.kc_remarks.specs.Attempts.{attempts_in, AllAttemptsAreCounted}
 use Rattle.kc_remarks.specs.declared.remark.Remarks.{Remarks}
 use Rattle.kc_remarks.specs.Denials.{is_denial}
 use Rattle.kc_html.specs.Html.{html_text_of}
-use Rattle.kc_svg.specs.Foot.{HasFoot}
+use Rattle.kc_picture.specs.Foot.{HasFoot}
 use Rattle.kc_state_text.specs.StateText.{placed_state_text}
 use Rattle.kc_custody.specs.Chosen.{chosen, NamesOnly}
 use Rattle.kc_trace.specs.declared.expected.Expected.{Expected}
@@ -45,14 +45,15 @@ use Rattle.kc_trace.specs.declared.volume_writer.Order.TheVariants as order
 use Rattle.kc_trace.specs.declared.volume_writer.Chain.{Chain}
 use Rattle.kc_trace.specs.RemarkText.{notes_text_of}
 use Rattle.kc_trace.specs.SummaryText.{summary_text_of}
-use Rattle.kc_faults.specs.declared.origin.Origin.{Origin}
-use Rattle.kc_faults.specs.declared.origin.Origin.TheVariants as origins
+use Rattle.kc_texts.specs.Orders.{names_trace, names_start}
+use Rattle.kc_texts.specs.declared.order.Origin.{Origin}
+use Rattle.kc_texts.specs.declared.order.Origin.TheVariants as origins
 use Rattle.kc_faults.specs.Origins.{BeginsIn, position_at}
-use Rattle.kc_cli.specs.declared.account.CustodyForm.{CustodyForm}
-use Rattle.kc_cli.specs.declared.account.CustodyForm.TheVariants.{Changes, Summary, Picture, Html}
-use Rattle.kc_cli.specs.declared.account.Named.{Named}
-use Rattle.kc_cli.specs.declared.account.Named.TheVariants as names
-use Rattle.kc_cli.specs.declared.account.Scope.{Scope}
+use Rattle.kc_texts.specs.declared.order.CustodyForm.{CustodyForm}
+use Rattle.kc_texts.specs.declared.order.CustodyForm.TheVariants.{Changes, Summary, Picture, Html}
+use Rattle.kc_texts.specs.declared.order.Named.{Named}
+use Rattle.kc_texts.specs.declared.order.Named.TheVariants as names
+use Rattle.kc_texts.specs.declared.order.Scope.{Scope}
 use Rattle.kc_cli.specs.Traced.{Traced, trace_named, expected_next, redacted_trace}
 
 -- what the machine did unseen between these calls changes nothing of what is reported: whatever reads and writes the trace lacks that it may lack, the changes by its calls are those of all that happened, each on the line that its call has there
@@ -103,15 +104,6 @@ IsAccount (Changes remarks) vm heading m volumes count refused told text = text 
 IsAccount Summary vm heading m volumes count refused told text = text ≡ summary_text_of heading m.config volumes count refused (attempts_in told) (selected_lives vm (lives_from m (events_in told)))
 IsAccount Picture vm heading m volumes count refused told text = HasFoot heading text
 IsAccount Html vm heading m volumes count refused told text = text ≡ html_text_of (notes_text_of heading m.config volumes count refused (chosen vm (page_remarks heading.is_unseen) told))
-
--- whether traces are named by their digests, and what the calls begin with by its own
-abbrev pub names_trace : Named → Bool
-names_trace names.Nothing = false
-names_trace _ = true
-
-abbrev pub names_start : Named → Bool
-names_start names.Both = true
-names_start _ = false
 
 -- what the calls begin with is named by a digest, too: a configuration by that of its text, and a state by that of the text of the state with the pages of active VMs zeroed, with its position
 abbrev pub start_digest : Origin → List ℕ → State → Expected → List ℕ

@@ -6,7 +6,7 @@ use Rattle.kc_model.specs.State.{State}
 use Rattle.kc_model.specs.Promises.{KeepsPromises}
 use Rattle.kc_model.specs.Blanking.{blank_state}
 use Rattle.kc_model.specs.Next.{replies_from, state_after}
-use Rattle.kc_dumping.specs.Dumping.{dump_of}
+use Rattle.kc_snapshot.specs.Dumping.{dump_of}
 use Rattle.kc_dump.specs.Sound.{IsSound}
 use Rattle.kc_dump_text.specs.DumpText.{dump_text}
 use Rattle.kc_trace.specs.Trace.{IsTraceUnder}
@@ -20,12 +20,12 @@ use Rattle.kc_state_text.specs.StateText.{placed_state_text}
 use Rattle.kc_state_text.specs.Differences.{IsDifference}
 use Rattle.kc_state_text.specs.declared.fault.StateFault.{StateFault}
 use Rattle.kc_state_text.specs.declared.fault.StateFault.TheVariants as states
-use Rattle.kc_faults.specs.declared.origin.Origin.{Origin}
+use Rattle.kc_texts.specs.declared.order.Origin.{Origin}
 use Rattle.kc_faults.specs.Origins.{BeginsIn}
 use Rattle.kc_faults.specs.Outcomes.{IsTold}
 use Rattle.kc_cli.specs.Traced.{Traced, position_next}
-use Rattle.kc_cli.specs.declared.order.ReplayForm.{ReplayForm}
-use Rattle.kc_cli.specs.declared.order.ReplayForm.TheVariants as forms
+use Rattle.kc_texts.specs.declared.order.ReplayForm.{ReplayForm}
+use Rattle.kc_texts.specs.declared.order.ReplayForm.TheVariants as forms
 use Rattle.kc_faults.specs.declared.fault.TextFault.{TextFault}
 use Rattle.kc_faults.specs.declared.fault.TextFault.TheVariants as texts
 

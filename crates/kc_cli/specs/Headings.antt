@@ -5,11 +5,11 @@ use Rattle.kc_trace.specs.declared.custody_writer.StartDigest.TheVariants as sta
 use Rattle.kc_trace.specs.declared.custody_writer.Digests.{Digests}
 use Rattle.kc_trace.specs.declared.custody_writer.Heading.{Heading}
 use Rattle.kc_trace.specs.declared.volume_writer.VolumeEntry.{VolumeEntry}
-use Rattle.kc_faults.specs.declared.origin.Origin.{Origin}
-use Rattle.kc_faults.specs.declared.origin.Origin.TheVariants as origins
-use Rattle.kc_cli.specs.declared.account.Named.{Named}
-use Rattle.kc_cli.specs.declared.account.Named.TheVariants as names
-use Rattle.kc_cli.specs.declared.account.Scope.{Scope}
+use Rattle.kc_texts.specs.declared.order.Origin.{Origin}
+use Rattle.kc_texts.specs.declared.order.Origin.TheVariants as origins
+use Rattle.kc_texts.specs.declared.order.Named.{Named}
+use Rattle.kc_texts.specs.declared.order.Named.TheVariants as names
+use Rattle.kc_texts.specs.declared.order.Scope.{Scope}
 use Rattle.kc_cli.specs.Custody.{unnamed_start, first_number, trace_digest, chain_of}
 
 -- what the calls begin with, by its digest, if it has one, and otherwise by the number of the first volume

@@ -11,7 +11,7 @@ use Rattle.kc_trace.specs.declared.fault.TraceFault.TheVariants.{TooManyCalls}
 use Rattle.kc_texts.specs.Ends.{Seen}
 use Rattle.kc_faults.specs.declared.fault.TextFault.{TextFault}
 use Rattle.kc_faults.specs.declared.fault.TextFault.TheVariants as texts
-use Rattle.kc_faults.specs.declared.origin.Origin.{Origin}
+use Rattle.kc_texts.specs.declared.order.Origin.{Origin}
 use Rattle.kc_faults.specs.Origins.{BeginsIn, IsBegun}
 use Rattle.kc_cli.specs.declared.sequence.TheConstants.{CALLS_BEFORE}
 use Rattle.kc_cli.specs.Traced.{Traced, expected_last}

@@ -32,10 +32,10 @@ use Rattle.kc_trace.specs.declared.volume_writer.VolumeEntry.{VolumeEntry}
 use Rattle.kc_trace.specs.CustodyText.{header_line, volumes_text, placed_text, end_line, custody_text_of}
 use Rattle.kc_trace.specs.SummaryText.{summary_text_of}
 use Rattle.kc_trace.specs.RemarkText.{notes_text_of}
-use Rattle.kc_cli.specs.declared.account.CustodyForm.{CustodyForm}
-use Rattle.kc_cli.specs.declared.account.CustodyForm.TheVariants.{Changes, Summary, Picture, Html}
+use Rattle.kc_texts.specs.declared.order.CustodyForm.{CustodyForm}
+use Rattle.kc_texts.specs.declared.order.CustodyForm.TheVariants.{Changes, Summary, Picture, Html}
 use Rattle.kc_html.specs.Html.{html_text_of}
-use Rattle.kc_svg.specs.Foot.{HasFoot}
+use Rattle.kc_picture.specs.Foot.{HasFoot}
 use Rattle.kc_trace.specs.declared.header.Header.{Header}
 use Rattle.kc_trace.specs.Header.{has_head}
 use Rattle.kc_cli.specs.Traced.{Traced, trace_named}

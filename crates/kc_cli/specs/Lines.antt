@@ -15,7 +15,7 @@ use Rattle.kc_trace.specs.declared.volume_writer.VolumeEntry.{VolumeEntry}
 use Rattle.kc_trace.specs.declared.volume_writer.Chain.{Chain}
 use Rattle.kc_trace.specs.AnswerText.{answer_at, longest_answer}
 use Rattle.kc_trace.specs.CustodyText.{heading_text, volumes_text, placed_text, longest_place}
-use Rattle.kc_faults.specs.declared.origin.Origin.{Origin}
+use Rattle.kc_texts.specs.declared.order.Origin.{Origin}
 use Rattle.kc_faults.specs.Origins.{BeginsIn}
 use Rattle.kc_cli.specs.declared.answering.LinesOrder.{LinesOrder}
 use Rattle.kc_cli.specs.declared.answering.ReplayAccount.{ReplayAccount}

@@ -13,7 +13,8 @@ use Rattle.kc_cli.specs.declared.custody.CustodyOrder.{CustodyOrder}
 use Rattle.kc_cli.specs.declared.custody.CustodyAccount.{CustodyAccount}
 use Rattle.kc_cli.specs.declared.sequence.Sequence.{Sequence}
 use Rattle.kc_cli.specs.Traced.{Traced, digest_if, trace_named, expected_last}
-use Rattle.kc_cli.specs.Custody.{joined, entries_of, names_trace, names_start, AreVolumes, NamesStart, IsCustodyText}
+use Rattle.kc_texts.specs.Orders.{names_trace, names_start}
+use Rattle.kc_cli.specs.Custody.{joined, entries_of, AreVolumes, NamesStart, IsCustodyText}
 use Rattle.kc_cli.specs.Kinds.{Kind}
 use Rattle.kc_cli.specs.Ledgers.{HasKept}
 

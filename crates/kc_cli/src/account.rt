@@ -8,88 +8,28 @@ ghost use Rattle.kc_custody.specs.Grown.{AreGrown};
 ghost use Rattle.kc_custody.specs.Chosen.{chosen};
 ghost use Rattle.kc_remarks.specs.Remarks.{events_in};
 ghost use Rattle.kc_remarks.specs.Attempts.{AreInOrder};
-ghost use Rattle.kc_svg.specs.Foot.{HasFoot};
+ghost use Rattle.kc_picture.specs.Foot.{HasFoot};
 ghost use Rattle.kc_picture.specs.Frames.{IsIn};
-ghost use Rattle.kc_vm_picture.specs.Marks.{marks};
+ghost use Rattle.kc_picture.specs.Marks.{marks};
 ghost use Rattle.kc_trace.specs.CustodyText.{AreInLine};
 ghost use Rattle.kc_trace.specs.SummaryText.{summary_text_of};
 ghost use Rattle.kc_faults.specs.Outcomes.{TellsSink};
-ghost use Rattle.kc_cli.specs.Custody.{names_trace, names_start, page_remarks};
+ghost use Rattle.kc_cli.specs.Custody.{page_remarks};
 ghost use Rattle.kc_cli.specs.Ledgers.{reported, attempts_kept, events_kept, is_remark, GivesAccount, BeginsAccount};
 
 use crate::ledger::Ledger;
 use crate::lined::{View, give_lines, give_whole};
 use kc_custody::{Lives, choose, select, select_lives};
 use kc_faults::TextFault;
-use kc_picture::{bars, picture};
+use kc_picture::{Mark, bars, marks_of, picture, picture_of_vm};
 use kc_remarks::{Answered, Attempt, Note, Remarks};
-use kc_texts::Sink;
+use kc_texts::{CustodyForm, Scope, Sink};
 use kc_trace::{Heading, VolumeEntry, summary_text};
 use kc_types::{Config, Event, Memory};
-use kc_vm_picture::{Mark, marks_of, picture_of_vm};
 use std::alloc::Global;
 
 /// The line of a trace's first call: its header is line 1.
 pub(crate) const FIRST_LINE: u32 = 2;
-
-/// What is written of what happened.
-#[derive(Clone, Copy, Debug, PartialEq, Eq)]
-pub enum CustodyForm {
-    /// Every change of a frame or slot, a line each, and what else is asked for of the calls.
-    Changes(Remarks),
-    /// Each life of a VM, a line each: first those that are under way before the first call, as if they had begun on
-    /// the header's line.
-    Summary,
-    /// A picture, SVG 1.1.
-    Picture,
-    /// A page for a browser, which has in it what `Changes` gives, with what was refused and served.
-    Html,
-}
-
-/// What the first line names by SHA-256 digests in which nothing is that guests wrote: a trace by that of its redacted
-/// calls, as a witness publishes it, a configuration by that of its text, and a state by that of the blank state.
-#[derive(Clone, Copy, Debug, PartialEq, Eq)]
-pub enum Named {
-    /// None.
-    Nothing,
-    /// The trace; calls begin with the default configuration, which is named as that.
-    Trace,
-    /// The trace, and the configuration or the state that calls begin with.
-    Both,
-}
-
-impl Named {
-    /// Whether the trace is named by its digest.
-    pub(crate) fn names_trace(self) -> bool
-        ensures { result ≡ names_trace self }
-    {
-        match self {
-            Named::Nothing => false,
-            Named::Trace | Named::Both => true,
-        }
-    }
-
-    /// Whether what calls begin with is named by its digest.
-    pub(crate) fn names_start(self) -> bool
-        ensures { result ≡ names_start self }
-    {
-        match self {
-            Named::Nothing | Named::Trace => false,
-            Named::Both => true,
-        }
-    }
-}
-
-/// What is reported, in any form.
-#[derive(Clone, Copy, Debug, PartialEq, Eq)]
-pub struct Scope {
-    /// The slot whose VM alone is reported, if one is named.
-    pub vm: Option<u32>,
-    /// Whether the machine's own reads and writes are not in the trace, so that none is reported.
-    pub is_unseen: bool,
-    /// Which texts are named.
-    pub named: Named,
-}
 
 /// What is reported on.
 #[derive(Drop)]

@@ -6,16 +6,16 @@ ghost use Rattle.kc_cli.specs.Custody.{listed, trace_digest, first_number, unnam
 ghost use Rattle.kc_cli.specs.Headings.{start_by, digests_by, heading_by};
 ghost use Rattle.kc_cli.specs.Volumes.{custody_kind};
 
-use crate::account::{CustodyForm, FIRST_LINE, Named, Scope, Subject, Told, give_told};
+use crate::account::{FIRST_LINE, Subject, Told, give_told};
 use crate::life::Account;
 use crate::sequence::{Sequence, chain_of};
 use crate::starting::{Begun, begin};
 use crate::telling::Kept;
 use kc_core::KCore;
 use kc_digests::Lanes;
-use kc_faults::{Origin, TextFault};
+use kc_faults::TextFault;
 use kc_remarks::Answered;
-use kc_texts::{Sink, Source};
+use kc_texts::{CustodyForm, Named, Origin, Scope, Sink, Source};
 use kc_trace::{Digests, Heading, StartDigest, VolumeEntry};
 use kc_types::Config;
 use std::alloc::Global;

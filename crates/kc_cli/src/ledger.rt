@@ -8,10 +8,10 @@ ghost use Rattle.kc_remarks.specs.Remarks.{notes_from};
 ghost use Rattle.kc_remarks.specs.Denials.{is_denied, Counts};
 ghost use Rattle.kc_cli.specs.Ledgers.{CanCount, Keeps};
 
-use crate::account::CustodyForm;
 use kc_core::KCore;
 use kc_custody::{Lives, events_before, note_calls, summarize_calls, tell_calls};
 use kc_remarks::{Attempt, Denials, Note, Remarks};
+use kc_texts::CustodyForm;
 use kc_types::{Call, Event, Memory};
 use std::alloc::Global;
 

@@ -35,14 +35,13 @@ mod sequence;
 mod starting;
 mod telling;
 
-pub use account::{CustodyForm, Named, Scope};
 pub use answering::{LinesOrder, ReplayAccount};
 pub use auditing::audit_text;
 pub use custody::{CustodyAccount, CustodyOrder};
 pub use history::replay_history;
 pub use life::Account;
 pub use live::live_text;
-pub use order::{ReplayForm, ReplayOrder};
+pub use order::ReplayOrder;
 pub use reading::{DEFAULT_CONFIG, read_both, read_configuration};
 pub use replaying::{Compared, replay_text, replay_to_text};
 pub use starting::{Start, read_start};

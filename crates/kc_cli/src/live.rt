@@ -15,10 +15,10 @@ ghost use Rattle.kc_cli.specs.Live.{live_fault, IsLiveFault, CouldRun, IsLiveTex
 use crate::history::replay_history;
 use crate::reading::read_both;
 use kc_core::{Gate, OpenGate};
-use kc_faults::{Origin, TextFault};
+use kc_faults::TextFault;
 use kc_live::{Entry, History, LiveCause, LiveStop, Volume, run_trace};
 use kc_replay::{Outcome, ReplayFault};
-use kc_texts::{Sink, Source, empty_piece, give_trace};
+use kc_texts::{Origin, Sink, Source, empty_piece, give_trace};
 use kc_trace::TraceFault;
 use kc_types::{Call, Config, Memory, WORKER_LIMIT};
 use std::alloc::Global;

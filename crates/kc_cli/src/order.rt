@@ -1,19 +1,6 @@
 //! How a trace is replayed.
 use kc_digests::Lanes;
-use kc_faults::Origin;
-
-/// What is written of a replay.
-#[derive(Clone, Copy, Debug, PartialEq, Eq)]
-pub enum ReplayForm {
-    /// The replies, a line each.
-    Replies,
-    /// Each call with its reply and the number of its line: one JSON object (RFC 8259) on each line.
-    Lines,
-    /// The dump of the core that the trace leaves.
-    Dump,
-    /// The text of the state that it leaves.
-    State,
-}
+use kc_texts::{Origin, ReplayForm};
 
 /// How a trace is replayed.
 #[derive(Clone, Copy)]

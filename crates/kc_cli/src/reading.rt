@@ -10,8 +10,8 @@ ghost use Rattle.kc_faults.specs.Origins.{SpellsMachine};
 ghost use Rattle.kc_faults.specs.Outcomes.{IsReadingFault, IsConfigFault, TellsSources, TellsTexts};
 
 use kc_config_text::read_config;
-use kc_faults::{Origin, TextFault};
-use kc_texts::{Source, read_whole, read_whole_trace};
+use kc_faults::TextFault;
+use kc_texts::{Origin, Source, read_whole, read_whole_trace};
 use kc_trace::{Expected, Header, TraceFault, read_header};
 use kc_types::{Call, Config};
 use std::alloc::Global;

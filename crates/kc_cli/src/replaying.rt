@@ -16,7 +16,7 @@ ghost use Rattle.kc_cli.specs.Engine.{is_placed, AreReplayed, IsKept, IsReplayFa
 ghost use Rattle.kc_cli.specs.Answers.{AreAnswered};
 
 use crate::giving::{Replayed, give_replayed};
-use crate::order::{ReplayForm, ReplayOrder};
+use crate::order::ReplayOrder;
 use crate::starting::{Start, read_start};
 use crate::telling::{digest_of, witness_more};
 use kc_core::{KCore, OpenGate};
@@ -25,7 +25,7 @@ use kc_faults::TextFault;
 use kc_remarks::Answered;
 use kc_replay::{ReplayFault, Replayer};
 use kc_state_text::difference_from_state;
-use kc_texts::{CallStream, PIECE, Sink, Source, read_secret};
+use kc_texts::{CallStream, PIECE, ReplayForm, Sink, Source, read_secret};
 use kc_trace::{Header, Position, TraceFault};
 use kc_types::{Call, Memory, Reply, WORKER_LIMIT};
 use std::alloc::Global;

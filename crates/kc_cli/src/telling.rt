@@ -14,13 +14,13 @@ ghost use Rattle.kc_cli.specs.Engine.{IsReplayFault};
 ghost use Rattle.kc_cli.specs.Traced.{Traced, has_witness, HasWitnessed, MayHaveWitnessed, IsDigested, digest_if};
 ghost use Rattle.kc_cli.specs.Ledgers.{HasKept};
 
-use crate::account::{CustodyForm, FIRST_LINE};
+use crate::account::FIRST_LINE;
 use crate::ledger::Ledger;
 use kc_core::KCore;
 use kc_faults::TextFault;
 use kc_redact::Witness;
 use kc_remarks::Denials;
-use kc_texts::{CallStream, PIECE, Source};
+use kc_texts::{CallStream, CustodyForm, PIECE, Source};
 use kc_trace::Header;
 use kc_types::{Call, Memory};
 use std::alloc::Global;

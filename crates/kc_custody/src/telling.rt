@@ -15,8 +15,8 @@ use kc_core::KCore;
 use kc_parts::sort_once;
 use kc_remarks::Denials;
 use kc_types::{
-    Call, Change, Event, FrameChange, IMAGE_LIMIT, MeasuredImages, Memory,
-    PhaseChange, Reply, vm_of,
+    Call, Change, Event, FrameChange, IMAGE_LIMIT, MeasuredImages, Memory, PhaseChange, Reply,
+    vm_of,
 };
 use std::alloc::Global;
 
@@ -135,11 +135,7 @@ fn tell_phase(
 }
 
 /// Makes a call: its reply, and the images that it measured, which are none but for `verify`.
-fn make(
-    alloc: Global,
-    core: &mut KCore,
-    call: &Call,
-) -> Result<(Reply, MeasuredImages), Memory>
+fn make(alloc: Global, core: &mut KCore, call: &Call) -> Result<(Reply, MeasuredImages), Memory>
     ensures reply { IfOk result (λ made. made.0 ≡ (next core.old call.now).0) }
     ensures images { IfOk result (λ made. made.1 ≡ images_by core.old call.now) }
     ensures state { OnOk result (core.new ≡ (next core.old call.now).1) }

@@ -2,7 +2,7 @@
 //!
 //! - what a dump shows: `specs/Dump.antt`; which numbers it holds: `specs/Ranges.antt`
 //! - when it is sound: `specs/Sound.antt`, `specs/Lists.antt`
-//! - how a core is dumped: `kc_dumping/specs/Dumping.antt`, `kc_dumping/src/dumping.rt`
+//! - how a core is dumped: `kc_snapshot/specs/Dumping.antt`, `kc_snapshot/src/dumping.rt`
 #![tactic(auto)]
 
 mod dumped;

@@ -4,7 +4,7 @@
 //!
 //! - what may be shown of a bad line: `src/withheld.rt`; the number of words of each call: `src/trace_line.rt`; lines of dumps and states: `src/dump_line.rt`; the keys of
 //!   a configuration: `src/config_key.rt`
-//! - who asks, and over which files: `kc_program/src/explaining.rt`, `kc_program/src/folder.rt`
+//! - who asks, and over which files: `kc_run/src/explaining.rt`, `kc_run/src/folder.rt`
 //! - how far a long read has come: `src/progress.rt`, `src/shown.rt`
 #![tactic(auto)]
 

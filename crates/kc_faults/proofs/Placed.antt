@@ -11,7 +11,7 @@ use Rattle.kc_trace.specs.declared.fault.TraceFault.{TraceFault}
 use Rattle.kc_trace.specs.declared.fault.TraceFault.TheVariants.{NoHeader, BadLine, NoNewline, TooManyCalls, Misplaced, Memory}
 use Rattle.kc_trace.specs.Trace.{IsTraceUnder, IsRefused}
 use Rattle.kc_trace.specs.Expected.{MayHave, IsHeaderFault, IsTraceThere, IsRefusedThere}
-use Rattle.kc_faults.specs.declared.origin.Origin.{Origin}
+use Rattle.kc_texts.specs.declared.order.Origin.{Origin}
 use Rattle.kc_faults.specs.Origins.{BeginsIn, IsRefusedFrom}
 
 -- a trace whose header may be there

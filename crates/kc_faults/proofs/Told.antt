@@ -15,8 +15,8 @@ use Rattle.kc_model.specs.State.{State}
 use Rattle.kc_model.specs.Boot.{boot}
 use Rattle.kc_state_text.specs.declared.fault.StateFault.{StateFault}
 use Rattle.kc_state_text.specs.Refused.{IsRefusedPlaced}
-use Rattle.kc_faults.specs.declared.origin.Origin.{Origin}
-use Rattle.kc_faults.specs.declared.origin.Origin.TheVariants as origins
+use Rattle.kc_texts.specs.declared.order.Origin.{Origin}
+use Rattle.kc_texts.specs.declared.order.Origin.TheVariants as origins
 use Rattle.kc_trace.specs.Expected.{IsRefusedThere}
 use Rattle.kc_faults.specs.Origins.{SpellsMachine, BeginsIn, IsBegun}
 use Rattle.kc_faults.proofs.Placed.{known_refused_from}

@@ -17,8 +17,8 @@ use Rattle.kc_trace.specs.declared.expected.Expected.TheVariants.{Bare, First, A
 use Rattle.kc_trace.specs.declared.expected.HeaderFault.{HeaderFault}
 use Rattle.kc_trace.specs.declared.fault.TraceFault.{TraceFault}
 use Rattle.kc_trace.specs.declared.fault.TraceFault.TheVariants.{Misplaced}
-use Rattle.kc_faults.specs.declared.origin.Origin.{Origin}
-use Rattle.kc_faults.specs.declared.origin.Origin.TheVariants as origins
+use Rattle.kc_texts.specs.declared.order.Origin.{Origin}
+use Rattle.kc_texts.specs.declared.order.Origin.TheVariants as origins
 
 -- which header the trace may have that goes on from a state with this position: one that says the same position, or none
 abbrev pub expected_at : Option Position → Expected

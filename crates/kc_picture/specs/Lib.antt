@@ -1,3 +1,11 @@
 pub mod Cells
+pub mod Columns
+pub mod Foot
 pub mod Frames
+pub mod LaneTitles
+pub mod Marks
+pub mod OutlineWords
+pub mod Outlines
 pub mod Titles
+pub mod VmRows
+pub mod Words

@@ -2,13 +2,15 @@
 ghost use Rattle.std.specs.Prelude.{◌≡◌, ◌*◌, ◌^◌, ◌<◌, ◌≤◌, sum, slice_index, EachIndex};
 ghost use Rattle.kc_picture.specs.Cells.{IsOf, IsTrueToShare};
 
+use crate::colour::{CORE, Colour, EDGE, FREE, HOST, SEVERAL};
+use crate::coordinate::{Coordinate, Points};
+use crate::put;
 use crate::rows::{first_of_row, row_of};
+use crate::scale::{END, NAMES, PLOT, START, lines_of_column, nice};
 use crate::sums::{FIRST_VM, MOST_COLUMNS, OWNERS, Sums, at, sums_of, weigh};
+use crate::svg::{Area, Paint, REMARK, Svg};
 use crate::titles::{Block, cell_title};
-use kc_svg::{
-    Area, CORE, Colour, Coordinate, Count, EDGE, END, FREE, HOST, NAMES, PLOT, Paint, Points,
-    REMARK, SEVERAL, START, Svg, Text, lines_of_column, nice, put,
-};
+use crate::words::{Count, Text};
 use kc_types::{Bar, Memory};
 use std::alloc::Global;
 

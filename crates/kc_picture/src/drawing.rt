@@ -1,12 +1,13 @@
 //! The picture of all frames.
 ghost use Rattle.std.specs.Prelude.{IfOk};
-ghost use Rattle.kc_svg.specs.Foot.{HasFoot};
+ghost use Rattle.kc_picture.specs.Foot.{HasFoot};
 
 use crate::cells::{draw_cells, explain_cells, grid_of};
 use crate::exact::{Strip, draw_bars, row_height};
+use crate::legend::Shown;
 use crate::rows::bars_by_row;
-use kc_lanes::{FEW_LINES, Sheet, Shown};
-use kc_svg::{HEADING, MARGIN};
+use crate::sheet::{FEW_LINES, Sheet};
+use crate::svg::{HEADING, MARGIN};
 use kc_trace::Heading;
 use kc_types::{Bar, Config, Event, Memory};
 use std::alloc::Global;

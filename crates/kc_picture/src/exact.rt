@@ -1,9 +1,11 @@
 //! Every frame by its number, a bar a stretch.
+use crate::colour::{Colour, FAINT, FREE, INK, LIFE};
+use crate::coordinate::{Coordinate, Points};
+use crate::put;
+use crate::scale::{NAMES, Scale};
+use crate::svg::{Anchor, Area, PLAIN, Paint, REMARK, Svg};
 use crate::titles::bar_title;
-use kc_svg::{
-    Anchor, Area, Colour, Coordinate, FAINT, FREE, INK, LIFE, NAMES, PLAIN, Paint, Points, REMARK,
-    Scale, Svg, Text, put,
-};
+use crate::words::Text;
 use kc_types::{Bar, Custody, Owner};
 
 /// Rows and bars that are higher have larger words.

@@ -1,6 +1,6 @@
 //! How much of each column of a row each owner had.
-use kc_lanes::{ONE_FEWER, ONE_MORE};
-use kc_svg::PLOT;
+use crate::scale::PLOT;
+use crate::vms::{ONE_FEWER, ONE_MORE};
 use kc_types::{Bar, Memory, Owner};
 use std::alloc::Global;
 

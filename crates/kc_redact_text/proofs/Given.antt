@@ -10,7 +10,7 @@ use Rattle.kc_trace.specs.declared.expected.Expected.{Expected}
 use Rattle.kc_trace.specs.Expected.{MayHave}
 use Rattle.kc_trace.specs.Header.{host_redacted}
 use Rattle.kc_trace.specs.Spelling.{text_of}
-use Rattle.kc_faults.specs.declared.origin.Origin.{Origin}
+use Rattle.kc_texts.specs.declared.order.Origin.{Origin}
 use Rattle.kc_faults.specs.Origins.{BeginsIn}
 use Rattle.kc_texts.specs.Written.{Writes, Begins}
 use Rattle.kc_redact.specs.Redacted.{IsRedaction}

@@ -15,7 +15,7 @@ use Rattle.kc_trace.specs.declared.fault.TraceFault.TheVariants.{Misplaced, Memo
 use Rattle.kc_trace.specs.Trace.{IsRefused}
 use Rattle.kc_trace.specs.Expected.{IsHeaderFault, IsRefusedThere}
 use Rattle.kc_texts.specs.Ends.{Seen}
-use Rattle.kc_faults.specs.declared.origin.Origin.{Origin}
+use Rattle.kc_texts.specs.declared.order.Origin.{Origin}
 use Rattle.kc_faults.specs.Origins.{BeginsIn}
 use Rattle.kc_faults.specs.Outcomes.{IsTold, TellsTexts}
 use Rattle.kc_faults.specs.declared.fault.TextFault.{TextFault}

@@ -8,7 +8,7 @@ use Rattle.kc_faults.specs.declared.fault.TextFault.TheVariants as texts
 use Rattle.kc_model.specs.State.{State}
 use Rattle.kc_trace.specs.declared.expected.Expected.{Expected}
 use Rattle.kc_trace.specs.Expected.{IsTraceThere}
-use Rattle.kc_faults.specs.declared.origin.Origin.{Origin}
+use Rattle.kc_texts.specs.declared.order.Origin.{Origin}
 use Rattle.kc_faults.specs.Origins.{BeginsIn}
 use Rattle.kc_redact.specs.Redacted.{IsRedaction, IsHostRedaction}
 

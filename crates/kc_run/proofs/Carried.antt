@@ -10,8 +10,8 @@ use Rattle.kc_config_text.specs.declared.config_text.ConfigTextFault.{ConfigText
 use Rattle.kc_config_text.specs.ConfigText.{config_in}
 use Rattle.kc_dump_text.specs.declared.fault.DumpFault.{DumpFault}
 use Rattle.kc_dump_text.specs.Refused.{IsRefusedDump}
-use Rattle.kc_faults.specs.declared.origin.Origin.{Origin}
-use Rattle.kc_faults.specs.declared.origin.Origin.TheVariants as origins
+use Rattle.kc_texts.specs.declared.order.Origin.{Origin}
+use Rattle.kc_texts.specs.declared.order.Origin.TheVariants as origins
 use Rattle.kc_faults.specs.declared.fault.TextFault.{TextFault}
 use Rattle.kc_faults.specs.declared.fault.TextFault.TheVariants as texts
 use Rattle.kc_cli.specs.Audit.{Audits, BeginsAudit, IsDumpFault}
@@ -23,7 +23,7 @@ use Rattle.kc_cli.proofs.Sources.{sink_ok}
 use Rattle.kc_redact_text.specs.Redacts.{Redacts, BeginsRedaction, IsRedactFault, IsHostRedacted, IsHostRedactFault}
 use Rattle.kc_redact_text.specs.declared.convert.Converted.{Converted}
 use Rattle.kc_redact_text.specs.Converts.{IsFirstVolume, IsNextVolume, IsRefusedBare, IsConversion, IsSystemFault, IsConvertFault}
-use Rattle.kc_cli.specs.declared.order.ReplayForm.{ReplayForm}
+use Rattle.kc_texts.specs.declared.order.ReplayForm.{ReplayForm}
 use Rattle.kc_cli.specs.declared.replaying.Compared.{Compared}
 use Rattle.kc_cli.specs.Engine.{IsReplayText, DiffersFromLeft}
 use Rattle.kc_cli.specs.Answers.{AreAnswered}

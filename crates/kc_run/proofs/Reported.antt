@@ -13,7 +13,7 @@ use Rattle.kc_texts.specs.Ends.{Seen, ReadFailed, HasFailed}
 use Rattle.kc_texts.specs.Written.{Writes, Begins}
 use Rattle.kc_faults.specs.declared.fault.TextFault.{TextFault}
 use Rattle.kc_faults.specs.declared.fault.TextFault.TheVariants as texts
-use Rattle.kc_faults.specs.declared.origin.Origin.{Origin}
+use Rattle.kc_texts.specs.declared.order.Origin.{Origin}
 use Rattle.kc_faults.specs.Origins.{BeginsIn}
 use Rattle.kc_faults.specs.Outcomes.{TellsSources, TellsTexts, TellsSink}
 use Rattle.kc_faults.proofs.Told.{IsLastFault, texts_ok, texts_after, texts_trace, begun_is}

@@ -1,11 +1,11 @@
 -- What is said of an ending if less is known of an input that was not read.
 use Rattle.std.proofs.Common.{◌∷◌, Bool, ℕ, List, [], Option, None, Some, Result, Ok, Err, inl, inr}
 use Rattle.std.specs.Prelude.{IfOk}
-use Rattle.kc_faults.specs.declared.origin.Origin.{Origin}
+use Rattle.kc_texts.specs.declared.order.Origin.{Origin}
 use Rattle.kc_faults.specs.declared.fault.TextFault.{TextFault}
 use Rattle.kc_texts.specs.Ends.{Seen}
 use Rattle.kc_faults.proofs.Told.{texts_unread}
-use Rattle.kc_cli.specs.declared.order.ReplayForm.{ReplayForm}
+use Rattle.kc_texts.specs.declared.order.ReplayForm.{ReplayForm}
 use Rattle.kc_cli.specs.Kinds.{TellsAccount}
 use Rattle.kc_args.specs.Jobs.{Path}
 use Rattle.kc_run.specs.declared.ending.Ending.TheVariants as endings

@@ -3,3 +3,4 @@ pub mod Opening
 pub mod Endings
 pub mod Ends
 pub mod Run
+pub mod Opened

@@ -14,11 +14,11 @@ use Rattle.kc_texts.specs.Ends.{Seen, HasFailedRead, HasFailed}
 use Rattle.kc_texts.specs.Written.{Writes, Begins}
 use Rattle.kc_faults.specs.declared.fault.TextFault.{TextFault}
 use Rattle.kc_faults.specs.declared.fault.TextFault.TheVariants as texts
-use Rattle.kc_faults.specs.declared.origin.Origin.{Origin}
+use Rattle.kc_texts.specs.declared.order.Origin.{Origin}
 use Rattle.kc_faults.specs.Origins.{BeginsIn}
 use Rattle.kc_faults.specs.Outcomes.{TellsSources, TellsTexts, TellsSink}
-use Rattle.kc_cli.specs.declared.account.CustodyForm.{CustodyForm}
-use Rattle.kc_cli.specs.declared.account.Scope.{Scope}
+use Rattle.kc_texts.specs.declared.order.CustodyForm.{CustodyForm}
+use Rattle.kc_texts.specs.declared.order.Scope.{Scope}
 use Rattle.kc_cli.specs.declared.sequence.TheConstants.{CALLS_BEFORE}
 use Rattle.kc_cli.specs.Answers.{AreAllAnswered}
 use Rattle.kc_cli.specs.Traced.{Traced, expected_last}

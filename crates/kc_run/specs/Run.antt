@@ -13,8 +13,8 @@ use Rattle.kc_trace.specs.declared.fault.TraceFault.TheVariants.{Misplaced}
 use Rattle.kc_trace.specs.declared.expected.HeaderFault.TheVariants.{Missing}
 use Rattle.kc_trace.specs.Trace.{IsRefused}
 use Rattle.kc_texts.specs.Headed.{IsHeadOf}
-use Rattle.kc_faults.specs.declared.origin.Origin.{Origin}
-use Rattle.kc_faults.specs.declared.origin.Origin.TheVariants as origins
+use Rattle.kc_texts.specs.declared.order.Origin.{Origin}
+use Rattle.kc_texts.specs.declared.order.Origin.TheVariants as origins
 use Rattle.kc_faults.specs.declared.fault.TextFault.{TextFault}
 use Rattle.kc_faults.specs.declared.fault.TextFault.TheVariants as texts
 use Rattle.kc_cli.specs.Audit.{Audits, BeginsAudit, IsDumpFault}
@@ -24,7 +24,7 @@ use Rattle.kc_texts.specs.Written.{Writes, Begins}
 use Rattle.kc_redact_text.specs.Redacts.{Redacts, BeginsRedaction, IsRedactFault, IsHostRedacted, IsHostRedactFault}
 use Rattle.kc_redact_text.specs.declared.convert.Converted.{Converted}
 use Rattle.kc_redact_text.specs.Converts.{IsFirstVolume, IsNextVolume, IsRefusedBare, IsConversion, IsSystemFault, IsConvertFault}
-use Rattle.kc_cli.specs.declared.order.ReplayForm.{ReplayForm}
+use Rattle.kc_texts.specs.declared.order.ReplayForm.{ReplayForm}
 use Rattle.kc_cli.specs.Engine.{IsReplayText, DiffersFromLeft}
 use Rattle.kc_cli.specs.Answers.{AreAnswered}
 use Rattle.kc_cli.specs.Live.{IsLiveText, CouldRun, HasBadActor}

@@ -6,8 +6,8 @@ use Rattle.std.specs.List.{flat_map}
 use Rattle.std.proofs.lemmas.List.{take_all, append-nil}
 use Rattle.kc_dump_text.specs.DumpText.{spaced, dump_text}
 use Rattle.kc_model.specs.State.{State, Frame, Vcpu, Image}
-use Rattle.kc_state.specs.Told.{SlotRest, slot_rest, rest_of}
-use Rattle.kc_dumping.specs.Dumping.{dump_of}
+use Rattle.kc_snapshot.specs.Told.{SlotRest, slot_rest, rest_of}
+use Rattle.kc_snapshot.specs.Dumping.{dump_of}
 use Rattle.kc_state_text.specs.declared.sizes.Sizes.{Sizes}
 use Rattle.kc_state_text.specs.StateText.{state_header, sizes_of, sizes_line, approved_line, vcpu_word, vcpu_words, vcpus_words, image_words, images_words, slot_words, slot_line, page_line, front_begin, state_text}
 

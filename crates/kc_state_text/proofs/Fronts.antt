@@ -12,7 +12,7 @@ use Rattle.kc_dump_text.specs.Grammar.{IsDumpText}
 use Rattle.kc_dump_text.specs.Refused.{IsRefusedDump}
 use Rattle.kc_dump_text.proofs.ReadLines.{bare, spell-bare}
 use Rattle.kc_model.specs.Volumes.{IsDigest}
-use Rattle.kc_state.specs.Told.{Told, SlotRest}
+use Rattle.kc_snapshot.specs.Told.{Told, SlotRest}
 use Rattle.kc_state_text.specs.declared.sizes.Sizes as numbers
 use Rattle.kc_state_text.specs.declared.fault.StateFault.{StateFault}
 use Rattle.kc_state_text.specs.declared.fault.StateFault.TheVariants.{NoHeader, BadLine, Missing, Sizes, Found, Slot, Frame, Memory}

@@ -5,7 +5,7 @@ use Rattle.kc_types.specs.Limits.{byte_limit}
 use Rattle.kc_model.specs.State.{State}
 use Rattle.kc_model.specs.Lawful.{IsLawful}
 use Rattle.kc_model.specs.Volumes.{IsCoreState}
-use Rattle.kc_state.specs.Told.{told_of}
+use Rattle.kc_snapshot.specs.Told.{told_of}
 use Rattle.kc_trace.specs.declared.header.Position.{Position}
 use Rattle.kc_trace.specs.Header.{IsPosition}
 use Rattle.kc_state_text.specs.declared.fault.StateFault.{StateFault}

@@ -14,12 +14,12 @@ use Rattle.kc_dump_text.specs.DumpText.{dump_text}
 use Rattle.kc_dump_text.specs.Grammar.{IsDumpText}
 use Rattle.kc_dump_text.specs.Refused.{IsRefusedDump}
 use Rattle.kc_dump_text.proofs.Followed.{one-dump, not-refused}
-use Rattle.kc_dumping.specs.Dumping.{dump_of}
-use Rattle.kc_state.specs.Told.{Told, SlotRest, slot_rest, rest_of, told_of}
-use Rattle.kc_state.specs.Unlawful.{IsUnlawful}
-use Rattle.kc_state.specs.declared.unlawful.Unlawful.{Unlawful}
-use Rattle.kc_state.specs.declared.unlawful.Unlawful.TheVariants as unlawful
-use Rattle.kc_dumping.proofs.InRange.{dump-in-range}
+use Rattle.kc_snapshot.specs.Dumping.{dump_of}
+use Rattle.kc_snapshot.specs.Told.{Told, SlotRest, slot_rest, rest_of, told_of}
+use Rattle.kc_snapshot.specs.Unlawful.{IsUnlawful}
+use Rattle.kc_snapshot.specs.declared.unlawful.Unlawful.{Unlawful}
+use Rattle.kc_snapshot.specs.declared.unlawful.Unlawful.TheVariants as unlawful
+use Rattle.kc_snapshot.proofs.InRange.{dump-in-range}
 use Rattle.kc_state_text.specs.declared.sizes.Sizes as numbers
 use Rattle.kc_state_text.specs.declared.fault.StateFault.{StateFault}
 use Rattle.kc_state_text.specs.declared.fault.StateFault.TheVariants.{NoHeader, BadLine, Missing, Sizes, Found, Slot as BadSlot, Frame as BadFrame, Memory}

@@ -1,9 +1,9 @@
 -- Why a text describes no lawful state.
 use Rattle.std.proofs.Common.{ℕ, ◌≡◌, List}
-use Rattle.kc_state.specs.Told.{Told}
-use Rattle.kc_state.specs.Unlawful.{IsUnlawful}
-use Rattle.kc_state.specs.declared.unlawful.Unlawful.{Unlawful}
-use Rattle.kc_state.specs.declared.unlawful.Unlawful.TheVariants.{Sizes, Found, Slot, Frame, Memory}
+use Rattle.kc_snapshot.specs.Told.{Told}
+use Rattle.kc_snapshot.specs.Unlawful.{IsUnlawful}
+use Rattle.kc_snapshot.specs.declared.unlawful.Unlawful.{Unlawful}
+use Rattle.kc_snapshot.specs.declared.unlawful.Unlawful.TheVariants.{Sizes, Found, Slot, Frame, Memory}
 use Rattle.kc_state_text.specs.Faults.{unlawful_fault}
 use Rattle.kc_state_text.specs.Refused.{IsTextOf, IsRefusedState}
 

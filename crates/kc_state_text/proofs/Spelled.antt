@@ -19,7 +19,7 @@ use Rattle.kc_lines.proofs.Digits.{data_of-encode_lower}
 use Rattle.kc_lines.proofs.Digests.{digest_again}
 use Rattle.kc_dump_text.specs.Words.{below_of, under}
 use Rattle.kc_dump_text.proofs.ReadWords.{number-from, under-from, under-to}
-use Rattle.kc_state.specs.Told.{SlotRest}
+use Rattle.kc_snapshot.specs.Told.{SlotRest}
 use Rattle.kc_model.specs.Volumes.{IsDigest}
 use Rattle.kc_state_text.specs.declared.sizes.Sizes.{Sizes}
 use Rattle.kc_state_text.specs.Words.{vcpu_in, waiting}

@@ -7,12 +7,12 @@ use Rattle.kc_types.specs.declared.owner.Owner.TheVariants.{Core}
 use Rattle.kc_model.specs.State.{State, Frame, frame_at, untouched, zero_page}
 use Rattle.kc_model.specs.Blanking.{blank_frame}
 use Rattle.kc_dump_text.specs.DumpText.{dump_text}
-use Rattle.kc_dumping.specs.Dumping.{dump_of}
-use Rattle.kc_state.specs.Told.{slot_rest}
+use Rattle.kc_snapshot.specs.Dumping.{dump_of}
+use Rattle.kc_snapshot.specs.Told.{slot_rest}
 use Rattle.kc_trace.specs.declared.header.Position.{Position}
-use Rattle.kc_dumping.specs.Form.{in_form}
-use Rattle.kc_dumping.specs.declared.form.StateForm.{StateForm}
-use Rattle.kc_dumping.specs.declared.form.StateForm.TheVariants.{Whole, Blank}
+use Rattle.kc_snapshot.specs.Form.{in_form}
+use Rattle.kc_snapshot.specs.declared.form.StateForm.{StateForm}
+use Rattle.kc_snapshot.specs.declared.form.StateForm.TheVariants.{Whole, Blank}
 use Rattle.kc_state_text.proofs.Appended.{whole-text}
 use Rattle.kc_state_text.specs.StateText.{state_header, header_of, sizes_line, approved_line, slot_line, page_line, front_begin, state_text, placed_text, placed_state_text}
 use Rattle.kc_state_text.specs.Pieces.{Pieces, page_lines, to_come}

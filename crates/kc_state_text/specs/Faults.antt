@@ -2,8 +2,8 @@
 use Rattle.std.specs.Prelude.{ℕ, ◌+◌, List, [], codes, Option, Some, None}
 use Rattle.kc_state_text.specs.declared.fault.StateFault.{StateFault}
 use Rattle.kc_state_text.specs.declared.fault.StateFault.TheVariants.{NoHeader, BadLine, Missing, Sizes, Found, Slot, Frame, Memory}
-use Rattle.kc_state.specs.declared.unlawful.Unlawful.{Unlawful}
-use Rattle.kc_state.specs.declared.unlawful.Unlawful.TheVariants as unlawful
+use Rattle.kc_snapshot.specs.declared.unlawful.Unlawful.{Unlawful}
+use Rattle.kc_snapshot.specs.declared.unlawful.Unlawful.TheVariants as unlawful
 use Rattle.kc_dump_text.specs.declared.fault.DumpFault.{DumpFault}
 use Rattle.kc_dump_text.specs.declared.fault.DumpFault.TheVariants as dump
 use Rattle.kc_trace.specs.declared.header.Position.{Position}

@@ -2,8 +2,8 @@
 use Rattle.std.specs.Prelude.{ℕ, List, ◌++◌, drop, map}
 use Rattle.std.specs.List.{flat_map}
 use Rattle.kc_model.specs.State.{State, Frame}
-use Rattle.kc_dumping.specs.declared.form.StateForm.{StateForm}
-use Rattle.kc_dumping.specs.Form.{in_form}
+use Rattle.kc_snapshot.specs.declared.form.StateForm.{StateForm}
+use Rattle.kc_snapshot.specs.Form.{in_form}
 use Rattle.kc_state_text.specs.StateText.{page_line}
 
 -- the form of a text, and what was not given yet: the lines before those of the pages, the number of the next page, and

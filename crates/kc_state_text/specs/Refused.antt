@@ -7,10 +7,10 @@ use Rattle.kc_dump_text.specs.Grammar.{IsDumpText}
 use Rattle.kc_dump_text.specs.DumpText.{dump_text}
 use Rattle.kc_dump_text.specs.Refused.{IsRefusedDump}
 use Rattle.kc_dump_text.specs.declared.fault.DumpFault.TheVariants as dump
-use Rattle.kc_state.specs.Told.{Told, SlotRest}
-use Rattle.kc_state.specs.Unlawful.{IsUnlawful}
-use Rattle.kc_state.specs.declared.unlawful.Unlawful.{Unlawful}
-use Rattle.kc_state.specs.declared.unlawful.Unlawful.TheVariants as unlawful
+use Rattle.kc_snapshot.specs.Told.{Told, SlotRest}
+use Rattle.kc_snapshot.specs.Unlawful.{IsUnlawful}
+use Rattle.kc_snapshot.specs.declared.unlawful.Unlawful.{Unlawful}
+use Rattle.kc_snapshot.specs.declared.unlawful.Unlawful.TheVariants as unlawful
 use Rattle.kc_model.specs.Volumes.{IsDigest}
 use Rattle.kc_trace.specs.declared.header.Position.{Position}
 use Rattle.kc_trace.specs.Header.{IsPosition}

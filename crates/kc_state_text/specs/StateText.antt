@@ -5,7 +5,7 @@ use Rattle.std.specs.List.{flat_map, list_all}
 use Rattle.hex.specs.Hex.{encode_lower}
 use Rattle.kc_model.specs.State.{State, Vcpu, Image}
 use Rattle.kc_dump_text.specs.DumpText.{line, dump_text}
-use Rattle.kc_state.specs.Told.{Told, Rest, SlotRest, slot_rest, rest_of, told_of}
+use Rattle.kc_snapshot.specs.Told.{Told, Rest, SlotRest, slot_rest, rest_of, told_of}
 use Rattle.kc_trace.specs.declared.header.Position.{Position}
 use Rattle.kc_trace.specs.Header.{position_line}
 use Rattle.kc_state_text.specs.declared.sizes.Sizes.{Sizes}

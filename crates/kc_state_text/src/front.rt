@@ -12,7 +12,7 @@ use crate::line_reader::{read_approved, read_sizes, read_slot};
 use crate::pages::{Buffer, Pages};
 use crate::sizes::Sizes;
 use kc_lines::split_line;
-use kc_state::SlotRest;
+use kc_snapshot::SlotRest;
 use std::alloc::Global;
 use std::marker::Model;
 

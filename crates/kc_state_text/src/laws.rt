@@ -13,7 +13,7 @@ ghost use Rattle.kc_state_text.specs.StateText.{state_text, placed_state_text};
 ghost use Rattle.kc_state_text.specs.Refused.{IsRefusedPlaced};
 ghost use Rattle.kc_state_text.specs.Runs.{IsOneRun};
 
-use kc_state::laws as states;
+use kc_snapshot::laws as states;
 
 /// No text is that of two states, nor of two positions, nor of a position and of none.
 pub fn one_text()

@@ -12,7 +12,7 @@ use crate::sizes::Sizes;
 use crate::words::{take_name, take_number, take_number_to};
 use arrayvec::ArrayVec;
 use kc_lines::{LineWords, read_digest, read_number};
-use kc_state::SlotRest;
+use kc_snapshot::SlotRest;
 use kc_types::{
     DIGEST_LIMIT, FIRST_GFN_LIMIT, FIRST_IMAGE_LIMIT, FIRST_VCPU_LIMIT, Image, SECOND_FRAME_LIMIT,
     SECOND_SLOT_LIMIT, Vcpu,

@@ -1,7 +1,7 @@
 //! A state's text, a piece at a time, so that it is never in memory as a whole.
 ghost use Rattle.std.specs.Prelude.{◌≡◌, ◌<◌, ◌≤◌, ◌+◌, ◌++◌, ◌↔◌, [], length, vec_len, vec_capacity, IsTrue, IfOk};
-ghost use Rattle.kc_dumping.specs.Dumping.{dump_of};
-ghost use Rattle.kc_dumping.specs.Form.{in_form};
+ghost use Rattle.kc_snapshot.specs.Dumping.{dump_of};
+ghost use Rattle.kc_snapshot.specs.Form.{in_form};
 ghost use Rattle.kc_state_text.specs.StateText.{placed_state_text};
 ghost use Rattle.kc_state_text.specs.Pieces.{longest_page_line, to_come};
 
@@ -10,9 +10,9 @@ use kc_core::KCore;
 use kc_digests::Lanes;
 use kc_dump::Dump;
 use kc_dump_text::write_dump;
-use kc_dumping::{StateForm, bytes_in, dump, dump_alone};
 use kc_lines::push_bytes;
 use kc_page::PageBytes;
+use kc_snapshot::{StateForm, bytes_in, dump, dump_alone};
 use kc_trace::Position;
 use kc_types::Memory;
 use std::alloc::Global;

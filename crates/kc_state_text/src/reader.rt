@@ -16,7 +16,7 @@ use kc_core::KCore;
 use kc_digests::Lanes;
 use kc_dump::Dump;
 use kc_dump_text::{DumpFault, read_dump};
-use kc_state::{Told, Unlawful, core_alone, core_of};
+use kc_snapshot::{Told, Unlawful, core_alone, core_of};
 use kc_trace::Position;
 use std::alloc::Global;
 use std::thread::Threads;

@@ -2,14 +2,14 @@
 ghost use Rattle.std.specs.Prelude.{◌≡◌, ◌≤◌, ◌++◌, ℕ, List, vec_capacity, IfOk, OnOk};
 ghost use Rattle.sha2.specs.Sha256.{sha256};
 ghost use Rattle.sha2.specs.Hashers.{Holds256};
-ghost use Rattle.kc_dumping.specs.Form.{in_form};
+ghost use Rattle.kc_snapshot.specs.Form.{in_form};
 ghost use Rattle.kc_state_text.specs.StateText.{placed_state_text};
 ghost use Rattle.kc_state_text.specs.Pieces.{longest_page_line, to_come};
 
 use crate::pieces::StatePieces;
 use crate::writing::push_short;
 use kc_core::KCore;
-use kc_dumping::StateForm;
+use kc_snapshot::StateForm;
 use kc_trace::Position;
 use kc_types::{Memory, SecretBytes};
 use sha2::{Digest, Sha256};

@@ -4,7 +4,7 @@ ghost use Rattle.std.specs.List.{flat_map};
 ghost use Rattle.kc_types.specs.Configuration.{slot_count};
 ghost use Rattle.kc_model.specs.State.{slot_at};
 ghost use Rattle.kc_dump_text.specs.DumpText.{spaced};
-ghost use Rattle.kc_state.specs.Told.{slot_rest, rest_of};
+ghost use Rattle.kc_snapshot.specs.Told.{slot_rest, rest_of};
 ghost use Rattle.kc_state_text.specs.StateText.{header_of, placed_text, sizes_of, sizes_line, approved_line, vcpu_words, vcpus_words, image_words, images_words, slot_line, page_line, front_begin};
 
 use crate::sizes::Sizes;

@@ -1,8 +1,8 @@
-//! The program: `kc_program` over the system.
+//! The program: `kc_run` over the system.
 #![tactic(auto)]
 
 use kc_digests::Lanes;
-use kc_program::run;
+use kc_run::run;
 use std::env;
 use std::process::ExitCode;
 

@@ -8,10 +8,10 @@ use Rattle.kc_types.specs.declared.call.Actor.{Actor}
 use Rattle.kc_types.specs.declared.config.ConfigFault.TheVariants as numbers
 use Rattle.kc_model.specs.State.{mapped_at}
 use Rattle.kc_model.specs.Custody.{custody_at}
-use Rattle.kc_dumping.specs.Dumping.{dump_of}
-use Rattle.kc_dumping.specs.Form.{in_form}
-use Rattle.kc_dumping.specs.declared.form.StateForm.{StateForm}
-use Rattle.kc_dumping.specs.declared.form.StateForm.TheVariants.{Blank}
+use Rattle.kc_snapshot.specs.Dumping.{dump_of}
+use Rattle.kc_snapshot.specs.Form.{in_form}
+use Rattle.kc_snapshot.specs.declared.form.StateForm.{StateForm}
+use Rattle.kc_snapshot.specs.declared.form.StateForm.TheVariants.{Blank}
 use Rattle.kc_state_text.specs.Refused.{IsRefusedPlaced}
 use Rattle.kc_state_text.specs.StateText.{placed_state_text}
 use Rattle.kc_state_text.specs.declared.fault.StateFault.{StateFault}

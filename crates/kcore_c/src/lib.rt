@@ -16,7 +16,7 @@ ghost use Rattle.kc_trace.specs.ReplyText.{longest_reply};
 ghost use Rattle.kc_trace.specs.Spelling.{longest_call};
 ghost use Rattle.kc_trace.specs.declared.header.Position.TheVariants.{First};
 ghost use Rattle.kc_session.specs.declared.session.Form.TheVariants.{Whole, Redacted};
-ghost use Rattle.kc_dumping.specs.declared.form.StateForm.TheVariants as forms;
+ghost use Rattle.kc_snapshot.specs.declared.form.StateForm.TheVariants as forms;
 ghost use Rattle.kcore_c.specs.Record.{asking};
 ghost use Rattle.kcore_c.specs.Status.{IsCode, BootSays, ResumeSays, StateSays, DumpSays, BlankDigestSays, CallSays, DoSays, ChangeSays, ChangesSays, RecordSays, FrameSays, NextSays, SizesSays, LineSays, DigestSays, TurnSays, EndSays};
 
@@ -28,8 +28,8 @@ mod session;
 mod status;
 
 pub use handle::Handle;
-use kc_dumping::StateForm;
 use kc_session::Form;
+use kc_snapshot::StateForm;
 use kc_trace::{LONGEST_CALL, LONGEST_REPLY, Position};
 use record::asking;
 pub use record::{Change, Record, Sizes};

@@ -4,7 +4,7 @@ ghost use Rattle.kc_config_text.specs.ConfigText.{config_in, ConfigFails};
 ghost use Rattle.kcore_c.specs.Status.{BootSays, CallSays, DoSays, LineSays, DigestSays, ResumeSays, StateSays, DumpSays, BlankDigestSays, IsResumed, TurnSays, EndSays, IsBooted, place_of};
 ghost use Rattle.kc_types.specs.Limits.{byte_limit};
 ghost use Rattle.kc_trace.specs.Header.{IsPosition};
-ghost use Rattle.kc_dumping.specs.Dumping.{dump_of};
+ghost use Rattle.kc_snapshot.specs.Dumping.{dump_of};
 ghost use Rattle.kc_state_text.specs.Refused.{IsRefusedPlaced};
 ghost use Rattle.kc_dump_text.specs.DumpText.{dump_text};
 
@@ -14,8 +14,8 @@ use crate::status::Status;
 use kc_config_text::{ConfigTextFault, read_config};
 use kc_core::KCore;
 use kc_dump_text::write_dump;
-use kc_dumping::{StateForm, dump_alone};
 use kc_session::{Form, Session};
+use kc_snapshot::{StateForm, dump_alone};
 use kc_state_text::{StateFault, state_digest, whole_text};
 use kc_trace::{LONGEST_REPLY, Position};
 use kc_types::{Actor, BYTE_LIMIT, Memory, PAGE_SIZE};

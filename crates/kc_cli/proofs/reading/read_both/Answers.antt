@@ -2,7 +2,7 @@ use Rattle.std.proofs.Common.{Err, ap, refl}
 use Rattle.std.proofs.lemmas.Result.{err_from_is_err_and}
 use Rattle.kc_model.specs.Boot.{boot}
 use Rattle.kc_trace.specs.declared.expected.Expected.TheVariants.{First}
-use Rattle.kc_faults.specs.declared.origin.Origin.TheVariants as origins
+use Rattle.kc_texts.specs.declared.order.Origin.TheVariants as origins
 use Rattle.kc_faults.proofs.Faulted.{trace_said, stream_config, stream_state, stream_told}
 use Rattle.kc_faults.proofs.Told.{boots, texts_ok, texts_start, texts_trace, texts_misplaced}
 use Rattle.kc_faults.proofs.Placed.{is_there, misplaced_there, known_refused_there}

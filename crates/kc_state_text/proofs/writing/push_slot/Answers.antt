@@ -2,7 +2,7 @@ use Rattle.std.proofs.Common.{◌≡◌, List, ◌++◌, ap, ◌∙◌}
 use Rattle.std.specs.List.{flat_map}
 use Rattle.kc_model.specs.State.{Image, slot_at}
 use Rattle.kc_dump_text.specs.DumpText.{spaced}
-use Rattle.kc_state.specs.Told.{slot_rest}
+use Rattle.kc_snapshot.specs.Told.{slot_rest}
 use Rattle.kc_state_text.specs.StateText.{image_words}
 use Rattle.kc_state_text.proofs.Appended.{on-map, slot-written}
 use Rattle.kc_state_text.proofs.writing.push_slot.Goals as goal

@@ -1,6 +1,6 @@
 use Rattle.std.proofs.Common.{arith, ap, ◌∙◌}
 use Rattle.kc_types.specs.Configuration.{slot_count}
-use Rattle.kc_state.specs.Told.{slot_rest}
+use Rattle.kc_snapshot.specs.Told.{slot_rest}
 use Rattle.kc_state_text.specs.StateText.{slot_line}
 use Rattle.kc_state_text.proofs.Appended.{all-written}
 use Rattle.kc_state_text.proofs.writing.push_slots.Goals as goal

@@ -1,7 +1,7 @@
 use Rattle.std.proofs.Common.{◌≡◌, ◌++◌, take}
 use Rattle.std.specs.List.{flat_map}
 use Rattle.kc_model.specs.State.{Slot}
-use Rattle.kc_state.specs.Told.{slot_rest}
+use Rattle.kc_snapshot.specs.Told.{slot_rest}
 use Rattle.kc_state_text.specs.StateText.{slot_line}
 use Rattle.kc_state_text.proofs.writing.push_slots.Given as goal
 

@@ -6,7 +6,7 @@ use Rattle.kc_trace.specs.declared.fault.TraceFault.{TraceFault}
 use Rattle.kc_trace.specs.Expected.{IsHeaderFault, IsRefusedThere}
 use Rattle.kc_faults.specs.declared.fault.TextFault.TheVariants as texts
 use Rattle.kc_faults.proofs.Placed.{misplaced_there, known_refused_there}
-use Rattle.kc_cli.specs.Custody.{names_trace}
+use Rattle.kc_texts.specs.Orders.{names_trace}
 use Rattle.kc_cli.specs.Traced.{Traced}
 use Rattle.kc_cli.specs.declared.custody.CustodyOrder.{CustodyOrder}
 use Rattle.kc_cli.proofs.Volumes.{custody_read, still_begun, config_told, full_refused, there_refused}

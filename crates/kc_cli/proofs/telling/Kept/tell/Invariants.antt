@@ -3,7 +3,7 @@ use Rattle.kc_types.specs.Limits.{byte_limit}
 use Rattle.kc_types.specs.declared.call.Call.{Call}
 use Rattle.kc_model.specs.State.{State}
 use Rattle.kc_model.specs.Lawful.{IsLawful}
-use Rattle.kc_cli.specs.declared.account.CustodyForm.{CustodyForm}
+use Rattle.kc_texts.specs.declared.order.CustodyForm.{CustodyForm}
 use Rattle.kc_cli.specs.Traced.{MayHaveWitnessed}
 use Rattle.kc_cli.specs.Ledgers.{HasKept}
 use Rattle.kc_texts.specs.Streamed.{HasRead}

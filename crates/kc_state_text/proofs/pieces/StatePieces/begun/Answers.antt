@@ -1,6 +1,6 @@
 use Rattle.std.proofs.Common.{ℕ, List, ◌++◌, ◌∙◌, ap}
 use Rattle.kc_dump_text.specs.DumpText.{dump_text}
-use Rattle.kc_dumping.specs.Form.{in_form}
+use Rattle.kc_snapshot.specs.Form.{in_form}
 use Rattle.kc_state_text.specs.StateText.{front_begin, placed_text}
 use Rattle.kc_state_text.specs.Pieces.{page_lines}
 use Rattle.kc_state_text.proofs.ToCome.{whole_in}

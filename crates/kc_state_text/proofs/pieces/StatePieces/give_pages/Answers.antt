@@ -1,6 +1,6 @@
 use Rattle.std.proofs.Common.{◌<◌, ◌∙◌, ◌++◌, length, ap, refl, arith, rules}
-use Rattle.kc_dumping.specs.Form.{in_form}
-use Rattle.kc_dumping.proofs.InForm.{long_in}
+use Rattle.kc_snapshot.specs.Form.{in_form}
+use Rattle.kc_snapshot.proofs.InForm.{long_in}
 use Rattle.kc_state_text.specs.Pieces.{to_come}
 use Rattle.kc_state_text.proofs.ToCome.{page_given}
 use Rattle.kc_state_text.proofs.pieces.StatePieces.give_pages.Goals as goal

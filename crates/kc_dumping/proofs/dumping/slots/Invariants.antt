@@ -1,6 +1,0 @@
-use Rattle.std.proofs.Common.{◌≡◌}
-use Rattle.kc_dumping.specs.Dumping.{slot_dumps}
-use Rattle.kc_dumping.proofs.dumping.slots.Given as goal
-
-abbrev pub invariant-loop-vm : goal.invariant-loop-vm
-invariant-loop-vm l = l.slots.items ≡ slot_dumps l.core l.vm

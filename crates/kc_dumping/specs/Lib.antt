@@ -1,2 +1,0 @@
-pub mod Dumping
-pub mod Form

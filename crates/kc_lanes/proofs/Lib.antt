@@ -1,3 +1,0 @@
-pub mod Heights
-pub mod OutlineWords
-pub mod Seen

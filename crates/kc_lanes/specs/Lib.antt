@@ -1,3 +1,0 @@
-pub mod LaneTitles
-pub mod OutlineWords
-pub mod Outlines

@@ -1,0 +1,5 @@
+pub mod Dumping
+pub mod Form
+pub mod Told
+pub mod Unlawful
+pub mod Making

@@ -1,5 +1,0 @@
-use Rattle.kc_state.specs.Unlawful.{AreSlotsOf}
-use Rattle.kc_state.proofs.slots.first_wrong_slot.Given as goal
-
-abbrev pub invariant-loop-vm : goal.invariant-loop-vm
-invariant-loop-vm l = AreSlotsOf l.dump l.rests l.vm

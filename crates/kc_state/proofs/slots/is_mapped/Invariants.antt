@@ -1,6 +1,0 @@
-use Rattle.std.proofs.Common.{ℕ, ◌≡◌, ◌<◌, ◌+◌, true}
-use Rattle.kc_state.proofs.Mapped.{has}
-use Rattle.kc_state.proofs.slots.is_mapped.Given as goal
-
-abbrev pub invariant-loop-page : goal.invariant-loop-page
-invariant-loop-page l = (k : ℕ) → k < l.page → has l.entries (l.image.base + k) ≡ true

@@ -1,3 +1,0 @@
-pub mod Columns
-pub mod Foot
-pub mod Words
