@@ -71,6 +71,10 @@ code_of (State states.Memory) = 3
 abbrev pub IsCode : (Status → Type 0) → ℕ → Type 0
 IsCode Says code = (status : Status) × (code ≡ code_of status) × Says status
 
+-- a function puts as many bytes as it uses at the front of a buffer, and by its status says this of the room there and of them; there are none unless it is done, and the other bytes of the buffer stay
+abbrev pub Puts : (ℕ → List ℕ → Status → Type 0) → List ℕ → List ℕ → ℕ → Status → Type 0
+Puts Says old new used status = Says (length old) (take used new) status × (used ≤ length new) × (drop used new ≡ drop used old) × ((status ≡ Done → ⊥) → used ≡ 0)
+
 -- the session is that of a core in the boot state of the configuration that the text is, and its first volume has a head with this position, or none
 abbrev pub IsBooted : Option Position → Option Kept → List ℕ → Type 0
 IsBooted position session text = (config : Configuration) × (config_in text ≡ Ok config) × (session ≡ Some (new_session position config))
@@ -141,13 +145,13 @@ CallSays asker None new line room bytes Closed = new ≡ None
 CallSays asker _ _ line room bytes _ = ⊥
 
 -- making a call by numbers and bytes, as an actor or as nobody, in a buffer of this many bytes; an answer is reported if a call is made
-abbrev pub DoSays : Option Actor → Option Kept → Option Kept → Request → List ℕ → ℕ → List ℕ → Answer → Answer → Status → Type 0
-DoSays asker (Some old) (Some new) request given room bytes before after Done = IsDone asker old new request given bytes after
-DoSays asker (Some old) new request given room bytes before after NoRoom = (room < page_size) × (new ≡ Some old) × (after ≡ before)
-DoSays asker (Some old) new request given room bytes before after NoSuchCall = (page_size ≤ room) × (new ≡ Some old) × (after ≡ before) × (requested request given ≡ None)
-DoSays asker (Some old) new request given room bytes before after Memory = (page_size ≤ room) × (new ≡ Some old) × (after ≡ before)
-DoSays asker (Some old) new request given room bytes before after (Ask fault) = (page_size ≤ room) × (new ≡ Some old) × (after ≡ before) × IsUndone asker old request given fault
-DoSays asker None new request given room bytes before after Closed = (new ≡ None) × (after ≡ before)
+abbrev pub DoSays : Option Actor → Option Kept → Option Kept → Request → List ℕ → Answer → Answer → ℕ → List ℕ → Status → Type 0
+DoSays asker (Some old) (Some new) request given before after room bytes Done = IsDone asker old new request given bytes after
+DoSays asker (Some old) new request given before after room bytes NoRoom = (room < page_size) × (new ≡ Some old) × (after ≡ before)
+DoSays asker (Some old) new request given before after room bytes NoSuchCall = (page_size ≤ room) × (new ≡ Some old) × (after ≡ before) × (requested request given ≡ None)
+DoSays asker (Some old) new request given before after room bytes Memory = (page_size ≤ room) × (new ≡ Some old) × (after ≡ before)
+DoSays asker (Some old) new request given before after room bytes (Ask fault) = (page_size ≤ room) × (new ≡ Some old) × (after ≡ before) × IsUndone asker old request given fault
+DoSays asker None new request given before after room bytes Closed = (new ≡ None) × (after ≡ before)
 DoSays asker _ _ _ _ _ _ _ _ _ = ⊥
 
 -- a change of a frame's custody by the last call that was answered

@@ -11,14 +11,14 @@
 //! - how Python calls the C library: `examples/python/kcore.py`
 #![tactic(auto)]
 
-ghost use Rattle.std.specs.Prelude.{◌≡◌, ◌≢◌, ◌≤◌, Some, None, length, take, drop};
+ghost use Rattle.std.specs.Prelude.{◌≡◌, Some, None};
 ghost use Rattle.kc_trace.specs.ReplyText.{longest_reply};
 ghost use Rattle.kc_trace.specs.Spelling.{longest_call};
 ghost use Rattle.kc_trace.specs.declared.header.Position.TheVariants.{First};
 ghost use Rattle.kc_session.specs.declared.session.Form.TheVariants.{Whole, Redacted};
 ghost use Rattle.kc_snapshot.specs.declared.form.StateForm.TheVariants as forms;
 ghost use Rattle.kcore_c.specs.Record.{asking};
-ghost use Rattle.kcore_c.specs.Status.{IsCode, BootSays, ResumeSays, StateSays, DumpSays, BlankDigestSays, CallSays, DoSays, ChangeSays, ChangesSays, RecordSays, FrameSays, NextSays, SizesSays, LineSays, DigestSays, TurnSays, EndSays};
+ghost use Rattle.kcore_c.specs.Status.{IsCode, BootSays, ResumeSays, StateSays, DumpSays, BlankDigestSays, CallSays, DoSays, ChangeSays, ChangesSays, RecordSays, FrameSays, NextSays, SizesSays, LineSays, DigestSays, TurnSays, EndSays, Puts};
 
 mod handle;
 mod look_ups;
@@ -97,10 +97,7 @@ pub extern "C" fn kcore_call(
     out: &mut [u8],
     used: &mut usize,
 ) -> u32
-    ensures says { IsCode (CallSays None core.old.held.session core.new.held.session line.now (length out.old) (take used.new out.new)) result }
-    ensures within { used.new ≤ length out.new }
-    ensures rest { drop used.new out.new ≡ drop used.new out.old }
-    ensures nothing { result ≢ 0 → used.new ≡ 0 }
+    ensures puts { IsCode (Puts (CallSays None core.old.held.session core.new.held.session line.now) out.old out.new used.new) result }
 {
     session::call(alloc, core, None, line, out, used).code()
 }
@@ -117,10 +114,7 @@ pub extern "C" fn kcore_call_by(
     out: &mut [u8],
     used: &mut usize,
 ) -> u32
-    ensures says { IsCode (CallSays (Some (asking vm vcpu)) core.old.held.session core.new.held.session line.now (length out.old) (take used.new out.new)) result }
-    ensures within { used.new ≤ length out.new }
-    ensures rest { drop used.new out.new ≡ drop used.new out.old }
-    ensures nothing { result ≢ 0 → used.new ≡ 0 }
+    ensures puts { IsCode (Puts (CallSays (Some (asking vm vcpu)) core.old.held.session core.new.held.session line.now) out.old out.new used.new) result }
 {
     session::call(alloc, core, Some(asking(vm, vcpu)), line, out, used).code()
 }
@@ -138,10 +132,7 @@ pub extern "C" fn kcore_do(
     used: &mut usize,
     answer: &mut Answer,
 ) -> u32
-    ensures says { IsCode (DoSays None core.old.held.session core.new.held.session request.now bytes.now (length out.old) (take used.new out.new) answer.old answer.new) result }
-    ensures within { used.new ≤ length out.new }
-    ensures rest { drop used.new out.new ≡ drop used.new out.old }
-    ensures nothing { result ≢ 0 → used.new ≡ 0 }
+    ensures puts { IsCode (Puts (DoSays None core.old.held.session core.new.held.session request.now bytes.now answer.old answer.new) out.old out.new used.new) result }
 {
     session::make(alloc, core, None, request, bytes, out, used, answer).code()
 }
@@ -159,10 +150,7 @@ pub extern "C" fn kcore_do_by(
     used: &mut usize,
     answer: &mut Answer,
 ) -> u32
-    ensures says { IsCode (DoSays (Some (asking vm vcpu)) core.old.held.session core.new.held.session request.now bytes.now (length out.old) (take used.new out.new) answer.old answer.new) result }
-    ensures within { used.new ≤ length out.new }
-    ensures rest { drop used.new out.new ≡ drop used.new out.old }
-    ensures nothing { result ≢ 0 → used.new ≡ 0 }
+    ensures puts { IsCode (Puts (DoSays (Some (asking vm vcpu)) core.old.held.session core.new.held.session request.now bytes.now answer.old answer.new) out.old out.new used.new) result }
 {
     session::make(
         alloc,
@@ -272,10 +260,7 @@ pub extern "C" fn kcore_line(
     out: &mut [u8],
     used: &mut usize,
 ) -> u32
-    ensures says { IsCode (LineSays Whole core.old.held.session number (length out.old) (take used.new out.new)) result }
-    ensures within { used.new ≤ length out.new }
-    ensures rest { drop used.new out.new ≡ drop used.new out.old }
-    ensures nothing { result ≢ 0 → used.new ≡ 0 }
+    ensures puts { IsCode (Puts (LineSays Whole core.old.held.session number) out.old out.new used.new) result }
     ensures same { core.new.held.session ≡ core.old.held.session }
 {
     session::line(alloc, core, Form::Whole, number, out, used).code()
@@ -291,10 +276,7 @@ pub extern "C" fn kcore_redacted_line(
     out: &mut [u8],
     used: &mut usize,
 ) -> u32
-    ensures says { IsCode (LineSays Redacted core.old.held.session number (length out.old) (take used.new out.new)) result }
-    ensures within { used.new ≤ length out.new }
-    ensures rest { drop used.new out.new ≡ drop used.new out.old }
-    ensures nothing { result ≢ 0 → used.new ≡ 0 }
+    ensures puts { IsCode (Puts (LineSays Redacted core.old.held.session number) out.old out.new used.new) result }
     ensures same { core.new.held.session ≡ core.old.held.session }
 {
     session::line(alloc, core, Form::Redacted, number, out, used).code()
@@ -309,10 +291,7 @@ pub extern "C" fn kcore_digest(
     out: &mut [u8],
     used: &mut usize,
 ) -> u32
-    ensures says { IsCode (DigestSays core.old.held.session (length out.old) (take used.new out.new)) result }
-    ensures within { used.new ≤ length out.new }
-    ensures rest { drop used.new out.new ≡ drop used.new out.old }
-    ensures nothing { result ≢ 0 → used.new ≡ 0 }
+    ensures puts { IsCode (Puts (DigestSays core.old.held.session) out.old out.new used.new) result }
     ensures same { core.new.held.session ≡ core.old.held.session }
 {
     session::digest(alloc, core, out, used).code()
@@ -328,10 +307,7 @@ pub extern "C" fn kcore_state(
     out: &mut [u8],
     used: &mut usize,
 ) -> u32
-    ensures says { IsCode (StateSays forms.Whole core.old.held.session (length out.old) (take used.new out.new)) result }
-    ensures within { used.new ≤ length out.new }
-    ensures rest { drop used.new out.new ≡ drop used.new out.old }
-    ensures nothing { result ≢ 0 → used.new ≡ 0 }
+    ensures puts { IsCode (Puts (StateSays forms.Whole core.old.held.session) out.old out.new used.new) result }
     ensures same { core.new.held.session ≡ core.old.held.session }
 {
     session::state(alloc, core, StateForm::Whole, out, used).code()
@@ -345,10 +321,7 @@ pub extern "C" fn kcore_blank_state(
     out: &mut [u8],
     used: &mut usize,
 ) -> u32
-    ensures says { IsCode (StateSays forms.Blank core.old.held.session (length out.old) (take used.new out.new)) result }
-    ensures within { used.new ≤ length out.new }
-    ensures rest { drop used.new out.new ≡ drop used.new out.old }
-    ensures nothing { result ≢ 0 → used.new ≡ 0 }
+    ensures puts { IsCode (Puts (StateSays forms.Blank core.old.held.session) out.old out.new used.new) result }
     ensures same { core.new.held.session ≡ core.old.held.session }
 {
     session::state(alloc, core, StateForm::Blank, out, used).code()
@@ -363,10 +336,7 @@ pub extern "C" fn kcore_blank_digest(
     out: &mut [u8],
     used: &mut usize,
 ) -> u32
-    ensures says { IsCode (BlankDigestSays core.old.held.session (length out.old) (take used.new out.new)) result }
-    ensures within { used.new ≤ length out.new }
-    ensures rest { drop used.new out.new ≡ drop used.new out.old }
-    ensures nothing { result ≢ 0 → used.new ≡ 0 }
+    ensures puts { IsCode (Puts (BlankDigestSays core.old.held.session) out.old out.new used.new) result }
     ensures same { core.new.held.session ≡ core.old.held.session }
 {
     session::blank_digest(alloc, core, out, used).code()
@@ -381,10 +351,7 @@ pub extern "C" fn kcore_dump(
     out: &mut [u8],
     used: &mut usize,
 ) -> u32
-    ensures says { IsCode (DumpSays core.old.held.session (length out.old) (take used.new out.new)) result }
-    ensures within { used.new ≤ length out.new }
-    ensures rest { drop used.new out.new ≡ drop used.new out.old }
-    ensures nothing { result ≢ 0 → used.new ≡ 0 }
+    ensures puts { IsCode (Puts (DumpSays core.old.held.session) out.old out.new used.new) result }
     ensures same { core.new.held.session ≡ core.old.held.session }
 {
     session::dump(alloc, core, out, used).code()

@@ -1,7 +1,7 @@
 //! What is done with the session of a handle.
-ghost use Rattle.std.specs.Prelude.{◌≡◌, ◌≢◌, ◌≤◌, Some, None, length, take, drop, IfOk, IfErr, IfSome};
+ghost use Rattle.std.specs.Prelude.{◌≡◌, ◌≤◌, ◌↔◌, Some, None, false, IsTrue, length, take, drop, IfOk, IfErr, IfSome};
 ghost use Rattle.kc_config_text.specs.ConfigText.{config_in, ConfigFails};
-ghost use Rattle.kcore_c.specs.Status.{BootSays, CallSays, DoSays, LineSays, DigestSays, ResumeSays, StateSays, DumpSays, BlankDigestSays, IsResumed, TurnSays, EndSays, IsBooted, place_of};
+ghost use Rattle.kcore_c.specs.Status.{BootSays, CallSays, DoSays, LineSays, DigestSays, ResumeSays, StateSays, DumpSays, BlankDigestSays, IsResumed, TurnSays, EndSays, IsBooted, Puts, place_of};
 ghost use Rattle.kc_types.specs.Limits.{byte_limit};
 ghost use Rattle.kc_trace.specs.Header.{IsPosition};
 ghost use Rattle.kc_snapshot.specs.Dumping.{dump_of};
@@ -24,14 +24,33 @@ use std::alloc::Global;
 /// The number of bytes of a digest.
 const DIGEST: usize = 32;
 
-/// Puts a digest at the front of a buffer, whose other bytes stay.
-fn put_digest(out: &mut [u8], digest: &[u8; DIGEST])
-    requires { 32 ≤ length out.old }
-    ensures front { take 32 out.new ≡ digest.now }
-    ensures rest { drop 32 out.new ≡ drop 32 out.old }
+/// Puts bytes at the front of a buffer that has room for them, and their number where the caller looks for it. The
+/// buffer's other bytes stay.
+fn fill(out: &mut [u8], used: &mut usize, bytes: &[u8])
+    requires { length bytes.now ≤ length out.old }
+    ensures used { used.new ≡ length bytes.now }
+    ensures front { take (length bytes.now) out.new ≡ bytes.now }
+    ensures rest { drop (length bytes.now) out.new ≡ drop (length bytes.now) out.old }
     ensures same { length out.new ≡ length out.old }
 {
-    out[..DIGEST].copy_from_slice(digest);
+    out[..bytes.len()].copy_from_slice(bytes);
+    *used = bytes.len();
+}
+
+/// Puts bytes at the front of a buffer if it has room for all of them, and returns whether it has.
+fn try_fill(out: &mut [u8], used: &mut usize, bytes: &[u8]) -> bool
+    ensures room { IsTrue result ↔ (length bytes.now ≤ length out.old) }
+    ensures used { IsTrue result → used.new ≡ length bytes.now }
+    ensures front { IsTrue result → take (length bytes.now) out.new ≡ bytes.now }
+    ensures rest { IsTrue result → drop (length bytes.now) out.new ≡ drop (length bytes.now) out.old }
+    ensures none { result ≡ false → (used.new ≡ used.old) × (out.new ≡ out.old) }
+    ensures same { length out.new ≡ length out.old }
+{
+    if out.len() < bytes.len() {
+        return false;
+    }
+    fill(out, used, bytes);
+    true
 }
 
 fn opened(
@@ -130,10 +149,7 @@ pub fn call(
     out: &mut [u8],
     used: &mut usize,
 ) -> Status
-    ensures says { CallSays asker core.old.held.session core.new.held.session line.now (length out.old) (take used.new out.new) result }
-    ensures within { used.new ≤ length out.new }
-    ensures rest { drop used.new out.new ≡ drop used.new out.old }
-    ensures nothing { result ≢ Status.Done → used.new ≡ 0 }
+    ensures puts { Puts (CallSays asker core.old.held.session core.new.held.session line.now) out.old out.new used.new result }
 {
     *used = 0;
     let Some(session) = core.take(alloc) else {
@@ -148,8 +164,7 @@ pub fn call(
     core.put(session);
     match told {
         Ok(told) => {
-            out[..told.len()].copy_from_slice(&told);
-            *used = told.len();
+            fill(out, used, &told);
             Status::Done
         }
         Err(fault) => Status::Ask(fault),
@@ -167,10 +182,7 @@ pub fn make(
     used: &mut usize,
     answer: &mut Answer,
 ) -> Status
-    ensures says { DoSays asker core.old.held.session core.new.held.session request.now bytes.now (length out.old) (take used.new out.new) answer.old answer.new result }
-    ensures within { used.new ≤ length out.new }
-    ensures rest { drop used.new out.new ≡ drop used.new out.old }
-    ensures nothing { result ≢ Status.Done → used.new ≡ 0 }
+    ensures puts { Puts (DoSays asker core.old.held.session core.new.held.session request.now bytes.now answer.old answer.new) out.old out.new used.new result }
 {
     *used = 0;
     let Some(session) = core.take(alloc) else {
@@ -195,9 +207,7 @@ pub fn make(
     core.put(session);
     match made {
         Ok(reply) => {
-            let told = bytes_of(&reply);
-            out[..told.len()].copy_from_slice(told);
-            *used = told.len();
+            fill(out, used, bytes_of(&reply));
             *answer = answer_of(&reply);
             Status::Done
         },
@@ -214,10 +224,7 @@ pub fn line(
     out: &mut [u8],
     used: &mut usize,
 ) -> Status
-    ensures says { LineSays form core.old.held.session number (length out.old) (take used.new out.new) result }
-    ensures within { used.new ≤ length out.new }
-    ensures rest { drop used.new out.new ≡ drop used.new out.old }
-    ensures nothing { result ≢ Status.Done → used.new ≡ 0 }
+    ensures puts { Puts (LineSays form core.old.held.session number) out.old out.new used.new result }
     ensures same { core.new.held.session ≡ core.old.held.session }
 {
     *used = 0;
@@ -228,11 +235,9 @@ pub fn line(
     core.put(session);
     match told {
         Ok(Some(told)) => {
-            if out.len() < told.len() {
+            if !try_fill(out, used, &told) {
                 return Status::NoRoom;
             }
-            out[..told.len()].copy_from_slice(&told);
-            *used = told.len();
             Status::Done
         }
         Ok(None) => Status::NoSuchLine,
@@ -242,10 +247,7 @@ pub fn line(
 
 /// Gives the digest of the session's redacted trace so far, in `out`.
 pub fn digest(alloc: Global, core: &mut Handle, out: &mut [u8], used: &mut usize) -> Status
-    ensures says { DigestSays core.old.held.session (length out.old) (take used.new out.new) result }
-    ensures within { used.new ≤ length out.new }
-    ensures rest { drop used.new out.new ≡ drop used.new out.old }
-    ensures nothing { result ≢ Status.Done → used.new ≡ 0 }
+    ensures puts { Puts (DigestSays core.old.held.session) out.old out.new used.new result }
     ensures same { core.new.held.session ≡ core.old.held.session }
 {
     *used = 0;
@@ -259,8 +261,7 @@ pub fn digest(alloc: Global, core: &mut Handle, out: &mut [u8], used: &mut usize
     }
     let told = session.digest();
     core.put(session);
-    put_digest(out, &told);
-    *used = DIGEST;
+    fill(out, used, &told);
     Status::Done
 }
 
@@ -272,10 +273,7 @@ pub fn state(
     out: &mut [u8],
     used: &mut usize,
 ) -> Status
-    ensures says { StateSays form core.old.held.session (length out.old) (take used.new out.new) result }
-    ensures within { used.new ≤ length out.new }
-    ensures rest { drop used.new out.new ≡ drop used.new out.old }
-    ensures nothing { result ≢ Status.Done → used.new ≡ 0 }
+    ensures puts { Puts (StateSays form core.old.held.session) out.old out.new used.new result }
     ensures same { core.new.held.session ≡ core.old.held.session }
 {
     *used = 0;
@@ -288,12 +286,9 @@ pub fn state(
     core.put(session);
     match told {
         Ok(text) => {
-            let told = text.as_slice();
-            if out.len() < told.len() {
+            if !try_fill(out, used, text.as_slice()) {
                 return Status::NoRoom;
             }
-            out[..told.len()].copy_from_slice(told);
-            *used = told.len();
             Status::Done
         }
         Err(_) => Status::Memory,
@@ -310,10 +305,7 @@ fn dumped(alloc: Global, core: &KCore) -> Result<Vec<u8>, Memory>
 
 /// Gives the dump of the session's core, in `out`.
 pub fn dump(alloc: Global, core: &mut Handle, out: &mut [u8], used: &mut usize) -> Status
-    ensures says { DumpSays core.old.held.session (length out.old) (take used.new out.new) result }
-    ensures within { used.new ≤ length out.new }
-    ensures rest { drop used.new out.new ≡ drop used.new out.old }
-    ensures nothing { result ≢ Status.Done → used.new ≡ 0 }
+    ensures puts { Puts (DumpSays core.old.held.session) out.old out.new used.new result }
     ensures same { core.new.held.session ≡ core.old.held.session }
 {
     *used = 0;
@@ -324,11 +316,9 @@ pub fn dump(alloc: Global, core: &mut Handle, out: &mut [u8], used: &mut usize) 
     core.put(session);
     match told {
         Ok(told) => {
-            if out.len() < told.len() {
+            if !try_fill(out, used, &told) {
                 return Status::NoRoom;
             }
-            out[..told.len()].copy_from_slice(&told);
-            *used = told.len();
             Status::Done
         }
         Err(_) => Status::Memory,
@@ -337,10 +327,7 @@ pub fn dump(alloc: Global, core: &mut Handle, out: &mut [u8], used: &mut usize) 
 
 /// Gives the digest of the text of the session's blank state, in `out`.
 pub fn blank_digest(alloc: Global, core: &mut Handle, out: &mut [u8], used: &mut usize) -> Status
-    ensures says { BlankDigestSays core.old.held.session (length out.old) (take used.new out.new) result }
-    ensures within { used.new ≤ length out.new }
-    ensures rest { drop used.new out.new ≡ drop used.new out.old }
-    ensures nothing { result ≢ Status.Done → used.new ≡ 0 }
+    ensures puts { Puts (BlankDigestSays core.old.held.session) out.old out.new used.new result }
     ensures same { core.new.held.session ≡ core.old.held.session }
 {
     *used = 0;
@@ -357,8 +344,7 @@ pub fn blank_digest(alloc: Global, core: &mut Handle, out: &mut [u8], used: &mut
     core.put(session);
     match told {
         Ok(told) => {
-            put_digest(out, &told);
-            *used = DIGEST;
+            fill(out, used, &told);
             Status::Done
         }
         Err(_) => Status::Memory,
