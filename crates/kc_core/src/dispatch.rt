@@ -12,7 +12,7 @@ use crate::host::{give, host_fault, host_read, host_write, take};
 use crate::shares::{grant, grant_range, revoke, revoke_range};
 use crate::slots::{register_vcpu, register_vm, set_boot};
 use crate::unserved::Unserved;
-use crate::verify::verify;
+use crate::verify::verify_slot;
 use kc_parts::Parts;
 use kc_types::{Call, Config, Memory, Reply, ReplyBuffer};
 
@@ -46,7 +46,7 @@ fn serve(
         Call::RegisterVcpu { vm, vcpu } => Ok(register_vcpu(parts, config, *vm, *vcpu)?),
         Call::SetBoot { vm, base, len } => Ok(set_boot(parts, config, *vm, *base, *len)?),
         Call::Remap { vm, image, frame } => Ok(remap(parts, config, *vm, *image, *frame)?),
-        Call::Verify { vm } => Ok(verify(parts, config, *vm)?.reply),
+        Call::Verify { vm } => Ok(verify_slot(parts, config, *vm)?),
         Call::Map { vm, vcpu, frame } => Ok(map(parts, config, *vm, *vcpu, *frame)?),
         Call::GuestRead {
             vm,

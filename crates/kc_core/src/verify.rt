@@ -15,7 +15,7 @@ ghost use Rattle.kc_model.specs.Custody.{measured_images, images_by};
 ghost use Rattle.kc_types.specs.declared.custody.MeasuredImage.{MeasuredImage};
 ghost use Rattle.kc_parts.specs.Parts.{vm_at};
 ghost use Rattle.kc_parts.specs.States.{state_of, IsLinked};
-ghost use Rattle.kc_core.specs.Applying.{IsAble, IsAnswer, KeepsPlaces};
+ghost use Rattle.kc_core.specs.Applying.{IsAble, IsAnswer, KeepsPlaces, reply_of};
 ghost use Rattle.kc_core.specs.Verifying.{mapped_in, page_under, bytes_under, bytes_of_image, is_approved_digest, AreFourAlike, IsImageHere, IsMeasurable};
 
 use arrayvec::ArrayVec;
@@ -309,4 +309,13 @@ pub fn verify(parts: &mut Parts, config: &Config, vm: u32) -> Result<Verified, R
 {
     let vm = booted_slot(parts, config, vm)?;
     Ok(measure_slot(parts, config, vm))
+}
+
+/// Verifies a slot for the reply alone. This is a function of its own, so that no other call clears room for images.
+#[inline(never)]
+pub fn verify_slot(parts: &mut Parts, config: &Config, vm: u32) -> Result<Reply, Refusal>
+    requires { IsAble config.now parts.old (Verify vm) }
+    ensures { IsAnswer config.now parts.old parts.new (Verify vm) (reply_of result) }
+{
+    Ok(verify(parts, config, vm)?.reply)
 }
