@@ -2,13 +2,12 @@
 use Rattle.std.specs.Prelude.{ℕ, ◌≡◌}
 use Rattle.kc_page.specs.declared.page.Page.{Page}
 use Rattle.kc_page.specs.declared.page.PageRecord.{PageRecord}
-use Rattle.kc_page.specs.PageBytes.{zeroed}
-use Rattle.kc_model.specs.State.{State, Frame, frame_at}
+use Rattle.kc_model.specs.State.{State, Frame, frame_at, zero_page}
 use Rattle.kc_model.specs.Links.{link_at}
 
 -- the page with zero bytes
 abbrev pub scrubbed_page : Page → Page
-scrubbed_page page = record page { bytes = zeroed page.bytes }
+scrubbed_page page = record page { bytes = zero_page }
 
 -- a page as a frame of the state, without its links
 abbrev pub frame_of : Page → Frame
@@ -17,7 +16,7 @@ frame_of page = record {
   share = page.meta.share;
   gfn = page.meta.gfn;
   present = page.meta.present;
-  bytes = page.bytes.bytes;
+  bytes = page.bytes;
 }
 
 -- the record is that of the frame in the state, with its neighbours in the list of its owner

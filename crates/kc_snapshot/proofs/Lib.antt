@@ -11,4 +11,3 @@ mod Shown
 mod Assembled
 mod Refused
 mod Shares
-mod Pages

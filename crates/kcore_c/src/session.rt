@@ -297,7 +297,7 @@ pub fn state(
 
 /// Makes the text of a core's dump.
 fn dumped(alloc: Global, core: &KCore) -> Result<Vec<u8>, Memory>
-    ensures { IfOk result (λ text. text.items ≡ dump_text (dump_of core.now.state)) }
+    ensures { IfOk result (λ text. text.items ≡ dump_text (dump_of core.now)) }
 {
     let dump = dump_alone(alloc, core, StateForm::Whole)?;
     write_dump(alloc, &dump)
