@@ -42,7 +42,7 @@ MISTAKES = (
     Mistake("contracts", "docs/CONTRACTS.md", "| `kc_snapshot`, `dump`", "| `kc_cli`, `dump`"),
     Mistake("contracts", "docs/CONTRACTS.md", "field `waves` of", "field `kc_footprints` of"),
     Mistake("contracts", "docs/CONTRACTS.md", "(`test_libraries`, `volumes.rt`)", "(`test_libraries`, `volume.rt`)"),
-    Mistake("printed contracts", "crates/kc_page/src/page.rt", "overwritten self.old offset", "overwritten self.old 0"),
+    Mistake("printed contracts", "crates/kc_page/src/page.rt", "overwritten self.old.bytes offset", "overwritten self.old.bytes 0"),
     Mistake("printed contracts", "docs/CONTRACTS.md", "bin/contracts KCore::call ", "bin/contracts KCore::calls "),
     Mistake("names", "crates/kc_core/src/shares.rt", "", "crates/kc_core/src/sharing.rt"),
     Mistake("names", "docs/two-vms.svg", "", "docs/two-guests.svg"),

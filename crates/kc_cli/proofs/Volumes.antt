@@ -110,7 +110,7 @@ next_entered asked named config old new before volume digest line calls added is
 -- an account of custody that has read one volume more
 pub custody_read : (order : CustodyOrder) (old new : CustodyAccount) (m : State) (sources : List (Option (List ℕ))) (source : Option (List ℕ)) (volume : Traced) (digest : Option (List ℕ)) (follows : Bool) (machine : Configuration) (named : Bool) → (h : HasTold order old m sources) → new.order ≡ old.order → new.sequence.first ≡ old.sequence.first → machine ≡ m.config → named ≡ names_trace order.scope.named
     → IsAdded named machine old.sequence new.sequence volume.header digest old.kept.line (new.kept.line - old.kept.line) → IfSome source (λ text. IsTraceUnder volume.header text volume.calls) → length volume.calls ≤ call_limit → new.kept.line ≡ old.kept.line + length volume.calls
-    → IsDigested (named || follows) named volume digest → ((before : List Call) → HasKept order.form m before old.core old.kept → HasKept order.form m (before ++ volume.calls) new.core new.kept)
+    → IsDigested (named || follows) named volume digest → ((before : List Call) → HasKept order.form m before old.core.state old.kept → HasKept order.form m (before ++ volume.calls) new.core.state new.kept)
     → IsAccountOf order new m (sources ++ source ∷ []) × (follows ≡ true → HasTold order new m (sources ++ source ∷ []))
 custody_read order old new m sources source volume digest follows machine named h same first config is_named added traced few at digested more =
     let before = h.of.volumes in
@@ -124,7 +124,7 @@ custody_read order old new m sources source volume digest follows machine named 
       lawful = h.of.lawful;
       volumes = before ++ volume ∷ [];
       read = subst (λ (b : Bool). AreEntered b m.config new.sequence (sources ++ source ∷ []) (before ++ volume ∷ [])) is_named entered;
-      kept = subst (λ (all : List Call). HasKept order.form m all new.core new.kept) (sym (joined_last before volume)) (more (joined before) h.of.kept);
+      kept = subst (λ (all : List Call). HasKept order.form m all new.core.state new.kept) (sym (joined_last before volume)) (more (joined before) h.of.kept);
     } in
     (of, λ is. record { of = of; next = next_entered named named m.config old.sequence new.sequence before volume digest line count here (followed_needed named follows volume digest digested is) })
 
@@ -137,7 +137,7 @@ still_begun order old new m start first same h = record {
 }
 
 -- the machine is that of the first state
-pub config_told : (order : CustodyOrder) (account : CustodyAccount) (m : State) (sources : List (Option (List ℕ))) → HasTold order account m sources → account.core.config ≡ m.config
+pub config_told : (order : CustodyOrder) (account : CustodyAccount) (m : State) (sources : List (Option (List ℕ))) → HasTold order account m sources → account.core.state.config ≡ m.config
 config_told order account m sources h = ap (λ (n : State). n.config) h.of.kept.left ∙ config-after m (joined h.of.volumes)
 
 -- the volumes that were read have too many calls
@@ -205,13 +205,13 @@ listed_in_line (e ∷ f ∷ entries) is = is
 pub none_entered : (named : Bool) (config : Configuration) (sequence : Sequence) → sequence.entries.items ≡ [] → AreEntered named config sequence [] []
 none_entered named config sequence none = record { traced = tt; entries = none; counted = (let long = ap length none in omega (arith, long)) }
 
-pub none_told : (order : CustodyOrder) (account : CustodyAccount) → account.sequence.next ≡ account.sequence.first → IsLawful account.core → account.order ≡ order → account.sequence.entries.items ≡ [] → HasKept order.form account.core [] account.core account.kept → HasTold order account account.core []
+pub none_told : (order : CustodyOrder) (account : CustodyAccount) → account.sequence.next ≡ account.sequence.first → IsLawful account.core.state → account.order ≡ order → account.sequence.entries.items ≡ [] → HasKept order.form account.core.state [] account.core.state account.kept → HasTold order account account.core.state []
 none_told order account same lawful ordered none kept = record {
   of = record {
     ordered = ordered;
     lawful = lawful;
     volumes = [];
-    read = none_entered (names_trace order.scope.named) account.core.config account.sequence none;
+    read = none_entered (names_trace order.scope.named) account.core.state.config account.sequence none;
     kept = kept;
   };
   next = same;

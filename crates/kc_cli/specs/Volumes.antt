@@ -49,7 +49,7 @@ pub record IsAccountOf (order : CustodyOrder) (account : CustodyAccount) (m : St
   pub lawful : IsLawful m
   pub volumes : List Traced
   pub read : AreEntered (names_trace order.scope.named) m.config account.sequence sources volumes
-  pub kept : HasKept order.form m (joined volumes) account.core account.kept
+  pub kept : HasKept order.form m (joined volumes) account.core.state account.kept
 
 -- and it says what may come after the last of them
 pub record HasTold (order : CustodyOrder) (account : CustodyAccount) (m : State) (sources : List (Option (List ℕ))) : Type 0 where

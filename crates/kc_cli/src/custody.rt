@@ -138,8 +138,8 @@ fn told_of(
 
 /// The slot that is named, if the core lacks it.
 fn missing(core: &KCore, vm: Option<u32>) -> Option<u32>
-    ensures some { IfSome result (λ slot. (vm ≡ Some slot) × (slot_count core.now.config ≤ slot)) }
-    ensures none { result ≡ None → IfSome vm (λ slot. slot < slot_count core.now.config) }
+    ensures some { IfSome result (λ slot. (vm ≡ Some slot) × (slot_count core.now.state.config ≤ slot)) }
+    ensures none { result ≡ None → IfSome vm (λ slot. slot < slot_count core.now.state.config) }
 {
     let slot = vm?;
     if slot < core.config().slots() {

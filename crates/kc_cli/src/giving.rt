@@ -88,7 +88,7 @@ fn text_of(
     core: &KCore,
     lanes: Lanes,
 ) -> Result<Vec<u8>, Memory>
-    ensures { IfOk result (λ text. text.items ≡ dump_text (dump_of core.now)) }
+    ensures { IfOk result (λ text. text.items ≡ dump_text (dump_of core.now.state)) }
 {
     let dumped = dump(rt, alloc, core, lanes)?;
     write_dump(alloc, &dumped)
@@ -103,9 +103,9 @@ fn give_dump<K: Sink>(
     out: &mut K,
 ) -> Result<(), TextFault>
     requires { K.failed out.old ≡ false }
-    ensures ok { OnOk result (Appends (K.taken out.old) (K.taken out.new) (dump_text (dump_of core.now))) }
+    ensures ok { OnOk result (Appends (K.taken out.old) (K.taken out.new) (dump_text (dump_of core.now.state))) }
     ensures sink { TellsSink (K.failed out.new)
-        (AppendsBeginning (K.taken out.old) (K.taken out.new) (dump_text (dump_of core.now)))
+        (AppendsBeginning (K.taken out.old) (K.taken out.new) (dump_text (dump_of core.now.state)))
         (out.new ≡ out.old) result }
     ensures fault { IfErr result (λ fault. (fault ≡ TextFault.Memory) ⊎ (fault ≡ TextFault.Write)) }
 {
@@ -127,8 +127,8 @@ fn give_pieces<K: Sink>(
 ) -> Result<(), Failed>
     requires room { longest_page_line ≤ vec_capacity piece.old }
     requires out { K.failed out.old ≡ false }
-    ensures ok { OnOk result (Appends (K.taken out.old) (K.taken out.new) (to_come core.now pieces)) }
-    ensures begun { OnErr result (AppendsBeginning (K.taken out.old) (K.taken out.new) (to_come core.now pieces)) }
+    ensures ok { OnOk result (Appends (K.taken out.old) (K.taken out.new) (to_come core.now.state pieces)) }
+    ensures begun { OnErr result (AppendsBeginning (K.taken out.old) (K.taken out.new) (to_come core.now.state pieces)) }
     ensures mark { K.failed out.new ≡ is_err result }
 {
     let mut pieces = pieces;
@@ -152,9 +152,9 @@ fn give_state<K: Sink>(
     out: &mut K,
 ) -> Result<(), TextFault>
     requires { K.failed out.old ≡ false }
-    ensures ok { OnOk result (Appends (K.taken out.old) (K.taken out.new) (placed_state_text next core.now)) }
+    ensures ok { OnOk result (Appends (K.taken out.old) (K.taken out.new) (placed_state_text next core.now.state)) }
     ensures sink { TellsSink (K.failed out.new)
-        (AppendsBeginning (K.taken out.old) (K.taken out.new) (placed_state_text next core.now)) (out.new ≡ out.old) result }
+        (AppendsBeginning (K.taken out.old) (K.taken out.new) (placed_state_text next core.now.state)) (out.new ≡ out.old) result }
     ensures fault { IfErr result (λ fault. (fault ≡ TextFault.Memory) ⊎ (fault ≡ TextFault.Write)) }
 {
     // All memory that writing takes is there before the first byte is written.
@@ -185,9 +185,9 @@ fn give_wanted<K: Sink>(
 ) -> Result<(), TextFault>
     requires { K.failed out.old ≡ false }
     ensures ok { OnOk result
-        (Appends (K.taken out.old) (K.taken out.new) (written_text order.form calls.items replies.items next core.now)) }
+        (Appends (K.taken out.old) (K.taken out.new) (written_text order.form calls.items replies.items next core.now.state)) }
     ensures sink { TellsSink (K.failed out.new) (AppendsBeginning (K.taken out.old) (K.taken out.new)
-        (written_text order.form calls.items replies.items next core.now)) (out.new ≡ out.old) result }
+        (written_text order.form calls.items replies.items next core.now.state)) (out.new ≡ out.old) result }
     ensures fault { IfErr result (λ fault. (fault ≡ TextFault.Memory) ⊎ (fault ≡ TextFault.Write)) }
 {
     match order.form {
@@ -208,9 +208,9 @@ pub(crate) fn give_replayed<K: Sink>(
 ) -> Result<(), TextFault>
     requires { K.failed out.old ≡ false }
     ensures ok { OnOk result (Appends (K.taken out.old) (K.taken out.new)
-        (written_text order.form made.calls.items made.replies.items made.next made.core)) }
+        (written_text order.form made.calls.items made.replies.items made.next made.core.state)) }
     ensures sink { TellsSink (K.failed out.new) (AppendsBeginning (K.taken out.old) (K.taken out.new)
-        (written_text order.form made.calls.items made.replies.items made.next made.core)) (out.new ≡ out.old) result }
+        (written_text order.form made.calls.items made.replies.items made.next made.core.state)) (out.new ≡ out.old) result }
     ensures fault { IfErr result (λ fault. (fault ≡ TextFault.Memory) ⊎ (fault ≡ TextFault.Write)) }
 {
     let Replayed {

@@ -40,7 +40,7 @@ pub fn replay_history<R: Threads + Wait + Sync, G: Gate + Sync>(
 ) -> Result<Outcome, ReplayFault>
     requires { IsMadeFrom (boot config) volume.now.entries }
     ensures replies { IfOk result (λ outcome. outcome.replies.items ≡ replies_of volume.now.entries) }
-    ensures state { IfOk result (λ outcome. outcome.core ≡ state_after (boot config) (calls_of volume.now.entries)) }
+    ensures state { IfOk result (λ outcome. outcome.core.state ≡ state_after (boot config) (calls_of volume.now.entries)) }
     ensures workers { OnOk result ((0 < workers) × (workers ≤ worker_limit)) }
     ensures bad_workers { IfErr result (λ fault. (fault ≡ BadWorkers) ↔ ((workers ≡ 0) ⊎ (worker_limit < workers))) }
     ensures whole { result ≢ Err Broken }

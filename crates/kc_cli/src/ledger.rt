@@ -40,7 +40,7 @@ impl Ledger {
         form: CustodyForm,
         vm: Option<u32>,
     ) -> Result<Ledger, Memory>
-        ensures { IfOk result (Keeps form core.now []) }
+        ensures { IfOk result (Keeps form core.now.state []) }
     {
         match form {
             CustodyForm::Changes(
@@ -79,15 +79,15 @@ impl Ledger {
         requires lines { first + length calls.now < 2 ^ 32 }
         requires counts { denials.old.total + length calls.now < 2 ^ 32 }
         ensures kept { OnOk result ((form : CustodyForm) (start : State) (told : List Note)
-            → core.old.config ≡ start.config → CanCount start (told ++ notes_from first core.old calls.now)
+            → core.old.state.config ≡ start.config → CanCount start (told ++ notes_from first core.old.state calls.now)
             → Keeps form start told self.old
-            → Keeps form start (told ++ notes_from first core.old calls.now) self.new) }
-        ensures state { OnOk result (core.new ≡ state_after core.old calls.now) }
+            → Keeps form start (told ++ notes_from first core.old.state calls.now) self.new) }
+        ensures state { OnOk result (core.new.state ≡ state_after core.old.state calls.now) }
         ensures denied { OnOk result
-            (denials.new.total ≡ denials.old.total + length (filter is_denied (notes_from first core.old calls.now))) }
+            (denials.new.total ≡ denials.old.total + length (filter is_denied (notes_from first core.old.state calls.now))) }
         ensures few { OnOk result (denials.new.total ≤ denials.old.total + length calls.now) }
         ensures counted { OnOk result ((replies : List Reply)
-            → Counts replies denials.old → Counts (replies ++ replies_from core.old calls.now) denials.new) }
+            → Counts replies denials.old → Counts (replies ++ replies_from core.old.state calls.now) denials.new) }
     {
         match self {
             Ledger::Changes(events) => tell_calls(alloc, core, calls, first, events, denials),

@@ -151,7 +151,7 @@ fn replay_texts<C: Source, T: Source, R: Threads + Wait + Sync>(
     requires start { C.failed start.old ≡ false }
     requires trace { T.failed trace.old ≡ false }
     ensures ok { IfOk result (λ made. AreReplayed order.origin order.form is_placed (C.left start.old)
-        (T.left trace.old) made.calls.items made.replies.items made.core made.next) }
+        (T.left trace.old) made.calls.items made.replies.items made.core.state made.next) }
     ensures answered { IfOk result
         (λ made. AreAnswered order.origin (C.left start.old) (T.left trace.old) made.answered) }
     ensures sources { TellsSources
@@ -205,7 +205,7 @@ fn replay_texts<C: Source, T: Source, R: Threads + Wait + Sync>(
 
 /// The replay, with the pages of active VMs zeroed if that is asked for.
 fn left_as(made: Replayed, is_blank: bool) -> Replayed
-    ensures { result ≡ record made { core = left_as is_blank made.core } }
+    ensures { result ≡ record made { core = record made.core { state = left_as is_blank made.core.state } } }
 {
     let mut made = made;
     if is_blank {
@@ -264,7 +264,7 @@ fn difference_in<S: Source>(
     lanes: Lanes,
 ) -> Result<Option<usize>, TextFault>
     requires { S.failed to.old ≡ false }
-    ensures ok { IfOk result (λ line. IfSome (S.left to.old) (λ text. IsDifference line text (placed_state_text next core.now))) }
+    ensures ok { IfOk result (λ line. IfSome (S.left to.old) (λ text. IsDifference line text (placed_state_text next core.now.state))) }
     ensures ended { OnOk result (IsAtEnd (S.left to.new)) }
     ensures read { result ≡ Err TextFault.Read → ReadFailed (S.failed to.new) (S.left to.old) (S.left to.new) }
     ensures source { S.failed to.new ≡ true → result ≡ Err TextFault.Read }

@@ -71,7 +71,7 @@ fn blank_digest(
     is_named: bool,
 ) -> Result<Option<[u8; 32]>, TextFault>
     ensures digest { IfOk result (λ digest. (source : Option (List ℕ))
-        → NamesStart is_named Origin.State source core.now expected digest) }
+        → NamesStart is_named Origin.State source core.now.state expected digest) }
     ensures fault { IfErr result (λ fault. fault ≡ TextFault.Memory) }
 {
     if !is_named {
@@ -83,17 +83,17 @@ fn blank_digest(
     }
 }
 
-/// The core in the boot state of the machine that a text spells.
+/// A sparse core in the boot state of the machine that a text spells.
 fn boot_of(alloc: Global, text: &[u8]) -> Result<KCore, TextFault>
-    ensures ok { IfOk result (λ core. BeginsIn Origin.Boot text.now core Expected.First) }
-    ensures lawful { IfOk result IsLawful }
+    ensures ok { IfOk result (λ core. BeginsIn Origin.Boot text.now core.state Expected.First) }
+    ensures lawful { IfOk result (λ core. IsLawful core.state) }
     ensures config { (fault : ConfigTextFault) → result ≡ Err (TextFault.Config fault)
         → config_in text.now ≡ Err fault }
     ensures read { result ≢ Err TextFault.Read }
     ensures fault { IfErr result IsConfigFault }
 {
     let config = machine_in(alloc, text)?;
-    match KCore::boot(alloc, config) {
+    match KCore::boot_sparse(alloc, config) {
         Ok(core) => Ok(core),
         Err(_) => Err(TextFault::Memory),
     }
@@ -103,10 +103,10 @@ fn boot_of(alloc: Global, text: &[u8]) -> Result<KCore, TextFault>
 fn boot_core<C: Source>(alloc: Global, start: &mut C, is_named: bool) -> Result<Begun, TextFault>
     requires { C.failed start.old ≡ false }
     ensures ok { IfOk result
-        (λ begun. IfSome (C.left start.old) (λ text. BeginsIn Origin.Boot text begun.core begun.expected)) }
+        (λ begun. IfSome (C.left start.old) (λ text. BeginsIn Origin.Boot text begun.core.state begun.expected)) }
     ensures digest { IfOk result
-        (λ begun. NamesStart is_named Origin.Boot (C.left start.old) begun.core begun.expected begun.digest) }
-    ensures lawful { IfOk result (λ begun. IsLawful begun.core) }
+        (λ begun. NamesStart is_named Origin.Boot (C.left start.old) begun.core.state begun.expected begun.digest) }
+    ensures lawful { IfOk result (λ begun. IsLawful begun.core.state) }
     ensures ended { OnOk result (IsAtEnd (C.left start.new)) }
     ensures mark { OnOk result (C.failed start.new ≡ false) }
     ensures config { (fault : ConfigTextFault) → result ≡ Err (TextFault.Config fault)
@@ -143,8 +143,8 @@ fn start_in(
     lanes: Lanes,
 ) -> Result<Start, TextFault>
     requires { length text.now ≤ byte_limit }
-    ensures ok { IfOk result (λ start. BeginsIn Origin.State text.now start.core start.expected) }
-    ensures lawful { IfOk result (λ start. IsLawful start.core) }
+    ensures ok { IfOk result (λ start. BeginsIn Origin.State text.now start.core.state start.expected) }
+    ensures lawful { IfOk result (λ start. IsLawful start.core.state) }
     ensures state { (fault : StateFault) → result ≡ Err (TextFault.State fault) → IsRefusedPlaced text.now fault }
     ensures fault { IfErr result IsStateFault }
 {
@@ -165,10 +165,10 @@ fn read_core<C: Source>(
 ) -> Result<Begun, TextFault>
     requires { C.failed start.old ≡ false }
     ensures ok { IfOk result
-        (λ begun. IfSome (C.left start.old) (λ text. BeginsIn Origin.State text begun.core begun.expected)) }
+        (λ begun. IfSome (C.left start.old) (λ text. BeginsIn Origin.State text begun.core.state begun.expected)) }
     ensures digest { IfOk result
-        (λ begun. NamesStart is_named Origin.State (C.left start.old) begun.core begun.expected begun.digest) }
-    ensures lawful { IfOk result (λ begun. IsLawful begun.core) }
+        (λ begun. NamesStart is_named Origin.State (C.left start.old) begun.core.state begun.expected begun.digest) }
+    ensures lawful { IfOk result (λ begun. IsLawful begun.core.state) }
     ensures ended { OnOk result (IsAtEnd (C.left start.new)) }
     ensures mark { OnOk result (C.failed start.new ≡ false) }
     ensures state { (fault : StateFault) → result ≡ Err (TextFault.State fault)
@@ -202,10 +202,10 @@ pub(crate) fn begin<C: Source>(
 ) -> Result<Begun, TextFault>
     requires { C.failed start.old ≡ false }
     ensures ok { IfOk result
-        (λ begun. IfSome (C.left start.old) (λ text. BeginsIn origin text begun.core begun.expected)) }
+        (λ begun. IfSome (C.left start.old) (λ text. BeginsIn origin text begun.core.state begun.expected)) }
     ensures digest { IfOk result
-        (λ begun. NamesStart is_named origin (C.left start.old) begun.core begun.expected begun.digest) }
-    ensures lawful { IfOk result (λ begun. IsLawful begun.core) }
+        (λ begun. NamesStart is_named origin (C.left start.old) begun.core.state begun.expected begun.digest) }
+    ensures lawful { IfOk result (λ begun. IsLawful begun.core.state) }
     ensures ended { OnOk result (IsAtEnd (C.left start.new)) }
     ensures mark { OnOk result (C.failed start.new ≡ false) }
     // The fault is of what the bytes are read as.
@@ -233,8 +233,8 @@ pub fn read_start<C: Source>(
 ) -> Result<Start, TextFault>
     requires { C.failed start.old ≡ false }
     ensures ok { IfOk result
-        (λ begun. IfSome (C.left start.old) (λ text. BeginsIn origin text begun.core begun.expected)) }
-    ensures lawful { IfOk result (λ begun. IsLawful begun.core) }
+        (λ begun. IfSome (C.left start.old) (λ text. BeginsIn origin text begun.core.state begun.expected)) }
+    ensures lawful { IfOk result (λ begun. IsLawful begun.core.state) }
     ensures ended { OnOk result (IsAtEnd (C.left start.new)) }
     ensures mark { OnOk result (C.failed start.new ≡ false) }
     // The fault is of what the bytes are read as.

@@ -146,7 +146,7 @@ impl Kept {
         form: CustodyForm,
         vm: Option<u32>,
     ) -> Result<Kept, Memory>
-        ensures { IfOk result (HasKept form core.now [] core.now) }
+        ensures { IfOk result (HasKept form core.now.state [] core.now.state) }
     {
         Ok(Kept {
             ledger: Ledger::new(alloc, core, form, vm)?,
@@ -174,9 +174,9 @@ impl Kept {
             × (length calls ≤ call_limit) × (self.new.line ≡ self.old.line + length calls)
             × IsDigested (is_named || is_followed) is_named (record { header = volume.header; calls = calls }) volume.digest
             × ((form : CustodyForm) (start : State) (before : List Call) → IsLawful start
-            → HasKept form start before core.old self.old
-            → HasKept form start (before ++ calls) core.new self.new)) }
-        ensures config { OnOk result (core.new.config ≡ core.old.config) }
+            → HasKept form start before core.old.state self.old
+            → HasKept form start (before ++ calls) core.new.state self.new)) }
+        ensures config { OnOk result (core.new.state.config ≡ core.old.state.config) }
         ensures ended { OnOk result (IsAtEnd (T.left trace.new)) }
         ensures trace { (fault : TraceFault) → result ≡ Err (TextFault.Trace fault)
             → IfSome (T.left trace.old) (λ text. IsRefused text fault) × IsAtEnd (T.left trace.new) }

@@ -1,7 +1,7 @@
 -- A core keeps its parts together, and calls find what they need in them.
 use Rattle.std.proofs.Common.{ℕ, ◌≡◌, ◌<◌, Bool, true, false, ◌&&◌, ◌||◌, nat_lt, nat_eq, Option, Some, None, is_some, Result, Ok, Err, OnOk, OnErr, refl, sym, ap, ◌∙◌}
 use Rattle.std.proofs.lemmas.Bool.{ltb-true, eqb-true, and_parts}
-use Rattle.kc_types.specs.Configuration.{Configuration, slot_count}
+use Rattle.kc_types.specs.Configuration.{Configuration, IsConfiguration, slot_count}
 use Rattle.kc_types.specs.declared.call.Call.{Call}
 use Rattle.kc_types.specs.declared.owner.Owner.{Owner}
 use Rattle.kc_types.specs.declared.owner.Owner.TheVariants.{Core, Free, Vm}
@@ -12,12 +12,14 @@ use Rattle.kc_model.specs.State.{State, frame_at}
 use Rattle.kc_model.specs.Lawful.{IsLawful, same_owner}
 use Rattle.kc_model.specs.Next.{next}
 use Rattle.kc_model.specs.Resources.{need, names_frame, uses_free, of_slot, exists_slot, listed_in, is_in}
+use Rattle.kc_model.proofs.Lawful.AtBoot.{lawful-boot}
 use Rattle.kc_model.proofs.Lawful.Keeps.{lawful-next}
 use Rattle.kc_model.proofs.Local.Orderly.{listed-owned}
 use Rattle.kc_model.proofs.States.Changes.{exists}
 use Rattle.kc_model.proofs.Lawful.LawfulTraces.{orderly-is}
 use Rattle.kc_parts.specs.Parts.{Held, page_at, vm_at}
 use Rattle.kc_parts.specs.States.{state_of, here_of, IsLinked}
+use Rattle.kc_parts.specs.Booting.{IsBooted}
 use Rattle.kc_core.specs.Applying.{IsAble, KeepsPlaces}
 use Rattle.kc_core.specs.KCore.{IsCore}
 
@@ -85,3 +87,7 @@ pub lawful-left : {X E : Type 0} (answer : Result X E) (config : Configuration) 
     → OnOk answer (state_of config new ≡ (next (state_of config old) call).1) → OnErr answer (new ≡ old) → IsLawful (state_of config new)
 lawful-left (Ok reply) config old new call is state same = rw state (lawful-next _ call is)
 lawful-left (Err refused) config old new call is state same = rw same is
+
+-- the parts of the boot state are a core
+pub core-booted : (config : Configuration) (is_reserved : Bool) (parts : Held) → IsBooted config is_reserved parts → IsConfiguration config → IsCore config parts
+core-booted config is_reserved parts is valid = record { lawful = rw is.state (lawful-boot config valid); linked = is.linked; whole = is.whole }

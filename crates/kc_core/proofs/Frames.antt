@@ -32,7 +32,7 @@ pub changed : (config : Configuration) (h : Held) (f : ℕ) (page new : Page) (c
 changed config h f page new change low at same to = state-page config h f page new at same ∙ ap (with_frame (state_of config h) f) (to ∙ ap change (sym (frame-is config h f page low at)))
 
 pub places-same : (h : Held) → KeepsPlaces h h
-places-same h = record { numbers = refl; slots = refl; filled = refl; here = λ r. refl; away = λ f away. (refl, refl) }
+places-same h = record { numbers = refl; slots = refl; filled = refl; reserved = refl; here = λ r. refl; away = λ f away. (refl, refl) }
 
 none-some : {X : Type 0} (a b : Option X) → is_some a ≡ is_some b → is_none a ≡ is_none b
 none-some None None e = refl
@@ -53,6 +53,7 @@ places-page h f page new at same own = record {
   numbers = refl;
   slots = refl;
   filled = refl;
+  reserved = refl;
   here = here;
   away = λ g away. (owner g away, ap (λ (links : Links). links g) (links-kept h f page new at same));
 }
@@ -69,22 +70,23 @@ places-page h f page new at same own = record {
     ]
 
 pub places-vm : (h : Held) (v : ℕ) (vm new : VmSlot) → vm_at h v ≡ Some vm → KeepsPlaces h (with_vm h v new)
-places-vm h v vm new at = record { numbers = refl; slots = refl; filled = refl; here = here-vm h v vm new at; away = λ f away. (refl, refl) }
+places-vm h v vm new at = record { numbers = refl; slots = refl; filled = refl; reserved = refl; here = here-vm h v vm new at; away = λ f away. (refl, refl) }
 
 pub places-move : (old new : Held) → IsFreeMove old new → KeepsPlaces old new
-places-move old new move = record { numbers = move.numbers; slots = move.slots; filled = move.filled; here = move.here; away = λ f away. (move.owners f, move.away f away) }
+places-move old new move = record { numbers = move.numbers; slots = move.slots; filled = move.filled; reserved = move.reserved; here = move.here; away = λ f away. (move.owners f, move.away f away) }
 
 pub places-slot_move : (v : ℕ) (old new : Held) → IsSlotMove v old new → KeepsPlaces old new
-places-slot_move v old new move = record { numbers = move.numbers; slots = move.slots; filled = move.filled; here = move.here; away = λ f away. (move.owners f, move.away f away) }
+places-slot_move v old new move = record { numbers = move.numbers; slots = move.slots; filled = move.filled; reserved = move.reserved; here = move.here; away = λ f away. (move.owners f, move.away f away) }
 
 pub places-emptied : (config : Configuration) (v : ℕ) (old new : Held) → IsLinked config old → IsEmptied v old new → KeepsPlaces old new
-places-emptied config v old new linked is = record { numbers = is.numbers; slots = is.slots; filled = is.filled; here = is.here; away = λ f away. (is.away config linked f away, ap (λ (links : Links). links f) is.links) }
+places-emptied config v old new linked is = record { numbers = is.numbers; slots = is.slots; filled = is.filled; reserved = is.reserved; here = is.here; away = λ f away. (is.away config linked f away, ap (λ (links : Links). links f) is.links) }
 
 pub places-through : (old mid new : Held) → KeepsPlaces old mid → KeepsPlaces mid new → KeepsPlaces old new
 places-through old mid new first second = record {
   numbers = second.numbers ∙ first.numbers;
   slots = second.slots ∙ first.slots;
   filled = second.filled ∙ first.filled;
+  reserved = second.reserved ∙ first.reserved;
   here = λ r. second.here r ∙ first.here r;
   away = λ f away.
       let one = first.away f away in

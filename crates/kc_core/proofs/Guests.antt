@@ -40,7 +40,7 @@ waits-at m v c g at is = fault-at m v c g at (Some at.gfn) is ∙ ap (λ g. with
 
 -- the bytes of the page at a guest frame are those that are read
 pub read-mapped : (config : Configuration) (h : Held) (v c g off len f : ℕ) (page : Page) → IsLinked config h → mapped_at (state_of config h) v g ≡ Some f → page_at h f ≡ Some page
-    → reply.Data (slice_range page.bytes off (off + len)) ≡ (effect (state_of config h) (GuestRead v c g off len)).0
+    → reply.Data (slice_range page.bytes.bytes off (off + len)) ≡ (effect (state_of config h) (GuestRead v c g off len)).0
 read-mapped config h v c g off len f page linked mapped at =
     let m : State = state_of config h in
     ap (λ (frame : Frame). reply.Data (slice_range frame.bytes off (off + len))) (sym (frame-is config h f page (linked.frames f (ap is_some at)) at))

@@ -56,6 +56,7 @@ pub record IsHanding (config : Configuration) (old : Held) (v g f : ℕ) (vm : V
   pub host : owner_at old f ≡ Host
   pub maps : table ≡ with_mapping (slot_table vm) g f
   pub same : link_of new_page ≡ link_of page
+  pub reserved : new_page.bytes.is_reserved ≡ page.bytes.is_reserved
   pub to : frame_of new_page ≡ record (frame_of page) { owner = Vm v; gfn = Some g; present = false }
 
 module _ (config : Configuration) (old : Held) (v g f : ℕ) (vm : VmSlot) (table : Table) (page new_page : Page) (is : IsHanding config old v g f vm table page new_page) where
@@ -80,7 +81,7 @@ module _ (config : Configuration) (old : Held) (v g f : ℕ) (vm : VmSlot) (tabl
   loose-owned = loose-page mapped f page new_page is.at is.same loose-mapped
 
   pub linked-owned : IsLinked config owned
-  linked-owned = linked-moved config mapped f page new_page linked-mapped is.at is.same loose-mapped.absent (λ host. loose-mapped.alone)
+  linked-owned = linked-moved config mapped f page new_page linked-mapped is.at is.same loose-mapped.absent (λ host. loose-mapped.alone) is.reserved
 
   pub owner-owned : owner_at owned f ≡ Vm v
   owner-owned = ap (λ there. (frame_in there).owner) (page-set mapped f page new_page is.at) ∙ ap (λ (frame : Frame). frame.owner) is.to

@@ -66,8 +66,8 @@ state-taken config old mid f page new move free low at same to =
     ∙ ap (λ (s : State). with_frame s f (record (frame_at s f) { owner = Host; present = false })) (move.state config)
     ∙ ap (λ fs. (host_takes m fs).1) (sym free)
 
-pub linked-taken : (config : Configuration) (mid : Held) (f : ℕ) (page new : Page) → IsLinked config mid → IsLoose mid f → page_at mid f ≡ Some page → link_of new ≡ link_of page → IsLinked config (with_page mid f new)
-linked-taken config mid f page new linked loose at same = linked-moved config mid f page new linked at same loose.absent (λ host. loose.alone)
+pub linked-taken : (config : Configuration) (mid : Held) (f : ℕ) (page new : Page) → IsLinked config mid → IsLoose mid f → page_at mid f ≡ Some page → link_of new ≡ link_of page → new.bytes.is_reserved ≡ page.bytes.is_reserved → IsLinked config (with_page mid f new)
+linked-taken config mid f page new linked loose at same reserved = linked-moved config mid f page new linked at same loose.absent (λ host. loose.alone) reserved
 
 -- a page in no list is in none after it changed
 pub loose-page : (h : Held) (f : ℕ) (page new : Page) → page_at h f ≡ Some page → link_of new ≡ link_of page → IsLoose h f → IsLoose (with_page h f new) f

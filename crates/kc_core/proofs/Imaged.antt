@@ -68,7 +68,7 @@ measured-seen config h v vm table image digest low linked at through here is =
 -- the last page of an image that is trimmed
 pub state-trimmed : (config : Configuration) (h : Held) (v : ℕ) (vm : VmSlot) (image : Image) (f : ℕ) (page new : Page) → v < slot_count config → IsLinked config h → vm_at h v ≡ Some vm → 0 < image.len
     → f ≡ backing (map.get vm.slot.mapped (image.base + (pages_of image.len - 1))) → page_at h f ≡ Some page → link_of new ≡ link_of page
-    → frame_of new ≡ record (frame_of page) { bytes = zeroed_from page.bytes ((image.len - 1) % 4096 + 1) }
+    → frame_of new ≡ record (frame_of page) { bytes = zeroed_from page.bytes.bytes ((image.len - 1) % 4096 + 1) }
     → state_of config (with_page h f new) ≡ trimmed (state_of config h) v image
 state-trimmed config h v vm image f page new low linked at some is here same to =
     let m : State = state_of config h in

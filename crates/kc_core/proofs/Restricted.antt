@@ -196,6 +196,7 @@ module _ (m : State) (here : Resources) (old new : Held) (call : Call) (reply : 
   restricted-after = record {
     parts = parts;
     capacities = λ v vm at. answer.linked.vms v vm at ∙ ap capacity_of (sym config-after);
+    room = answer.linked.room;
   }
     where
       parts : (r : Resource) → seen_at new r ≡ cond (here r) (Some (linked_part_of after r)) None

@@ -1,5 +1,5 @@
 -- Parts whose pages keep their records and change their bytes.
-use Rattle.std.proofs.Common.{ℕ, ◌≡◌, ◌<◌, cond, nat_lt, Bool, false, List, [], ◌∷◌, ◌++◌, length, map, take, drop, get_or, Option, Some, None, is_some, refl, sym, ap, ◌∙◌, arith}
+use Rattle.std.proofs.Common.{ℕ, ◌≡◌, ◌<◌, cond, nat_lt, not, Bool, true, false, List, [], ◌∷◌, ◌++◌, length, map, take, drop, get_or, Option, Some, None, is_some, refl, sym, ap, ◌∙◌, arith}
 use Rattle.std.specs.Prelude.{slice_index_or}
 use Rattle.std.specs.List.{range_with_len, slice_get}
 use Rattle.std.specs.Option.{option_map}
@@ -21,9 +21,11 @@ use Rattle.kc_model.proofs.Lawful.Wipes.{lawful-wiped}
 use Rattle.kc_page.specs.declared.page.Page.{Page}
 use Rattle.kc_page.specs.declared.page.PageRecord.{PageRecord}
 use Rattle.kc_page.specs.Page.{frame_of, scrubbed_page}
-use Rattle.kc_parts.specs.Parts.{Held, is_filled, place_of, place_in, page_at, vm_at, link_of, links_of, ends_at}
+use Rattle.kc_page.specs.PageBytes.{zeroed}
+use Rattle.kc_parts.specs.Parts.{Held, is_filled, is_sparse, place_of, place_in, page_at, vm_at, link_of, links_of, ends_at}
 use Rattle.kc_parts.specs.States.{frame_in, slot_in, list_in, state_of, owner_at}
 use Rattle.kc_parts.proofs.Moving.{lists-same}
+use Rattle.kc_parts.proofs.Seen.{room-kept}
 use Rattle.kc_core.specs.KCore.{IsCore}
 use Rattle.kc_core.specs.Blanking.{is_marked, blank_page}
 use Rattle.kc_core.proofs.Shown.{pages-frames}
@@ -45,7 +47,8 @@ frames-whole config h pages is count each =
 
 -- pages keep their records, and each is changed as a frame is
 module _ (config : Configuration) (h : Held) (page_to : Page → Page) (frame_to : Frame → Frame)
-    (recorded : (page : Page) → (page_to page).meta ≡ page.meta) (framed : (page : Page) → frame_of (page_to page) ≡ frame_to (frame_of page)) (none : frame_to (untouched Core) ≡ untouched Core) where
+    (recorded : (page : Page) → (page_to page).meta ≡ page.meta) (framed : (page : Page) → frame_of (page_to page) ≡ frame_to (frame_of page))
+    (reserved : (page : Page) → (page_to page).bytes.is_reserved ≡ page.bytes.is_reserved) (none : frame_to (untouched Core) ≡ untouched Core) where
   abbrev changed : Held
   changed = record h { pages = map page_to h.pages }
 
@@ -63,6 +66,10 @@ module _ (config : Configuration) (h : Held) (page_to : Page → Page) (frame_to
   owner-changed : (there : Option Page) → (frame_in (option_map page_to there)).owner ≡ (frame_in there).owner
   owner-changed None = refl
   owner-changed (Some page) = ap (λ (meta : PageRecord). meta.owner) (recorded page)
+
+  sparse-changed : (there : Option Page) → is_sparse (option_map page_to there) ≡ is_sparse there
+  sparse-changed None = refl
+  sparse-changed (Some page) = ap not (reserved page)
 
   some-changed : (there : Option Page) → is_some (option_map page_to there) ≡ is_some there
   some-changed None = refl
@@ -91,6 +98,7 @@ module _ (config : Configuration) (h : Held) (page_to : Page → Page) (frame_to
       vms = is.linked.vms;
       lists = lists-same (links_of h) (links_of changed) (ends_at h) (ends_at changed) (owner_at h) (owner_at changed) links-changed ends
           (λ f. ap (λ (there : Option Page). (frame_in there).owner) (page-changed f) ∙ owner-changed (page_at h f)) is.linked.lists;
+      room = room-kept h changed refl (λ f. ap is_sparse (page-changed f) ∙ sparse-changed (page_at h f)) is.linked.room;
     };
     whole = record {
       numbers = is.whole.numbers;
@@ -112,10 +120,10 @@ module _ (config : Configuration) (h : Held) (page_to : Page → Page) (frame_to
 
 -- all bytes are zeroed
 pub state-clean : (config : Configuration) (h : Held) → state_of config (record h { pages = map scrubbed_page h.pages }) ≡ wiped (state_of config h)
-state-clean config h = state-changed config h scrubbed_page wiped_frame (λ page. refl) (λ page. refl) refl
+state-clean config h = state-changed config h scrubbed_page wiped_frame (λ page. refl) (λ page. refl) (λ page. refl) refl
 
 pub core-clean : (config : Configuration) (h : Held) → IsCore config h → IsCore config (record h { pages = map scrubbed_page h.pages })
-core-clean config h is = core-changed config h scrubbed_page wiped_frame (λ page. refl) (λ page. refl) refl (lawful-wiped (state_of config h) is.lawful) is
+core-clean config h is = core-changed config h scrubbed_page wiped_frame (λ page. refl) (λ page. refl) (λ page. refl) refl (lawful-wiped (state_of config h) is.lawful) is
 
 -- the bytes of active VMs' pages are zeroed
 module _ (config : Configuration) (h : Held) (marks : List Bool) (active : (v : ℕ) → slice_index_or marks v false ≡ is_active (slot_at (state_of config h) v).phase) where
@@ -126,10 +134,21 @@ module _ (config : Configuration) (h : Held) (marks : List Bool) (active : (v : 
   page-blank (Vm v) = active v
 
   frame-blank : (page : Page) → frame_of (blank_page marks page) ≡ blank_frame (state_of config h) (frame_of page)
-  frame-blank page = ap (λ test. record (frame_of page) { bytes = cond test zero_page page.bytes }) (page-blank page.meta.owner)
+  frame-blank page = by_test (is_marked marks page.meta.owner) ∙ ap (λ test. record (frame_of page) { bytes = cond test zero_page page.bytes.bytes }) (page-blank page.meta.owner)
+    where
+      by_test : (test : Bool) → frame_of (record page { bytes = cond test (zeroed page.bytes) page.bytes }) ≡ record (frame_of page) { bytes = cond test zero_page page.bytes.bytes }
+      by_test true = refl
+      by_test false = refl
+
+  reserved-blank : (page : Page) → (blank_page marks page).bytes.is_reserved ≡ page.bytes.is_reserved
+  reserved-blank page = by_test (is_marked marks page.meta.owner)
+    where
+      by_test : (test : Bool) → (cond test (zeroed page.bytes) page.bytes).is_reserved ≡ page.bytes.is_reserved
+      by_test true = refl
+      by_test false = refl
 
   pub state-blank : state_of config (record h { pages = map (blank_page marks) h.pages }) ≡ blank_state (state_of config h)
-  state-blank = state-changed config h (blank_page marks) (blank_frame (state_of config h)) (λ page. refl) frame-blank refl
+  state-blank = state-changed config h (blank_page marks) (blank_frame (state_of config h)) (λ page. refl) frame-blank reserved-blank refl
 
   pub core-blank : IsCore config h → IsCore config (record h { pages = map (blank_page marks) h.pages })
-  core-blank is = core-changed config h (blank_page marks) (blank_frame (state_of config h)) (λ page. refl) frame-blank refl (audited_blank (state_of config h) [] is.lawful).lawful is
+  core-blank is = core-changed config h (blank_page marks) (blank_frame (state_of config h)) (λ page. refl) frame-blank reserved-blank refl (audited_blank (state_of config h) [] is.lawful).lawful is

@@ -14,12 +14,13 @@ use Rattle.kc_parts.specs.States.{state_of, here_of, owner_at, is_away, IsLinked
 use Rattle.kc_core.specs.declared.unserved.Unserved.{Unserved}
 use Rattle.kc_core.specs.declared.unserved.Unserved.TheVariants.{Refused, OutOfMemory}
 
--- the places of frames and of slots are the same, and so are the parts in them; frames of a list whose ends are
--- elsewhere keep their owner and their links
+-- the places of frames and of slots are the same, and so are the parts in them, and they are reserved as before; frames of a
+-- list whose ends are elsewhere keep their owner and their links
 pub record KeepsPlaces (old new : Held) : Type 0 where
   pub numbers : new.numbers ≡ old.numbers
   pub slots : new.vms.numbers ≡ old.vms.numbers
   pub filled : new.filled ≡ old.filled
+  pub reserved : new.is_reserved ≡ old.is_reserved
   pub here : (r : Resource) → here_of new r ≡ here_of old r
   pub away : (f : ℕ) → is_away old f ≡ true → (owner_at new f ≡ owner_at old f) × (links_of new f ≡ links_of old f)
 

@@ -3,7 +3,7 @@ use Rattle.std.specs.Prelude.{Bool, false, List, slice_index_or, if◌then◌els
 use Rattle.kc_types.specs.declared.owner.Owner.{Owner}
 use Rattle.kc_types.specs.declared.owner.Owner.TheVariants.{Vm}
 use Rattle.kc_page.specs.declared.page.Page.{Page}
-use Rattle.kc_model.specs.State.{zero_page}
+use Rattle.kc_page.specs.PageBytes.{zeroed}
 
 -- the owner is a VM whose slot has a mark
 abbrev pub is_marked : List Bool → Owner → Bool
@@ -12,4 +12,4 @@ is_marked marks _ = false
 
 -- the page, with zero bytes if such a VM owns it
 abbrev pub blank_page : List Bool → Page → Page
-blank_page marks page = record page { bytes = if is_marked marks page.meta.owner then zero_page else page.bytes }
+blank_page marks page = record page { bytes = if is_marked marks page.meta.owner then zeroed page.bytes else page.bytes }

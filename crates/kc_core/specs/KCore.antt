@@ -1,5 +1,5 @@
 -- What holds of a core's parts.
-use Rattle.std.specs.Prelude.{ℕ, ◌≡◌, Bool, true, false, if◌then◌else◌, is_none, length, Some, None}
+use Rattle.std.specs.Prelude.{ℕ, ◌≡◌, Bool, true, false, if◌then◌else◌, is_none, length, Option, Some, None}
 use Rattle.std.specs.Option.{option_map}
 use Rattle.kc_types.specs.Configuration.{Configuration}
 use Rattle.kc_types.specs.declared.owner.Owner.{Owner}
@@ -13,6 +13,20 @@ use Rattle.kc_model.specs.Lawful.{IsLawful}
 use Rattle.kc_parts.specs.Parts.{Held, page_at}
 use Rattle.kc_parts.specs.States.{state_of, IsLinked}
 use Rattle.kc_parts.specs.Booting.{IsWhole}
+
+-- a core as contracts see it: its state, and whether it is reserved, that is whether its pages always have memory; pages of a
+-- core that is not have none while their bytes are zero
+pub record SeenCore : Type 0 where
+  pub state : State
+  pub is_reserved : Bool
+
+-- the core that parts are
+abbrev pub core_of : Configuration → Held → SeenCore
+core_of config parts = record { state = state_of config parts; is_reserved = parts.is_reserved }
+
+-- the state of a core, if there is one
+abbrev pub state_in : Option SeenCore → Option State
+state_in core = option_map (λ (core : SeenCore). core.state) core
 
 -- all parts are here, linked, and those of a lawful state
 pub record IsCore (config : Configuration) (parts : Held) : Type 0 where

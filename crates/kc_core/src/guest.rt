@@ -1,7 +1,8 @@
 //! The calls of a virtual processor that read and write its guest frames.
 ghost use Rattle.std.specs.Prelude.{◌≡◌, ◌≤◌, ◌<◌, Some, None, true, IsSome, IsOk, IsErr, IfOk, OnErr};
 ghost use Rattle.kc_types.specs.Configuration.{gfns_of, slot_count};
-ghost use Rattle.kc_types.specs.ReplyBytes.{is_data, readable};
+ghost use Rattle.kc_types.specs.Limits.{page_size};
+ghost use Rattle.kc_types.specs.ReplyBytes.{is_data, may_lack, readable};
 ghost use Rattle.kc_types.specs.declared.call.Call.TheVariants.{GuestRead, GuestWrite};
 ghost use Rattle.kc_types.specs.declared.slot.Phase.TheVariants.{Active};
 ghost use Rattle.kc_types.specs.Refusals.{Answers};
@@ -11,14 +12,14 @@ ghost use Rattle.kc_model.specs.Effects.{with_fault};
 ghost use Rattle.kc_model.specs.Next.{next};
 ghost use Rattle.kc_parts.specs.Parts.{vm_at};
 ghost use Rattle.kc_parts.specs.States.{state_of, IsLinked};
-ghost use Rattle.kc_core.specs.Applying.{IsAble, IsAnswer, KeepsPlaces, reply_of, answer_of};
+ghost use Rattle.kc_core.specs.Applying.{IsAble, IsAnswer, KeepsPlaces, answer_of};
 ghost use Rattle.kc_core.specs.Guests.{IsAt};
 
 use crate::host::write_frame;
 use crate::naming::{GuestFrame, expect_vcpu, guest_frame};
 use crate::unserved::Unserved;
 use kc_parts::Parts;
-use kc_types::{Config, Data, FrameNo, PAGE_SIZE, Refusal, Reply, ReplyBuffer, VcpuId, VmId};
+use kc_types::{CallBuffer, Config, Data, FrameNo, PAGE_SIZE, Refusal, Reply, VcpuId, VmId};
 
 /// The guest frame of which a virtual processor may read or write `len` bytes from `offset` on, and the frame that is
 /// mapped there, if one is.
@@ -81,7 +82,7 @@ pub fn guest_read(
     gfn: u32,
     offset: u32,
     len: u32,
-    buffer: ReplyBuffer,
+    buffer: CallBuffer,
 ) -> Result<Reply, Unserved>
     requires { IsAble config.now parts.old (GuestRead vm vcpu gfn offset len) }
     ensures answer { IfOk (answer_of result) (IsAnswer config.now parts.old parts.new (GuestRead vm vcpu gfn offset len)) }
@@ -101,7 +102,8 @@ pub fn guest_read(
     Ok(Reply::Data(bytes))
 }
 
-/// Writes bytes to a guest frame that is mapped; if it is not, the virtual processor waits for it.
+/// Writes bytes to a guest frame that is mapped; if it is not, the virtual processor waits for it. `OutOfMemory` if memory for
+/// a sparse page runs out.
 pub fn guest_write(
     parts: &mut Parts,
     config: &Config,
@@ -110,9 +112,14 @@ pub fn guest_write(
     gfn: u32,
     offset: u32,
     bytes: &Data,
-) -> Result<Reply, Refusal>
+    buffer: CallBuffer,
+) -> Result<Reply, Unserved>
     requires { IsAble config.now parts.old (GuestWrite vm vcpu gfn offset bytes.now) }
-    ensures { IsAnswer config.now parts.old parts.new (GuestWrite vm vcpu gfn offset bytes.now) (reply_of result) }
+    ensures answer { IfOk (answer_of result) (IsAnswer config.now parts.old parts.new (GuestWrite vm vcpu gfn offset bytes.now)) }
+    ensures err { OnErr (answer_of result) (parts.new ≡ parts.old) }
+    ensures reserved { parts.old.is_reserved ≡ true → IsOk (answer_of result) }
+    ensures sparse { IsErr (answer_of result) → may_lack (GuestWrite vm vcpu gfn offset bytes.now) (next (state_of config.now parts.old) (GuestWrite vm vcpu gfn offset bytes.now)).0 ≡ true }
+    ensures fits { page_size ≤ buffer → IsOk (answer_of result) }
 {
     let size = bytes.as_slice().len() as u32;
     let (at, mapped) = accessed(parts, config, vm, vcpu, gfn, offset, size)?;
@@ -120,7 +127,7 @@ pub fn guest_write(
         set_fault(parts, config, at);
         return Ok(Reply::Fault(gfn));
     };
-    write_frame(parts, config, frame, offset, bytes);
+    write_frame(parts, config, frame, offset, bytes, buffer)?;
     spend_fault(parts, config, at.vm, at.vcpu);
     Ok(Reply::Done)
 }

@@ -1,7 +1,7 @@
 //! The host's calls on frames: taking and giving them, mapping, reading and writing.
-ghost use Rattle.std.specs.Prelude.{◌≡◌, ◌+◌, ◌≤◌, true, length, IsSome, IsOk, IsErr, IfOk};
+ghost use Rattle.std.specs.Prelude.{◌≡◌, ◌+◌, ◌≤◌, true, length, IsSome, IsOk, IsErr, IfOk, OnOk, OnErr};
 ghost use Rattle.kc_types.specs.Limits.{page_size};
-ghost use Rattle.kc_types.specs.ReplyBytes.{is_data, readable};
+ghost use Rattle.kc_types.specs.ReplyBytes.{is_data, may_lack, readable};
 ghost use Rattle.kc_types.specs.declared.call.Call.TheVariants.{Take, Give, HostFault, HostRead, HostWrite};
 ghost use Rattle.kc_types.specs.Refusals.{Answers};
 ghost use Rattle.kc_model.specs.Refusals.{refusal};
@@ -13,7 +13,9 @@ ghost use Rattle.kc_core.specs.Applying.{IsAble, IsAnswer, KeepsPlaces, reply_of
 
 use crate::unserved::Unserved;
 use kc_parts::Parts;
-use kc_types::{Config, Data, FrameNo, Owner, OwnerCode, PAGE_SIZE, Refusal, Reply, ReplyBuffer};
+use kc_types::{
+    CallBuffer, Config, Data, FrameNo, Memory, Owner, OwnerCode, PAGE_SIZE, Refusal, Reply,
+};
 
 /// Gives the host the first free frame.
 pub fn take(parts: &mut Parts, config: &Config) -> Result<Reply, Refusal>
@@ -113,7 +115,7 @@ pub fn host_read(
     frame: u32,
     offset: u32,
     len: u32,
-    buffer: ReplyBuffer,
+    buffer: CallBuffer,
 ) -> Result<Reply, Unserved>
     requires { IsAble config.now parts.now (HostRead frame offset len) }
     ensures answer { IfOk (answer_of result) (IsAnswer config.now parts.now parts.now (HostRead frame offset len)) }
@@ -126,31 +128,47 @@ pub fn host_read(
     Ok(Reply::Data(page.bytes.read(offset as usize, len as usize, buffer)))
 }
 
-/// Writes bytes to a frame, from `offset` on.
-pub fn write_frame(parts: &mut Parts, config: &Config, frame: FrameNo, offset: u32, bytes: &Data)
+/// Writes bytes to a frame, from `offset` on. `Memory` if memory for a sparse page runs out, and then nothing changes.
+pub fn write_frame(
+    parts: &mut Parts,
+    config: &Config,
+    frame: FrameNo,
+    offset: u32,
+    bytes: &Data,
+    buffer: CallBuffer,
+) -> Result<(), Memory>
     requires here { IsSome (page_at parts.old frame) }
     requires within { offset + length bytes.now ≤ page_size }
     requires linked { IsLinked config.now parts.old }
-    ensures state { state_of config.now parts.new ≡ written (state_of config.now parts.old) frame offset bytes.now }
+    ensures state { OnOk result (state_of config.now parts.new ≡ written (state_of config.now parts.old) frame offset bytes.now) }
     ensures linked { IsLinked config.now parts.new }
     ensures places { KeepsPlaces parts.old parts.new }
+    ensures err { OnErr result (parts.new ≡ parts.old) }
+    ensures reserved { parts.old.is_reserved ≡ true → IsOk result }
+    ensures fits { page_size ≤ buffer → IsOk result }
 {
     let page = parts.page_mut(frame);
-    page.bytes.write(offset as usize, bytes.as_slice());
+    page.bytes.write(offset as usize, bytes.as_slice(), buffer)?;
+    Ok(())
 }
 
-/// Writes bytes to a frame, from `offset` on.
+/// Writes bytes to a frame, from `offset` on. `OutOfMemory` if memory for a sparse page runs out.
 pub fn host_write(
     parts: &mut Parts,
     config: &Config,
     frame: u32,
     offset: u32,
     bytes: &Data,
-) -> Result<Reply, Refusal>
+    buffer: CallBuffer,
+) -> Result<Reply, Unserved>
     requires { IsAble config.now parts.old (HostWrite frame offset bytes.now) }
-    ensures { IsAnswer config.now parts.old parts.new (HostWrite frame offset bytes.now) (reply_of result) }
+    ensures answer { IfOk (answer_of result) (IsAnswer config.now parts.old parts.new (HostWrite frame offset bytes.now)) }
+    ensures err { OnErr (answer_of result) (parts.new ≡ parts.old) }
+    ensures reserved { parts.old.is_reserved ≡ true → IsOk (answer_of result) }
+    ensures sparse { IsErr (answer_of result) → may_lack (HostWrite frame offset bytes.now) (next (state_of config.now parts.old) (HostWrite frame offset bytes.now)).0 ≡ true }
+    ensures fits { page_size ≤ buffer → IsOk (answer_of result) }
 {
     let frame = present_frame(parts, config, frame, offset, bytes.as_slice().len() as u32)?;
-    write_frame(parts, config, frame, offset, bytes);
+    write_frame(parts, config, frame, offset, bytes, buffer)?;
     Ok(Reply::Done)
 }

@@ -37,14 +37,14 @@ fn turn_before(alloc: Global, phase: Phase, vm: u32) -> Event
 
 /// Whether there is a VM in a slot.
 fn is_taken(core: &KCore, vm: u32) -> bool
-    ensures { result ≡ is_taken core.now vm }
+    ensures { result ≡ is_taken core.now.state vm }
 {
     !same_phase(phase_at(core, vm), Phase::Empty)
 }
 
 /// Whether it has been measured.
 fn is_measured(core: &KCore, vm: u32) -> bool
-    ensures { result ≡ is_measured core.now vm }
+    ensures { result ≡ is_measured core.now.state vm }
 {
     is_taken(core, vm) && !same_phase(phase_at(core, vm), Phase::Booting)
 }
@@ -52,7 +52,7 @@ fn is_measured(core: &KCore, vm: u32) -> bool
 /// Appends the registering of each VM that is there.
 fn tell_taken(alloc: Global, core: &KCore, told: &mut Vec<Event>) -> Result<(), Memory>
     ensures { OnOk result
-        (told.new.items ≡ told.old.items ++ map (turn_before Phase.Booting) (slots_that is_taken core.now)) }
+        (told.new.items ≡ told.old.items ++ map (turn_before Phase.Booting) (slots_that is_taken core.now.state)) }
 {
     for vm in 0..core.config().slots() {
         if is_taken(core, vm) {
@@ -65,7 +65,7 @@ fn tell_taken(alloc: Global, core: &KCore, told: &mut Vec<Event>) -> Result<(), 
 /// Appends the change of each frame that is not as at boot.
 fn tell_moved(core: &KCore, told: &mut Vec<Event>) -> Result<(), Memory>
     ensures { OnOk result (told.new.items ≡ told.old.items
-        ++ map frame_before (frame_changes_by header_line (boot core.now.config) core.now)) }
+        ++ map frame_before (frame_changes_by header_line (boot core.now.state.config) core.now.state)) }
 {
     let config = core.config();
     for frame in 0..config.frames() {
@@ -86,7 +86,7 @@ fn tell_moved(core: &KCore, told: &mut Vec<Event>) -> Result<(), Memory>
 /// Appends the phase of each VM that has been measured.
 fn tell_measured(alloc: Global, core: &KCore, told: &mut Vec<Event>) -> Result<(), Memory>
     ensures { OnOk result (told.new.items ≡ told.old.items
-        ++ map (λ v. turn_before (slot_at core.now v).phase v) (slots_that is_measured core.now)) }
+        ++ map (λ v. turn_before (slot_at core.now.state v).phase v) (slots_that is_measured core.now.state)) }
 {
     for vm in 0..core.config().slots() {
         if is_measured(core, vm) {
@@ -101,7 +101,7 @@ fn tell_measured(alloc: Global, core: &KCore, told: &mut Vec<Event>) -> Result<(
 /// `Memory` if memory runs out.
 pub fn events_before(alloc: Global, core: &KCore) -> Result<Vec<Event>, Memory>
     // No clause can rule out that memory runs out: a test makes them.
-    ensures { IfOk result (λ told. told.items ≡ events_before core.now) }
+    ensures { IfOk result (λ told. told.items ≡ events_before core.now.state) }
 {
     let mut told = Vec::new(alloc);
     tell_taken(alloc, core, &mut told)?;

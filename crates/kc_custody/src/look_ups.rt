@@ -21,7 +21,7 @@ pub(crate) fn same_custody(a: &Custody, b: &Custody) -> bool
 
 /// The custody of a frame; one that does not exist is as one of the core's.
 pub fn custody_at(core: &KCore, frame: u32) -> Custody
-    ensures { result ≡ custody_at core.now frame }
+    ensures { result ≡ custody_at core.now.state frame }
 {
     match core.page_record(frame) {
         Some(record) => Custody {
@@ -46,7 +46,7 @@ pub(crate) fn same_phase(a: Phase, b: Phase) -> bool
 
 /// The phase of a slot; one that does not exist is empty.
 pub(crate) fn phase_at(core: &KCore, vm: u32) -> Phase
-    ensures { result ≡ (slot_at core.now vm).phase }
+    ensures { result ≡ (slot_at core.now.state vm).phase }
 {
     match core.phase(vm) {
         Some(phase) => phase,

@@ -33,7 +33,7 @@ fn named(alloc: Global, frame: u32) -> Result<Vec<u32>, Memory>
 
 /// The frames that are mapped at some guest frames.
 fn in_range(alloc: Global, core: &KCore, vm: u32, gfn: u32, count: u32) -> Result<Vec<u32>, Memory>
-    ensures { IfOk result (λ frames. frames.items ≡ mapped_in core.now vm gfn count) }
+    ensures { IfOk result (λ frames. frames.items ≡ mapped_in core.now.state vm gfn count) }
 {
     let mut frames = Vec::new(alloc);
     let gfns = core.config().version().gfns();
@@ -50,8 +50,8 @@ fn in_range(alloc: Global, core: &KCore, vm: u32, gfn: u32, count: u32) -> Resul
 
 /// The frames of a slot that exists.
 fn of_slot(alloc: Global, core: &KCore, config: &Config, vm: u32) -> Result<Vec<u32>, Memory>
-    requires { config.now ≡ core.now.config }
-    ensures { IfOk result (λ frames. frames.items ≡ listed_of core.now vm) }
+    requires { config.now ≡ core.now.state.config }
+    ensures { IfOk result (λ frames. frames.items ≡ listed_of core.now.state vm) }
 {
     match config.vm(vm) {
         Some(vm) => {
@@ -64,8 +64,8 @@ fn of_slot(alloc: Global, core: &KCore, config: &Config, vm: u32) -> Result<Vec<
 
 /// The frames whose custody a call may change; some may not exist, or be there twice.
 pub(crate) fn movable(alloc: Global, core: &KCore, call: &Call) -> Result<Vec<u32>, Memory>
-    ensures frames { IfOk result (λ frames. frames.items ≡ movable core.now call.now) }
-    ensures lawful { IsLawful core.now }
+    ensures frames { IfOk result (λ frames. frames.items ≡ movable core.now.state call.now) }
+    ensures lawful { IsLawful core.now.state }
 {
     let config = core.config();
     match call {

@@ -17,7 +17,7 @@ fn number(frame: Option<FrameNo>) -> Option<u32>
 
 /// The number of the frame that a call names, or that is mapped at the guest frame that it names, of a range at the first.
 fn number_named(core: &KCore, call: &Call) -> Option<u32>
-    ensures { result ≡ number_named core.now call.now }
+    ensures { result ≡ number_named core.now.state call.now }
 {
     match call {
         Call::Give { frame }
@@ -44,7 +44,7 @@ fn number_named(core: &KCore, call: &Call) -> Option<u32>
 
 /// The frame of this number, as it is now, if it exists.
 fn frame_named(core: &KCore, frame: u32) -> Option<NamedFrame>
-    ensures { result ≡ frame_named core.now (Some frame) }
+    ensures { result ≡ frame_named core.now.state (Some frame) }
 {
     match core.page_record(frame) {
         Some(record) => Some(NamedFrame {
@@ -58,7 +58,7 @@ fn frame_named(core: &KCore, frame: u32) -> Option<NamedFrame>
 
 /// The frame that a call names, as it is now, if it exists.
 pub(crate) fn named_by(core: &KCore, call: &Call) -> Option<NamedFrame>
-    ensures { result ≡ named_by core.now call.now }
+    ensures { result ≡ named_by core.now.state call.now }
 {
     match number_named(core, call) {
         Some(frame) => frame_named(core, frame),

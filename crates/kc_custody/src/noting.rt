@@ -25,9 +25,9 @@ pub fn note_call(
     line: u32,
     notes: &mut Vec<Note>,
 ) -> Result<Reply, Memory>
-    ensures reply { IfOk result (λ reply. reply ≡ (next core.old call.now).0) }
-    ensures state { OnOk result (core.new ≡ (next core.old call.now).1) }
-    ensures notes { OnOk result (notes.new.items ≡ notes.old.items ++ notes_by line core.old call.now) }
+    ensures reply { IfOk result (λ reply. reply ≡ (next core.old.state call.now).0) }
+    ensures state { OnOk result (core.new.state ≡ (next core.old.state call.now).1) }
+    ensures notes { OnOk result (notes.new.items ≡ notes.old.items ++ notes_by line core.old.state call.now) }
 {
     let named = named_by(core, call);
     let mut events = Vec::new(alloc);
@@ -51,11 +51,11 @@ pub fn note_calls(
 ) -> Result<(), Memory>
     requires lines { first + length calls.now < 2 ^ 32 }
     requires counts { denials.old.total + length calls.now < 2 ^ 32 }
-    ensures notes { OnOk result (notes.new.items ≡ notes.old.items ++ notes_from first core.old calls.now) }
-    ensures state { OnOk result (core.new ≡ state_after core.old calls.now) }
-    ensures denied { OnOk result (denials.new.total ≡ denials.old.total + length (filter is_denied (notes_from first core.old calls.now))) }
+    ensures notes { OnOk result (notes.new.items ≡ notes.old.items ++ notes_from first core.old.state calls.now) }
+    ensures state { OnOk result (core.new.state ≡ state_after core.old.state calls.now) }
+    ensures denied { OnOk result (denials.new.total ≡ denials.old.total + length (filter is_denied (notes_from first core.old.state calls.now))) }
     ensures few { OnOk result (denials.new.total ≤ denials.old.total + length calls.now) }
-    ensures counted { OnOk result ((replies : List Reply) → Counts replies denials.old → Counts (replies ++ replies_from core.old calls.now) denials.new) }
+    ensures counted { OnOk result ((replies : List Reply) → Counts replies denials.old → Counts (replies ++ replies_from core.old.state calls.now) denials.new) }
 {
     for (i, call) in calls.iter().enumerate() {
         let reply = note_call(alloc, core, call, first + i as u32, notes)?;
@@ -75,10 +75,10 @@ pub fn summarize_call(
     lives: &mut Lives,
     attempts: &mut Vec<Attempt>,
 ) -> Result<Reply, Memory>
-    ensures reply { IfOk result (λ reply. reply ≡ (next core.old call.now).0) }
-    ensures state { OnOk result (core.new ≡ (next core.old call.now).1) }
-    ensures lives { OnOk result (NotesAll (events_by line core.old call.now) lives.old lives.new) }
-    ensures attempts { OnOk result (attempts.new.items ≡ attempts.old.items ++ attempts_in (notes_by line core.old call.now)) }
+    ensures reply { IfOk result (λ reply. reply ≡ (next core.old.state call.now).0) }
+    ensures state { OnOk result (core.new.state ≡ (next core.old.state call.now).1) }
+    ensures lives { OnOk result (NotesAll (events_by line core.old.state call.now) lives.old lives.new) }
+    ensures attempts { OnOk result (attempts.new.items ≡ attempts.old.items ++ attempts_in (notes_by line core.old.state call.now)) }
 {
     let named = named_by(core, call);
     let mut events = Vec::new(alloc);
@@ -104,12 +104,12 @@ pub fn summarize_calls(
 ) -> Result<(), Memory>
     requires lines { first + length calls.now < 2 ^ 32 }
     requires counts { denials.old.total + length calls.now < 2 ^ 32 }
-    ensures lives { OnOk result (NotesAll (events_from first core.old calls.now) lives.old lives.new) }
-    ensures attempts { OnOk result (attempts.new.items ≡ attempts.old.items ++ attempts_in (notes_from first core.old calls.now)) }
-    ensures state { OnOk result (core.new ≡ state_after core.old calls.now) }
-    ensures denied { OnOk result (denials.new.total ≡ denials.old.total + length (filter is_denied (notes_from first core.old calls.now))) }
+    ensures lives { OnOk result (NotesAll (events_from first core.old.state calls.now) lives.old lives.new) }
+    ensures attempts { OnOk result (attempts.new.items ≡ attempts.old.items ++ attempts_in (notes_from first core.old.state calls.now)) }
+    ensures state { OnOk result (core.new.state ≡ state_after core.old.state calls.now) }
+    ensures denied { OnOk result (denials.new.total ≡ denials.old.total + length (filter is_denied (notes_from first core.old.state calls.now))) }
     ensures few { OnOk result (denials.new.total ≤ denials.old.total + length calls.now) }
-    ensures counted { OnOk result ((replies : List Reply) → Counts replies denials.old → Counts (replies ++ replies_from core.old calls.now) denials.new) }
+    ensures counted { OnOk result ((replies : List Reply) → Counts replies denials.old → Counts (replies ++ replies_from core.old.state calls.now) denials.new) }
 {
     for (i, call) in calls.iter().enumerate() {
         let reply = summarize_call(alloc, core, call, first + i as u32, lives, attempts)?;

@@ -37,7 +37,7 @@ pub(crate) fn marks_of(
     line: u32,
     frames: &[u32],
 ) -> Result<Vec<FrameChange>, Memory>
-    ensures { IfOk result (λ marks. marks.items ≡ map (mark_of line core.now) frames.now) }
+    ensures { IfOk result (λ marks. marks.items ≡ map (mark_of line core.now.state) frames.now) }
 {
     let mut marks = Vec::with_capacity(alloc, frames.len())?;
     for frame in frames {
@@ -55,7 +55,7 @@ pub(crate) fn marks_of(
 
 /// The slot whose phase a call may change, before it.
 fn phase_mark(alloc: Global, core: &KCore, line: u32, call: &Call) -> Option<PhaseChange>
-    ensures { result ≡ option_map (phase_mark line core.now) (turning call.now) }
+    ensures { result ≡ option_map (phase_mark line core.now.state) (turning call.now) }
 {
     let vm = turning(call)?;
     Some(PhaseChange {
@@ -68,7 +68,7 @@ fn phase_mark(alloc: Global, core: &KCore, line: u32, call: &Call) -> Option<Pha
 
 /// The VM whose frame the host reads or writes.
 fn accessed(core: &KCore, call: &Call) -> Option<u32>
-    ensures { result ≡ accessed core.now call.now }
+    ensures { result ≡ accessed core.now.state call.now }
 {
     match call {
         Call::HostRead { frame, .. } | Call::HostWrite { frame, .. } => vm_of(
@@ -98,7 +98,7 @@ fn tell_access(call: &Call, vm: Option<u32>, reply: &Reply, told: &mut Vec<Event
 /// Tells of each mark whose frame's custody differs now. There is room for all of them.
 fn tell_frames(core: &KCore, marks: &[FrameChange], told: &mut Vec<Event>)
     requires { vec_len told.old + length marks.now ≤ vec_capacity told.old }
-    ensures items { told.new.items ≡ told.old.items ++ map frame_event (filter differs (map (settled core.now) marks.now)) }
+    ensures items { told.new.items ≡ told.old.items ++ map frame_event (filter differs (map (settled core.now.state) marks.now)) }
     ensures len { vec_len told.new ≤ vec_len told.old + length marks.now }
     ensures capacity { vec_capacity told.old ≤ vec_capacity told.new }
 {
@@ -121,7 +121,7 @@ fn tell_phase(
     told: &mut Vec<Event>,
 )
     requires { vec_len told.old + 1 ≤ vec_capacity told.old }
-    ensures { told.new.items ≡ told.old.items ++ phase_told core.now images mark }
+    ensures { told.new.items ≡ told.old.items ++ phase_told core.now.state images mark }
 {
     let Some(mut change) = mark else {
         return;
@@ -136,9 +136,9 @@ fn tell_phase(
 
 /// Makes a call: its reply, and the images that it measured, which are none but for `verify`.
 fn make(alloc: Global, core: &mut KCore, call: &Call) -> Result<(Reply, MeasuredImages), Memory>
-    ensures reply { IfOk result (λ made. made.0 ≡ (next core.old call.now).0) }
-    ensures images { IfOk result (λ made. made.1 ≡ images_by core.old call.now) }
-    ensures state { OnOk result (core.new ≡ (next core.old call.now).1) }
+    ensures reply { IfOk result (λ made. made.0 ≡ (next core.old.state call.now).0) }
+    ensures images { IfOk result (λ made. made.1 ≡ images_by core.old.state call.now) }
+    ensures state { OnOk result (core.new.state ≡ (next core.old.state call.now).1) }
     ensures err { OnErr result (core.new ≡ core.old) }
 {
     match call {
@@ -163,9 +163,9 @@ pub fn tell_call(
     line: u32,
     told: &mut Vec<Event>,
 ) -> Result<Reply, Memory>
-    ensures reply { IfOk result (λ reply. reply ≡ (next core.old call.now).0) }
-    ensures state { OnOk result (core.new ≡ (next core.old call.now).1) }
-    ensures told { OnOk result (told.new.items ≡ told.old.items ++ events_by line core.old call.now) }
+    ensures reply { IfOk result (λ reply. reply ≡ (next core.old.state call.now).0) }
+    ensures state { OnOk result (core.new.state ≡ (next core.old.state call.now).1) }
+    ensures told { OnOk result (told.new.items ≡ told.old.items ++ events_by line core.old.state call.now) }
     ensures err { OnErr result ((core.new ≡ core.old) × (told.new.items ≡ told.old.items)) }
 {
     let mut frames = movable(alloc, core, call)?;
@@ -193,11 +193,11 @@ pub fn tell_calls(
 ) -> Result<(), Memory>
     requires lines { first + length calls.now < 2 ^ 32 }
     requires counts { denials.old.total + length calls.now < 2 ^ 32 }
-    ensures told { OnOk result (told.new.items ≡ told.old.items ++ events_from first core.old calls.now) }
-    ensures state { OnOk result (core.new ≡ state_after core.old calls.now) }
-    ensures denied { OnOk result (denials.new.total ≡ denials.old.total + length (filter is_denied (notes_from first core.old calls.now))) }
+    ensures told { OnOk result (told.new.items ≡ told.old.items ++ events_from first core.old.state calls.now) }
+    ensures state { OnOk result (core.new.state ≡ state_after core.old.state calls.now) }
+    ensures denied { OnOk result (denials.new.total ≡ denials.old.total + length (filter is_denied (notes_from first core.old.state calls.now))) }
     ensures few { OnOk result (denials.new.total ≤ denials.old.total + length calls.now) }
-    ensures counted { OnOk result ((replies : List Reply) → Counts replies denials.old → Counts (replies ++ replies_from core.old calls.now) denials.new) }
+    ensures counted { OnOk result ((replies : List Reply) → Counts replies denials.old → Counts (replies ++ replies_from core.old.state calls.now) denials.new) }
 {
     for (i, call) in calls.iter().enumerate() {
         let reply = tell_call(alloc, core, call, first + i as u32, told)?;

@@ -27,8 +27,8 @@ fn number_of(frame: Option<FrameNo>) -> Option<u32>
 /// The frame that a call may change, or none, of a call that may change one at most; `None` of a call that may change
 /// several. So most calls need no vector of frames.
 fn only_frame(core: &KCore, call: &Call) -> Option<Option<u32>>
-    ensures only { IfSome result (λ frame. movable core.now call.now ≡ option_to_list frame) }
-    ensures lawful { IsLawful core.now }
+    ensures only { IfSome result (λ frame. movable core.now.state call.now ≡ option_to_list frame) }
+    ensures lawful { IsLawful core.now.state }
 {
     let _config = core.config();
     match call {
@@ -58,7 +58,7 @@ fn note_frame(
     frame: u32,
     marks: &mut Vec<FrameChange>,
 ) -> Result<(), Memory>
-    ensures { OnOk result (marks.new.items ≡ marks.old.items ++ mark_of line core.now frame ∷ []) }
+    ensures { OnOk result (marks.new.items ≡ marks.old.items ++ mark_of line core.now.state frame ∷ []) }
 {
     let before = custody_at(core, frame);
     let after = before;
@@ -78,7 +78,7 @@ fn several_marks(
     call: &Call,
     line: u32,
 ) -> Result<Vec<FrameChange>, Memory>
-    ensures { IfOk result (λ marks. changed_from (next core.now call.now).1 marks.items ≡ frame_changes_by line core.now (next core.now call.now).1) }
+    ensures { IfOk result (λ marks. changed_from (next core.now.state call.now).1 marks.items ≡ frame_changes_by line core.now.state (next core.now.state call.now).1) }
 {
     let mut frames = movable(alloc, core, call)?;
     sort_once(&mut frames);
@@ -96,7 +96,7 @@ pub fn note_marks(
     marks: &mut Vec<FrameChange>,
 ) -> Result<(), Memory>
     requires { marks.old.items ≡ [] }
-    ensures { OnOk result (changed_from (next core.now call.now).1 marks.new.items ≡ frame_changes_by line core.now (next core.now call.now).1) }
+    ensures { OnOk result (changed_from (next core.now.state call.now).1 marks.new.items ≡ frame_changes_by line core.now.state (next core.now.state call.now).1) }
 {
     match only_frame(core, call) {
         Some(Some(frame)) => note_frame(core, line, frame, marks),
@@ -111,7 +111,7 @@ pub fn note_marks(
 /// Adds the marks whose frame's custody differs now, with what it is now. There is room for all of them.
 pub fn tell_marks(core: &KCore, marks: &[FrameChange], told: &mut Vec<FrameChange>)
     requires { vec_len told.old + length marks.now ≤ vec_capacity told.old }
-    ensures { told.new.items ≡ told.old.items ++ changed_from core.now marks.now }
+    ensures { told.new.items ≡ told.old.items ++ changed_from core.now.state marks.now }
 {
     for mark in marks {
         let change = FrameChange {

@@ -2,6 +2,7 @@
 use Rattle.std.specs.Prelude.{ℕ, List}
 use Rattle.sha2.specs.Sha256.{sha256}
 use Rattle.kc_page.specs.declared.page.Page.{Page}
+use Rattle.kc_page.specs.PageBytes.{Content}
 
 -- the SHA-256 of a page whose bytes `bytes` gives
 abbrev pub digest_by : {P : Type 0} → (P → List ℕ) → P → List ℕ
@@ -9,4 +10,8 @@ digest_by bytes page = sha256 (bytes page)
 
 -- the SHA-256 of the page's bytes
 abbrev pub digest_of : Page → List ℕ
-digest_of page = sha256 page.bytes
+digest_of page = sha256 page.bytes.bytes
+
+-- the same of a page without a record
+abbrev pub digest_of_bytes : Content → List ℕ
+digest_of_bytes page = sha256 page.bytes

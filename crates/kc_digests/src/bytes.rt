@@ -9,11 +9,11 @@ pub(crate) trait Bytes {
     ghost bytes: { Self → List ℕ };
 
     fn bytes(&self) -> &PageBytes
-        ensures { result.now ≡ bytes self.now };
+        ensures { result.now.bytes ≡ bytes self.now };
 }
 
 impl Bytes for PageBytes {
-    ghost bytes = { λ page. page };
+    ghost bytes = { λ page. page.bytes };
 
     fn bytes(&self) -> &PageBytes {
         self
@@ -21,7 +21,7 @@ impl Bytes for PageBytes {
 }
 
 impl Bytes for Page {
-    ghost bytes = { λ page. page.bytes };
+    ghost bytes = { λ page. page.bytes.bytes };
 
     fn bytes(&self) -> &PageBytes {
         &self.bytes

@@ -3,7 +3,7 @@ ghost use Rattle.std.specs.Prelude.{◌≡◌, ◌↔◌, ◌+◌, ◌<◌, ◌�
 ghost use Rattle.sha2.specs.Sha256.{sha256};
 ghost use Rattle.kc_types.specs.Limits.{page_size};
 ghost use Rattle.kc_model.specs.State.{zero_page};
-ghost use Rattle.kc_digests.specs.Digests.{digest_by, digest_of};
+ghost use Rattle.kc_digests.specs.Digests.{digest_by, digest_of, digest_of_bytes};
 
 use crate::bytes::Bytes;
 use crate::measure::{BLOCK, lane_digest, last_blocks, run_blocks};
@@ -179,7 +179,7 @@ pub fn bytes_digests(
     lanes: Lanes,
 ) -> Result<Vec<[u8; 32]>, Memory>
     // No clause can rule out that memory runs out: a test hashes pages.
-    ensures { IfOk result (λ digests. digests.items ≡ map sha256 pages.now) }
+    ensures { IfOk result (λ digests. digests.items ≡ map digest_of_bytes pages.now) }
 {
     digests(rt, alloc, pages, lanes)
 }

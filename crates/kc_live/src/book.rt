@@ -200,9 +200,9 @@ impl Model for History {
 
     ghost coded = { Prim.hlevel (codes, map.code {R = nat_cmp} coded_ℕ coded_ℕ) };
 
-    ghost view = { λ h. record { header = h.volume.header; log = log h.volume.number h.volume.entries h.core } };
+    ghost view = { λ h. record { header = h.volume.header; log = log h.volume.number h.volume.entries h.core.state } };
 
-    ghost invariant = { λ h. IsKept (record { header = h.volume.header; log = log h.volume.number h.volume.entries h.core }) };
+    ghost invariant = { λ h. IsKept (record { header = h.volume.header; log = log h.volume.number h.volume.entries h.core.state }) };
 }
 
 impl History {
@@ -219,7 +219,7 @@ impl History {
 
     /// The core as the calls left it.
     pub fn core(&self) -> &KCore
-        ensures { result.now ≡ self.now.log.state }
+        ensures { result.now.state ≡ self.now.log.state }
     {
         &self.core
     }
@@ -227,7 +227,7 @@ impl History {
     /// The last volume, and the core as its calls left it.
     pub fn into_parts(self) -> (Volume, KCore)
         ensures volume { result.0 ≡ volume_in self }
-        ensures core { result.1 ≡ self.log.state }
+        ensures core { result.1.state ≡ self.log.state }
     {
         let History { volume, core } = self;
         (volume, core)

@@ -173,9 +173,9 @@ impl Model for Journal {
 
     ghost coded = { Prim.hlevel (codes, map.code {R = nat_cmp} coded_ℕ coded_ℕ) };
 
-    ghost view = { λ j. record { header = j.header; log = log j.volume j.entries.items j.core } };
+    ghost view = { λ j. record { header = j.header; log = log j.volume j.entries.items j.core.state } };
 
-    ghost invariant = { λ j. IsServed (log j.volume j.entries.items j.core) × (call_limit ≤ vec_capacity j.entries)
+    ghost invariant = { λ j. IsServed (log j.volume j.entries.items j.core.state) × (call_limit ≤ vec_capacity j.entries)
         × (j.seen ≤ length j.entries.items) × HasSeen j.witness j.header (calls_of (take j.seen j.entries.items)) × MayRecord j.header };
 }
 
@@ -183,10 +183,10 @@ impl Journal {
     /// Begins the first volume of a core, which has this position or none: makes room for as many calls as there can be.
     /// `Memory` if memory runs out.
     pub fn of(alloc: Global, core: KCore, position: Option<Position>) -> Result<Journal, Memory>
-        requires lawful { IsLawful core }
-        requires header { MayRecord (header_at core.config position) }
+        requires lawful { IsLawful core.state }
+        requires header { MayRecord (header_at core.state.config position) }
         // No clause can rule out that memory runs out: tests keep journals.
-        ensures { IfOk result (λ journal. journal ≡ new_recording position core) }
+        ensures { IfOk result (λ journal. journal ≡ new_recording position core.state) }
     {
         let header = header_at(core.config(), position)?;
         Ok(Journal {
@@ -301,7 +301,7 @@ impl Journal {
 
     /// The core as the calls so far left it.
     pub fn core(&self) -> &KCore
-        ensures { result.now ≡ self.now.log.state }
+        ensures { result.now.state ≡ self.now.log.state }
     {
         &self.core
     }
@@ -309,7 +309,7 @@ impl Journal {
     /// Ends with the volume's number, its header, its calls with their replies, and the core as they left it.
     pub fn into_parts(self) -> (u64, Header, Vec<Entry>, KCore)
         ensures header { result.1 ≡ self.header }
-        ensures log { log result.0 result.2.items result.3 ≡ self.log }
+        ensures log { log result.0 result.2.items result.3.state ≡ self.log }
     {
         let Journal {
             core,

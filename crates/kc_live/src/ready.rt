@@ -5,7 +5,7 @@ ghost use Rattle.kc_live.specs.Book.{entry};
 
 use crate::receipt::{Entry, Receipt};
 use kc_core::KCore;
-use kc_types::{Call, Memory, ReplyBuffer};
+use kc_types::{Call, CallBuffer, Memory};
 use std::alloc::Global;
 use std::marker::Model;
 
@@ -16,8 +16,8 @@ pub struct Ready {
     alloc: Global,
     call: Call,
     copy: Call,
-    buffer: ReplyBuffer,
-    copy_buffer: ReplyBuffer,
+    buffer: CallBuffer,
+    copy_buffer: CallBuffer,
 }
 
 impl Model for Ready {
@@ -38,7 +38,7 @@ impl Ready {
         ensures { IfOk result (λ ready. ready ≡ call) }
     {
         let (call, copy) = call.share(alloc)?;
-        let buffer = call.reply_buffer(alloc)?;
+        let buffer = call.buffer(alloc)?;
         let copy_buffer = call.reply_buffer(alloc)?;
         Ok(Ready {
             alloc,
@@ -52,9 +52,9 @@ impl Ready {
     /// Makes the call of a core, for which memory cannot run out, and gives what the history keeps of it, and the receipt,
     /// with this place in this volume.
     pub fn make(self, core: &mut KCore, volume: u64, number: u32) -> (Entry, Receipt)
-        ensures entry { result.0 ≡ entry self (next core.old self).0 }
-        ensures receipt { result.1 ≡ record { volume = volume; number = number; call = self; reply = (next core.old self).0 } }
-        ensures state { core.new ≡ (next core.old self).1 }
+        ensures entry { result.0 ≡ entry self (next core.old.state self).0 }
+        ensures receipt { result.1 ≡ record { volume = volume; number = number; call = self; reply = (next core.old.state self).0 } }
+        ensures state { core.new.state ≡ (next core.old.state self).1 }
     {
         let Ready {
             alloc,

@@ -5,7 +5,7 @@ use Rattle.std.proofs.lemmas.List.{take-replicate, drop-replicate, replicate-app
 use Rattle.kc_model.specs.Bytes.{as_bytes}
 use Rattle.kc_model.specs.State.{zero_page, overwritten}
 use Rattle.kc_model.proofs.States.ZeroPage.{zero_page-replicate, length-zero_page}
-use Rattle.kc_page.specs.PageBytes.{filled_from, IsHeld, zeroed_from}
+use Rattle.kc_page.specs.PageBytes.{Room, Content, filled_from, IsHeld, zeroed_from}
 
 -- zeroing the end of a page of zero bytes changes nothing
 pub zeroed_zero_page : (n : ℕ) → n ≤ 4096 → zero_page ≡ zeroed_from zero_page n
@@ -35,9 +35,20 @@ pub filled_as : (bytes : List ℕ) → length bytes ≡ 4096 → filled_from byt
 filled_as [] whole = absurd (omega (arith, whole))
 filled_as (byte ∷ bytes) whole = refl
 
-pub held_whole : (is_zero : Bool) (bytes : List ℕ) → IsHeld is_zero bytes → length (filled_from bytes) ≡ 4096
-held_whole true bytes held = ap length (held.zeros refl) ∙ length-zero_page
-held_whole false bytes held = let whole = held.whole refl in ap length (filled_as bytes whole) ∙ whole
+pub held_whole : (is_zero is_reserved : Bool) (memory : Room) → IsHeld is_zero is_reserved memory → length (filled_from memory.bytes) ≡ 4096
+held_whole true is_reserved memory held = ap length (held.zeros refl) ∙ length-zero_page
+held_whole false is_reserved memory held = let whole = held.whole refl in ap length (filled_as memory.bytes whole) ∙ whole
+
+-- memory without room is that of a page that is known to be zero
+pub roomless : (is_zero is_reserved : Bool) (memory : Room) → IsHeld is_zero is_reserved memory → memory.has_room ≡ false → filled_from memory.bytes ≡ zero_page
+roomless true is_reserved memory held none = held.zeros refl
+roomless false is_reserved memory held none = let some = sym none ∙ held.filled refl in cc
+
+pub room-is : {a b : Room} → a.bytes ≡ b.bytes → a.has_room ≡ b.has_room → a ≡ b
+room-is bytes room = λ i. record { bytes = bytes i; has_room = room i }
+
+pub content-is : {a b : Content} → a.bytes ≡ b.bytes → a.is_reserved ≡ b.is_reserved → a ≡ b
+content-is bytes reserved = λ i. record { bytes = bytes i; is_reserved = reserved i }
 
 pub overwritten_whole : (page : List ℕ) (n : ℕ) (bytes : List ℕ) → length page ≡ 4096 → n + length bytes ≤ 4096 → length (overwritten page n bytes) ≡ 4096
 overwritten_whole page n bytes whole within = simp (length-append, length-map, length-take, length-drop) (omega (arith, whole, within))

@@ -2,12 +2,13 @@
 use Rattle.std.specs.Prelude.{ℕ, ◌≡◌}
 use Rattle.kc_page.specs.declared.page.Page.{Page}
 use Rattle.kc_page.specs.declared.page.PageRecord.{PageRecord}
-use Rattle.kc_model.specs.State.{State, Frame, frame_at, zero_page}
+use Rattle.kc_page.specs.PageBytes.{zeroed}
+use Rattle.kc_model.specs.State.{State, Frame, frame_at}
 use Rattle.kc_model.specs.Links.{link_at}
 
 -- the page with zero bytes
 abbrev pub scrubbed_page : Page → Page
-scrubbed_page page = record page { bytes = zero_page }
+scrubbed_page page = record page { bytes = zeroed page.bytes }
 
 -- a page as a frame of the state, without its links
 abbrev pub frame_of : Page → Frame
@@ -16,7 +17,7 @@ frame_of page = record {
   share = page.meta.share;
   gfn = page.meta.gfn;
   present = page.meta.present;
-  bytes = page.bytes;
+  bytes = page.bytes.bytes;
 }
 
 -- the record is that of the frame in the state, with its neighbours in the list of its owner

@@ -1,36 +1,37 @@
 //! The bytes of a page, the page, and many of them.
-ghost use Rattle.std.specs.Prelude.{◌≡◌, ℕ, ◌+◌, ◌<◌, ◌≤◌, ◌↔◌, List, length, map, replicate, slice_range, true, IsTrue, IfOk};
+ghost use Rattle.std.specs.Prelude.{◌≡◌, ℕ, ◌+◌, ◌<◌, ◌≤◌, ◌↔◌, List, length, map, replicate, slice_range, true, false, IsTrue, IfOk, IsOk, OnOk, OnErr};
 ghost use Rattle.kc_types.specs.Limits.{page_size};
 ghost use Rattle.kc_model.specs.State.{zero_page, overwritten};
 ghost use Rattle.kc_page.specs.Page.{scrubbed_page};
-ghost use Rattle.kc_page.specs.PageBytes.{zeroed_from};
+ghost use Rattle.kc_page.specs.PageBytes.{zeroed, zeroed_from};
 
 use crate::page_memory::{PageMemory, ZEROS};
-use kc_types::{Data, MaybeFrame, MaybeGfn, Memory, OwnerCode, PAGE_SIZE, ReplyBuffer};
+use kc_types::{CallBuffer, Data, MaybeFrame, MaybeGfn, Memory, OwnerCode};
 use rayon::prelude::par_chunks_mut_for_each;
 use std::alloc::Global;
 use std::marker::Model;
 use std::thread::Threads;
 
-/// The 4,096 bytes of a page, seen as a list. They lie on the heap, so that a page moves as a few words.
+/// The 4,096 bytes of a page, reserved or sparse. They lie on the heap, so that a page moves as a few words.
 ///
-/// The memory is there from the start. Until the first write it is fresh and the page counts as zero, so a page that is
-/// never written is never zeroed; nor is one that is known to be zero. Bytes that were written are zeroed before their
-/// memory is given back, even if the page is dropped.
+/// A reserved page always has memory. A sparse one has none while its bytes are zero: it takes the buffer of the call that
+/// first writes others, and gives it back when it is scrubbed. Until the first write the memory is fresh and the page counts
+/// as zero, so a page that is never written is never zeroed; nor is one that is known to be zero. Bytes that were written are
+/// zeroed before their memory is given back, even if the page is dropped.
 pub struct PageBytes {
     memory: PageMemory,
     is_zero: bool,
+    is_reserved: bool,
 }
 
 impl Model for PageBytes {
-    ghost use Rattle.std.specs.Prelude.{ℕ, List};
-    ghost use Rattle.kc_page.specs.PageBytes.{filled_from, IsHeld};
+    ghost use Rattle.kc_page.specs.PageBytes.{Content, filled_from, IsHeld};
 
-    ghost Value = { List ℕ };
+    ghost Value = { Content };
 
-    ghost view = { λ p. filled_from p.memory };
+    ghost view = { λ p. record { bytes = filled_from p.memory.bytes; is_reserved = p.is_reserved } };
 
-    ghost invariant = { λ p. IsHeld p.is_zero p.memory };
+    ghost invariant = { λ p. IsHeld p.is_zero p.is_reserved p.memory };
 }
 
 /// Whether all bytes, at most a page of them, are zero.
@@ -52,83 +53,110 @@ impl Drop for PageBytes {
 impl PageBytes {
     /// Frees a page whose bytes are zero; no other function frees one.
     fn let_go(self)
-        requires { self ≡ zero_page }
+        requires { self.bytes ≡ zero_page }
     {
-        let PageBytes { memory, is_zero: _ } = self;
+        let PageBytes {
+            memory,
+            is_zero: _,
+            is_reserved: _,
+        } = self;
         memory.end();
     }
 
-    /// Makes a page of zero bytes; `Memory` if memory runs out.
-    pub fn zeroed(alloc: Global) -> Result<PageBytes, Memory>
+    /// Makes a reserved page of zero bytes; `Memory` if memory runs out.
+    pub fn reserved(alloc: Global) -> Result<PageBytes, Memory>
         // No clause can rule out that memory runs out: tests make pages.
-        ensures { IfOk result (λ page. page ≡ zero_page) }
+        ensures { IfOk result (λ page. page ≡ record { bytes = zero_page; is_reserved = true }) }
     {
         Ok(PageBytes {
             memory: PageMemory::fresh(alloc)?,
             is_zero: true,
+            is_reserved: true,
         })
+    }
+
+    /// Makes a sparse page of zero bytes, which takes no memory.
+    pub fn sparse(alloc: Global) -> PageBytes
+        ensures { result ≡ record { bytes = zero_page; is_reserved = false } }
+    {
+        PageBytes {
+            memory: PageMemory::none(alloc),
+            is_zero: true,
+            is_reserved: false,
+        }
     }
 
     /// All bytes.
     pub fn as_slice(&self) -> &[u8]
-        ensures value { result.now ≡ self.now }
-        ensures whole { length self.now ≡ page_size }
+        ensures value { result.now ≡ self.now.bytes }
+        ensures whole { length self.now.bytes ≡ page_size }
     {
         self.memory.as_slice()
     }
 
     /// Whether all bytes are known to be zero. If zeros were written, they are not known to be.
     pub fn is_known_zero(&self) -> bool
-        ensures { result ≡ true → self.now ≡ zero_page }
+        ensures { result ≡ true → self.now.bytes ≡ zero_page }
     {
         self.is_zero
     }
 
     /// Whether all bytes are zero; they are not read if that is known.
     pub fn is_zero(&self) -> bool
-        ensures { IsTrue result ↔ (self.now ≡ zero_page) }
+        ensures { IsTrue result ↔ (self.now.bytes ≡ zero_page) }
     {
         self.is_known_zero() || are_zero(self.as_slice())
     }
 
     /// Copies `len` bytes from `offset` on into a buffer made before, which takes no memory.
-    pub fn read(&self, offset: usize, len: usize, buffer: ReplyBuffer) -> Data
+    pub fn read(&self, offset: usize, len: usize, buffer: CallBuffer) -> Data
         requires some { 0 < len }
         requires within { offset + len ≤ page_size }
         requires fits { len ≤ buffer }
-        ensures { result ≡ slice_range self.now offset (offset + len) }
+        ensures { result ≡ slice_range self.now.bytes offset (offset + len) }
     {
         buffer.filled(&self.as_slice()[offset..offset + len])
     }
 
-    /// Writes these bytes from `offset` on. A page that is known to be zero stays so if they are zeros.
-    pub fn write(&mut self, offset: usize, bytes: &[u8])
+    /// Writes these bytes from `offset` on. A page that is known to be zero stays so if they are zeros. A sparse page that has
+    /// no memory takes that of the buffer: `Memory` if it is too small and memory runs out, and then nothing changes.
+    pub fn write(&mut self, offset: usize, bytes: &[u8], buffer: CallBuffer) -> Result<(), Memory>
         requires some { 0 < length bytes.now }
         requires within { offset + length bytes.now ≤ page_size }
-        ensures { self.new ≡ overwritten self.old offset bytes.now }
+        // No clause can rule out that memory runs out: tests write sparse pages.
+        ensures ok { OnOk result (self.new ≡ record self.old { bytes = overwritten self.old.bytes offset bytes.now }) }
+        ensures err { OnErr result (self.new ≡ self.old) }
+        ensures reserved { self.old.is_reserved ≡ true → IsOk result }
+        ensures fits { page_size ≤ buffer → IsOk result }
     {
         if self.is_zero && are_zero(bytes) {
-            return;
+            return Ok(());
         }
+        self.memory.make_room(buffer)?;
         self.memory.fill();
         self.is_zero = false;
         self.memory.write(offset, bytes);
+        Ok(())
     }
 
-    /// Zeroes all bytes.
+    /// Zeroes all bytes. A sparse page gives their memory back.
     pub fn scrub(&mut self)
-        ensures { self.new ≡ zero_page }
+        ensures { self.new ≡ zeroed self.old }
     {
-        if !self.is_zero {
-            self.memory.zero_from(0);
-            self.is_zero = true;
+        if self.is_zero {
+            return;
+        }
+        self.memory.zero_from(0);
+        self.is_zero = true;
+        if !self.is_reserved {
+            self.memory.give_back();
         }
     }
 
     /// Zeroes the bytes from place `n` on, and keeps those before it.
     pub fn zero_from(&mut self, n: usize)
         requires { n ≤ page_size }
-        ensures { self.new ≡ zeroed_from self.old n }
+        ensures { self.new ≡ record self.old { bytes = zeroed_from self.old.bytes n } }
     {
         if !self.is_zero {
             self.memory.zero_from(n);

@@ -1,15 +1,12 @@
 -- Blanks at the places that are not filled.
 use Rattle.std.proofs.Common.{map, ℕ, zero, suc, ◌≡◌, ◌<◌, inl, inr, Bool, true, false, cond, nat_eq, List, take, drop, [], ◌∷◌, ◌++◌, length, get_or, set, replicate, refl, sym, ◌∙◌, ap, arith, length-set, length-append, length-take, length-drop}
-use Rattle.std.specs.Prelude.{Some, None}
 use Rattle.std.proofs.lemmas.Bool.{cases_lt}
-use Rattle.std.proofs.lemmas.List.{get_or_past, get_or_default, length-map}
-use Rattle.std.proofs.lemmas.Option.{slice_get-get_or}
+use Rattle.std.proofs.lemmas.List.{get_or_past, length-map}
 use Rattle.kc_page.specs.declared.page.Page.{Page}
 use Rattle.kc_page.specs.Page.{scrubbed_page}
 use Rattle.kc_parts.specs.Parts.{Held, IsHeld, AreBlanks, blank_page, place_of, is_filled}
 use Rattle.kc_parts.specs.Cuts.{IsFull}
-use Rattle.kc_parts.specs.Moves.{page_among}
-use Rattle.kc_parts.proofs.Places.{place-found, filled-at}
+use Rattle.kc_parts.proofs.Places.{place-found}
 use Rattle.kc_parts.proofs.Writing.{filled-here}
 
 -- if all places are filled there is no blank
@@ -33,12 +30,6 @@ blanks-front [] ps b p same are k e = cc
 blanks-front (h ∷ hs) [] b p same are k e = refl
 blanks-front (h ∷ hs) (q ∷ ps) b p same are zero e = are zero e
 blanks-front (h ∷ hs) (q ∷ ps) b p same are (suc k) e = blanks-front hs ps b p (omega (arith, same)) (λ j. are (suc j)) k e
-
-pub blank-last : (hs : List Bool) (ps : List Page) (b : Bool) (p : Page) → length hs ≡ length ps → AreBlanks (hs ++ b ∷ []) (ps ++ p ∷ []) → b ≡ false → p ≡ blank_page
-blank-last [] [] b p same are e = are zero e
-blank-last [] (q ∷ ps) b p same are e = absurd (omega (arith, same))
-blank-last (h ∷ hs) [] b p same are e = absurd (omega (arith, same))
-blank-last (h ∷ hs) (q ∷ ps) b p same are e = blank-last hs ps b p (omega (arith, same)) (λ j. are (suc j)) e
 
 -- the flag at the place of a frame that is here
 filled-flag : (ns : List ℕ) (hs : List Bool) (f : ℕ) → is_filled ns hs f ≡ true → get_or hs (place_of ns f) true ≡ true
@@ -82,18 +73,6 @@ held-set ns hs ps i b p ok held = record {
   pages = length-set ps i p ∙ held.pages;
   blanks = blanks-set hs ps i b p ok held.blanks;
 }
-
--- the page at a frame's empty place is a blank
-pub blank-there : (ns : List ℕ) (hs : List Bool) (ps : List Page) (f : ℕ) (d : Page) → IsHeld ns hs ps → place_of ns f < length ns → page_among ns hs ps f ≡ None → get_or ps (place_of ns f) d ≡ blank_page
-blank-there ns hs ps f d held low none = by_flag (get_or hs (place_of ns f) true) refl
-  where
-    by_flag : (b : Bool) → get_or hs (place_of ns f) true ≡ b → get_or ps (place_of ns f) d ≡ blank_page
-    by_flag false e = get_or_default ps (place_of ns f) d blank_page (omega (arith, low, held.pages)) ∙ held.blanks (place_of ns f) e
-    by_flag true e =
-        let filled : is_filled ns hs f ≡ true = filled-at ns hs f true true (omega (arith, low, held.flags)) held.flags e in
-        let some : page_among ns hs ps f ≡ Some (get_or ps (place_of ns f) d) = rw filled (slice_get-get_or ps (place_of ns f) d (omega (arith, low, held.pages))) in
-        let no : Some (get_or ps (place_of ns f) d) ≡ None = sym some ∙ none in
-        cc
 
 -- if no page is taken out there is no blank
 full-blanks : (h : Held) (ps : List Page) → IsHeld h.numbers h.filled h.pages → IsFull h → AreBlanks h.filled ps

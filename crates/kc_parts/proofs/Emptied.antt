@@ -14,12 +14,12 @@ use Rattle.kc_vms.specs.Vm.{VmSlot, empty_vm}
 use Rattle.kc_links.specs.Chain.{Links}
 use Rattle.kc_links.specs.Ending.{listed}
 use Rattle.kc_links.proofs.Steps.{inside-held}
-use Rattle.kc_parts.specs.Parts.{Held, place_of, page_at, vm_at, links_of, ends_at, with_vm, with_ends}
+use Rattle.kc_parts.specs.Parts.{Held, place_of, is_sparse, page_at, vm_at, links_of, ends_at, with_vm, with_ends}
 use Rattle.kc_parts.specs.States.{frame_in, unlinked_slot, state_of, owner_at, lacks_list, listed_frames, IsLinked}
 use Rattle.kc_parts.specs.Linking.{rest_kept}
 use Rattle.kc_parts.specs.Emptying.{untouched_page, with_untouched, with_scrubbed, all_scrubbed, IsEmptied}
 use Rattle.kc_parts.proofs.Pages.{page-set, page-other, links-kept}
-use Rattle.kc_parts.proofs.Seen.{state-page, here-page, ends-pages}
+use Rattle.kc_parts.proofs.Seen.{state-page, here-page, ends-pages, sparse-page, room-kept}
 use Rattle.kc_parts.proofs.SlotChanges.{vm-set, here-vm, state-vm, ends-vm, linked-vm}
 use Rattle.kc_parts.proofs.SlotLists.{frames-here, slot-owned, ends-here, slot-moved, absent-left}
 use Rattle.kc_parts.proofs.Moving.{none-or-some, only-first, first-inside, not-first, lists-owners}
@@ -32,6 +32,7 @@ pub record AreScrubbed (old : Held) (fs : List ℕ) (new : Held) : Type 0 where
   pub here : (g : ℕ) → is_some (page_at new g) ≡ is_some (page_at old g)
   pub owners : (g : ℕ) → 0 < times_in fs g → IsSome (links_of old g) → owner_at new g ≡ Free
   pub others : (g : ℕ) → times_in fs g ≡ 0 → owner_at new g ≡ owner_at old g
+  pub sparse : (g : ℕ) → is_sparse (page_at new g) ≡ is_sparse (page_at old g)
   pub state : (config : Configuration) → ((g : ℕ) → 0 < times_in fs g → IsSome (links_of old g)) → state_of config new ≡ record (state_of config old) { frames = scrubbed (state_of config old).frames fs }
 
 one-scrubbed : (h : Held) (f : ℕ) (at : Option Page) → page_at h f ≡ at → AreScrubbed h (f ∷ []) (with_untouched h f at)
@@ -41,6 +42,7 @@ one-scrubbed h f None is = record {
   here = λ g. refl;
   owners = λ g some held. absurd (held-here h f (rw (only-first f g some) at held) is);
   others = λ g none. refl;
+  sparse = λ g. refl;
   state = λ config held. absurd (held-here h f (held f (first-inside f)) is);
 }
 one-scrubbed h f (Some page) is = record {
@@ -49,11 +51,12 @@ one-scrubbed h f (Some page) is = record {
   here = here-page h f page (untouched_page page) is;
   owners = λ g some held. rw (only-first f g some) (ap (λ there. (frame_in there).owner) (page-set h f page (untouched_page page) is));
   others = λ g none. ap (λ there. (frame_in there).owner) (page-other h f g page (untouched_page page) is (not-first f g none));
+  sparse = sparse-page h f page (untouched_page page) is refl;
   state = λ config held. state-page config h f page (untouched_page page) is refl;
 }
 
 pub scrubbing : (h : Held) (fs : List ℕ) → AreScrubbed h fs (all_scrubbed h fs)
-scrubbing h [] = record { rest = refl; links = refl; here = λ g. refl; owners = λ g some held. absurd (omega (arith, some)); others = λ g none. refl; state = λ config held. refl }
+scrubbing h [] = record { rest = refl; links = refl; here = λ g. refl; owners = λ g some held. absurd (omega (arith, some)); others = λ g none. refl; sparse = λ g. refl; state = λ config held. refl }
 scrubbing h (f ∷ fs) =
     let first = one-scrubbed h f (page_at h f) refl in
     let later = scrubbing (with_scrubbed h f) fs in
@@ -67,6 +70,7 @@ scrubbing h (f ∷ fs) =
         | inr more ↦ later.owners g more (held-then g held)
       ];
       others = λ g none. later.others g (omega (arith, none)) ∙ first.others g (omega (arith, none));
+      sparse = λ g. later.sparse g ∙ first.sparse g;
       state = λ config held. later.state config (λ g some. held-then g (held g (omega (arith, some))))
           ∙ ap (λ (m : State). record m { frames = scrubbed m.frames fs }) (first.state config (λ g some. held g (omega (arith, some))));
     }
@@ -124,6 +128,7 @@ module _ (old : Held) (v : ℕ) (vm : VmSlot) (at : vm_at old v ≡ Some vm) whe
         numbers = ap (λ (h : Held). h.numbers) only.rest;
         slots = ap (λ (h : Held). h.vms.numbers) only.rest;
         filled = ap (λ (h : Held). h.filled) only.rest;
+        reserved = ap (λ (h : Held). h.is_reserved) only.rest;
         free = ap (λ (h : Held). h.free) only.rest;
         links = only.links;
         here = elim [
@@ -145,5 +150,6 @@ module _ (old : Held) (v : ℕ) (vm : VmSlot) (at : vm_at old v ≡ Some vm) whe
           lists = lists-owners (links_of reset) (links_of emptied) (ends_at reset) (ends_at emptied) (owner_at reset) (owner_at emptied) fs
               only.links (λ p. ap (λ h. ends_at h p) only.rest ∙ ends-pages reset (all_scrubbed reset fs).pages p) only.others loose.absent
               (λ f some host. let no = sym (only.owners f some (loose.here f some)) ∙ host in cc) loose.linked.lists;
+          room = room-kept reset emptied (ap (λ (h : Held). h.is_reserved) only.rest) only.sparse loose.linked.room;
         };
       }

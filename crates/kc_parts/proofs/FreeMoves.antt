@@ -22,7 +22,7 @@ use Rattle.kc_parts.specs.States.{frame_in, slot_in, owner_at, here_of, AreLists
 use Rattle.kc_parts.specs.Linking.{IsSameRest}
 use Rattle.kc_parts.proofs.Moving.{lists-moved, lists-same}
 use Rattle.kc_parts.proofs.Relinked.{frames-stay, vms-stay, here-stays, slot-stays, absent-others, away-stays}
-use Rattle.kc_parts.proofs.Seen.{table-same}
+use Rattle.kc_parts.proofs.Seen.{table-same, room-kept}
 
 module _ (old mid : Held) (e e' : Ends) (frames : List ℕ) (rest : IsSameRest old mid) (free_is : old.free ≡ Some e) (are : AreLists (links_of old) (ends_at old) (owner_at old))
     (keeps : KeepsOthers (links_of old) (links_of mid) frames) (owned : (f : ℕ) → 0 < times_in frames f → owner_at old f ≡ Free) where
@@ -46,6 +46,7 @@ module _ (old mid : Held) (e e' : Ends) (frames : List ℕ) (rest : IsSameRest o
     numbers = rest.numbers;
     slots = ap (λ (vms : HeldSlots). vms.numbers) rest.vms;
     filled = rest.filled;
+    reserved = rest.reserved;
     here = here-all;
     owners = owners-same;
     away = away-stays old mid Free frames rest are keeps owned (ap is_none free_is);
@@ -60,6 +61,7 @@ module _ (old mid : Held) (e e' : Ends) (frames : List ℕ) (rest : IsSameRest o
       vms = λ v vm is. linked.vms v vm (sym (vms-stay old mid Free frames rest are keeps owned v) ∙ is);
       lists = lists-same (links_of mid) (links_of mid) (ends_at moved) (ends_at moved) (owner_at old) (owner_at moved) refl (λ p. refl) owners-same
           (lists-moved (links_of old) (links_of mid) (ends_at old) (ends_at moved) (owner_at old) Free frames are keeps owned e' refl ends-others (λ is. cc) list within);
+      room = room-kept old moved rest.reserved rest.sparse linked.room;
     };
   }
     where

@@ -12,6 +12,7 @@ use Rattle.kc_links.proofs.Linked.{with_link-same, with_link-other}
 use Rattle.kc_parts.specs.Parts.{Held, page_at, with_page, link_of, links_of}
 use Rattle.kc_parts.specs.Linking.{IsSameRest}
 use Rattle.kc_parts.proofs.Pages.{page-set, page-other, kept-at}
+use Rattle.kc_parts.proofs.Seen.{sparse-page}
 
 pub links-set : (h : Held) (f : ℕ) (old new : Page) (link : Link) → f < frame_limit → page_at h f ≡ Some old → link_of new ≡ link → links_of (with_page h f new) ≡ with_link (links_of h) f link
 links-set h f old new link low is set_is = fun_ext (λ g. elim (cases_eq g f) [
@@ -19,8 +20,16 @@ links-set h f old new link low is set_is = fun_ext (λ g. elim (cases_eq g f) [
   | inr other ↦ rw (with_link-other (links_of h) f link g other) (ap (λ there. cond (nat_lt g frame_limit) (option_map link_of there) None) (page-other h f g old new is other))
 ])
 
-pub rest-set : (h : Held) (f : ℕ) (old new : Page) → page_at h f ≡ Some old → frame_of new ≡ frame_of old → IsSameRest h (with_page h f new)
-rest-set h f old new is same = record { numbers = refl; filled = refl; vms = refl; free = refl; frames = kept-at frame_of h f old new is same }
+pub rest-set : (h : Held) (f : ℕ) (old new : Page) → page_at h f ≡ Some old → frame_of new ≡ frame_of old → new.bytes.is_reserved ≡ old.bytes.is_reserved → IsSameRest h (with_page h f new)
+rest-set h f old new is same reserved = record {
+  numbers = refl;
+  filled = refl;
+  reserved = refl;
+  vms = refl;
+  free = refl;
+  frames = kept-at frame_of h f old new is same;
+  sparse = sparse-page h f old new is reserved;
+}
 
 -- a frame with a link is here
 not-absent : (there : Option Page) (low : Bool) → there ≡ None → IsSome (cond low (option_map link_of there) None) → ⊥

@@ -21,6 +21,11 @@ slice_get-set_same [] i y within = absurd (omega (arith, within))
 slice_get-set_same (x ∷ xs) zero y within = refl
 slice_get-set_same (x ∷ xs) (suc i) y within = slice_get-set_same xs i y (omega (arith, within))
 
+slice_get-same : {X : Type 0} (xs : List X) (i : ℕ) (y : X) → slice_get xs i ≡ Some y → set xs i y ≡ xs
+slice_get-same [] i y is = refl
+slice_get-same (x ∷ xs) zero y is = let same : x ≡ y = cc in rw same refl
+slice_get-same (x ∷ xs) (suc i) y is = ap (λ rest. x ∷ rest) (slice_get-same xs i y is)
+
 -- the place of a frame has its number
 pub filled-number : (ns : List ℕ) (hs : List Bool) (f : ℕ) → is_filled ns hs f ≡ true → get_or ns (place_of ns f) 0 ≡ f
 filled-number [] hs f filled = cc
@@ -43,6 +48,10 @@ place-apart h f g within other = by_filled (is_filled h.numbers h.filled f) (is_
 
 place-kept : (h : Held) (f g : ℕ) (page : Page) → place_in (with_page h f page) g ≡ place_in h g
 place-kept h f g page = ap (λ n. cond (is_filled h.numbers h.filled g) (place_of h.numbers g) n) (length-set {A = Page} h.pages (place_in h f) page)
+
+-- writing a page back changes nothing
+pub page-same : (h : Held) (f : ℕ) (page : Page) → page_at h f ≡ Some page → with_page h f page ≡ h
+page-same h f page is = ap (λ (pages : List Page). record h { pages = pages }) (slice_get-same h.pages (place_in h f) page is)
 
 pub page-set : (h : Held) (f : ℕ) (old new : Page) → page_at h f ≡ Some old → page_at (with_page h f new) f ≡ Some new
 page-set h f old new is = ap (slice_get (set h.pages (place_in h f) new)) (place-kept h f f new) ∙ slice_get-set_same h.pages (place_in h f) new (slice_get_within h.pages (place_in h f) old is)

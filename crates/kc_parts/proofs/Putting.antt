@@ -6,12 +6,12 @@ use Rattle.std.proofs.lemmas.List.{get_or_append_left, get_or_past}
 use Rattle.std.proofs.Math.Seq.{get_or-append_seam}
 use Rattle.std.proofs.Math.ListN.{length-append}
 use Rattle.kc_page.specs.declared.page.Page.{Page}
-use Rattle.kc_parts.specs.Parts.{Held, IsHeld, IsRising, blank_page, page_at, cell_in}
+use Rattle.kc_parts.specs.Parts.{Held, IsHeld, IsRising, page_at, cell_in}
 use Rattle.kc_parts.specs.Cuts.{either}
 use Rattle.kc_parts.specs.Moves.{AreFrames, IsEmptyPlace, IsLaid, only_at}
 use Rattle.kc_parts.proofs.Filled.{cells, cells-append, length-cells, cell-no_place}
 use Rattle.kc_parts.proofs.SlotMoves.{either-none}
-use Rattle.kc_parts.proofs.Blanks.{blanks-front, blank-last}
+use Rattle.kc_parts.proofs.Blanks.{blanks-front}
 
 -- one more place at the end
 cell-last : (ns : List ℕ) (cs : List (Option Page)) (n : ℕ) (c : Option Page) (g : ℕ) → length cs ≡ length ns → ((k : ℕ) → k < length ns → get_or ns k 0 ≢ n)
@@ -113,9 +113,6 @@ front-held {ns = ns} {hs = hs} {ps = ps} {n = n} {b = b} {p = p} last =
       pages = lengths.1;
       blanks = blanks-front hs ps b p lengths.2 (rw (← last.filled, ← last.pages) last.held.blanks);
     }
-
-pub last-blank : {all_ns ns : List ℕ} {all_hs hs : List Bool} {all_ps ps : List Page} {n : ℕ} {b : Bool} {p : Page} → IsLast all_ns ns all_hs hs all_ps ps n b p → b ≡ false → p ≡ blank_page
-last-blank {hs = hs} {ps = ps} {b = b} {p = p} last = let lengths = rest-lengths last in blank-last hs ps b p lengths.2 (rw (← last.filled, ← last.pages) last.held.blanks)
 
 pub last-empty : {all_ns ns : List ℕ} {all_hs hs : List Bool} {all_ps ps : List Page} {n : ℕ} {b : Bool} {p : Page} → IsLast all_ns ns all_hs hs all_ps ps n b p → (h : Held)
     → ((f : ℕ) (page : Page) → cell_in all_ns (cells all_hs all_ps) f ≡ Some page → IsEmptyPlace h f) → b ≡ true → IsEmptyPlace h n

@@ -217,6 +217,7 @@ module _ (m : State) (here : Resources) (h : Held) (is : IsLawful m) (closed : I
           owner-is f there ∙ owned-is m is p f listed;
       alone = alone-host;
     };
+    room = cut_is.room;
   }
 
   frame-cut : (f : ℕ) → frame_in (page_at h f) ≡ cond (here (resource.Frame f)) (frame_at m f) (untouched Core)

@@ -1,5 +1,5 @@
 -- What parts are seen as, and how that changes with one page.
-use Rattle.std.proofs.Common.{ℕ, zero, suc, ◌≡◌, ◌≢◌, ◌<◌, ◌≤◌, ◌+◌, inl, inr, List, [], ◌∷◌, set, map, Option, Some, None, is_some, refl, sym, ap, ◌∙◌, arith}
+use Rattle.std.proofs.Common.{ℕ, zero, suc, ◌≡◌, ◌≢◌, ◌<◌, ◌≤◌, ◌+◌, inl, inr, not, List, [], ◌∷◌, set, map, Option, Some, None, is_some, Bool, true, false, refl, sym, ap, ◌∙◌, arith}
 use Rattle.std.specs.List.{range_with_len}
 use Rattle.std.specs.Option.{option_map}
 use Rattle.std.proofs.lemmas.Bool.{cases_eq}
@@ -14,8 +14,8 @@ use Rattle.kc_page.specs.declared.page.Page.{Page}
 use Rattle.kc_page.specs.Page.{frame_of}
 use Rattle.kc_links.specs.Chain.{unlinked}
 use Rattle.kc_links.specs.Ending.{listed}
-use Rattle.kc_parts.specs.Parts.{Held, page_at, vm_at, links_of, link_of, ends_at, with_page}
-use Rattle.kc_parts.specs.States.{frame_in, slot_in, list_in, state_of, owner_at, IsLinked}
+use Rattle.kc_parts.specs.Parts.{Held, is_sparse, page_at, vm_at, links_of, link_of, ends_at, with_page}
+use Rattle.kc_parts.specs.States.{frame_in, slot_in, list_in, state_of, owner_at, HasRoom, IsLinked}
 use Rattle.kc_parts.proofs.Pages.{page-set, page-other, kept-at, links-kept}
 use Rattle.kc_parts.proofs.Moving.{only-first, not-first, lists-owners, lists-same}
 
@@ -72,13 +72,36 @@ here-page h f old new is g = elim (cases_eq g f) [
   | inr other ↦ ap is_some (page-other h f g old new is other)
 ]
 
+-- a page that is reserved as before is sparse as before
+pub sparse-page : (h : Held) (f : ℕ) (old new : Page) → page_at h f ≡ Some old → new.bytes.is_reserved ≡ old.bytes.is_reserved → (g : ℕ) → is_sparse (page_at (with_page h f new) g) ≡ is_sparse (page_at h g)
+sparse-page h f old new is same g = elim (cases_eq g f) [
+  | inl e ↦ rw e (ap is_sparse (page-set h f old new is) ∙ ap not same ∙ sym (ap is_sparse is))
+  | inr other ↦ ap is_sparse (page-other h f g old new is other)
+]
+
+-- there is room if there was
+pub room-kept : (old new : Held) → new.is_reserved ≡ old.is_reserved → ((g : ℕ) → is_sparse (page_at new g) ≡ is_sparse (page_at old g)) → HasRoom old → HasRoom new
+room-kept old new same each room reserved g = each g ∙ room (sym same ∙ reserved) g
+
+-- reserved parts have memory for a page that is here
+pub page-reserved : (h : Held) (f : ℕ) (page : Page) → HasRoom h → h.is_reserved ≡ true → page_at h f ≡ Some page → page.bytes.is_reserved ≡ true
+page-reserved h f page room reserved is = by_test page.bytes.is_reserved (sym (ap is_sparse is) ∙ room reserved f)
+  where
+    by_test : (b : Bool) → not b ≡ false → b ≡ true
+    by_test true e = refl
+    by_test false e = sym e
+
+pub room-page : (h : Held) (f : ℕ) (old new : Page) → page_at h f ≡ Some old → new.bytes.is_reserved ≡ old.bytes.is_reserved → HasRoom h → HasRoom (with_page h f new)
+room-page h f old new is same room = room-kept h (with_page h f new) refl (sparse-page h f old new is same) room
+
 -- a page changes, and keeps its links and its owner
-pub linked-kept : (config : Configuration) (h : Held) (f : ℕ) (old new : Page) → IsLinked config h → page_at h f ≡ Some old → link_of new ≡ link_of old → new.meta.owner ≡ old.meta.owner → IsLinked config (with_page h f new)
-linked-kept config h f old new linked is same owner = record {
+pub linked-kept : (config : Configuration) (h : Held) (f : ℕ) (old new : Page) → IsLinked config h → page_at h f ≡ Some old → link_of new ≡ link_of old → new.meta.owner ≡ old.meta.owner → new.bytes.is_reserved ≡ old.bytes.is_reserved → IsLinked config (with_page h f new)
+linked-kept config h f old new linked is same owner reserved = record {
   frames = λ g here. linked.frames g (sym (here-page h f old new is g) ∙ here);
   vms = linked.vms;
   lists = lists-same (links_of h) (links_of (with_page h f new)) (ends_at h) (ends_at (with_page h f new)) (owner_at h) (owner_at (with_page h f new))
       (links-kept h f old new is same) (ends-page h f new) (λ g. owner-of (page_at h g) (page_at (with_page h f new) g) (kept-at (λ (page : Page). page.meta.owner) h f old new is owner g)) linked.lists;
+  room = room-page h f old new is reserved linked.room;
 }
   where
     owner-of : (a b : Option Page) → option_map (λ (page : Page). page.meta.owner) b ≡ option_map (λ (page : Page). page.meta.owner) a → (frame_in b).owner ≡ (frame_in a).owner
@@ -93,8 +116,8 @@ linked-kept config h f old new linked is same owner = record {
 
 -- a page in no list changes, and keeps its links
 pub linked-moved : (config : Configuration) (h : Held) (f : ℕ) (old new : Page) → IsLinked config h → page_at h f ≡ Some old → link_of new ≡ link_of old
-    → ((p : Owner) (e : Ends) → ends_at h p ≡ Some e → times_in (listed (links_of h) e) f ≡ 0) → (new.meta.owner ≡ Host → links_of h f ≡ Some unlinked) → IsLinked config (with_page h f new)
-linked-moved config h f old new linked is same none alone = record {
+    → ((p : Owner) (e : Ends) → ends_at h p ≡ Some e → times_in (listed (links_of h) e) f ≡ 0) → (new.meta.owner ≡ Host → links_of h f ≡ Some unlinked) → new.bytes.is_reserved ≡ old.bytes.is_reserved → IsLinked config (with_page h f new)
+linked-moved config h f old new linked is same none alone reserved = record {
   frames = λ g here. linked.frames g (sym (here-page h f old new is g) ∙ here);
   vms = linked.vms;
   lists = lists-owners (links_of h) (links_of (with_page h f new)) (ends_at h) (ends_at (with_page h f new)) (owner_at h) (owner_at (with_page h f new)) (f ∷ []) (links-kept h f old new is same) (ends-page h f new)
@@ -102,4 +125,5 @@ linked-moved config h f old new linked is same none alone = record {
       (λ g moved p e here. rw (only-first f g moved) (none p e here))
       (λ g moved host. rw (only-first f g moved) (alone (sym (ap (λ there. (frame_in there).owner) (page-set h f old new is)) ∙ (rw (only-first f g moved) at host))))
       linked.lists;
+  room = room-page h f old new is reserved linked.room;
 }

@@ -67,6 +67,7 @@ linked-vm config h v old new linked is same capacity = record {
     | inr other ↦ linked.vms w vm (sym (vm-other h v w new other) ∙ there)
   ];
   lists = lists-same (links_of h) (links_of h) (ends_at h) (ends_at (with_vm h v new)) (owner_at h) (owner_at h) refl (ends-vm h v old new is same) (λ g. refl) linked.lists;
+  room = linked.room;
 }
   where
     capacity-in : Option VmSlot → Capacity

@@ -21,7 +21,7 @@ use Rattle.kc_parts.specs.States.{frame_in, slot_in, unlinked_slot, owner_at, he
 use Rattle.kc_parts.specs.Linking.{IsSameRest}
 use Rattle.kc_parts.proofs.Moving.{same_or_other, lists-moved, lists-same}
 use Rattle.kc_parts.proofs.Relinked.{frames-stay, vms-stay, here-stays, free-stays, slot-stays, absent-others, away-stays}
-use Rattle.kc_parts.proofs.Seen.{table-same, table-set}
+use Rattle.kc_parts.proofs.Seen.{table-same, table-set, room-kept}
 use Rattle.kc_parts.proofs.SlotChanges.{vm-set, vm-other, here-vm}
 
 other-slot : (v w : ℕ) → w ≢ v → Vm w ≢ Vm v
@@ -80,6 +80,7 @@ module _ (old mid : Held) (v : ℕ) (vm : VmSlot) (e' : Ends) (frames : List ℕ
     numbers = rest.numbers;
     slots = ap (λ (vms : HeldSlots). vms.numbers) rest.vms;
     filled = rest.filled;
+    reserved = rest.reserved;
     here = here-all;
     owners = owners-same;
     away = away-stays old mid (Vm v) frames rest are keeps owned (ap is_none at);
@@ -95,6 +96,7 @@ module _ (old mid : Held) (v : ℕ) (vm : VmSlot) (e' : Ends) (frames : List ℕ
       vms = λ w there is. capacity-same w there is (capacity_of config) linked.vms;
       lists = lists-same (links_of mid) (links_of mid) (ends_at moved) (ends_at moved) (owner_at old) (owner_at moved) refl (λ p. refl) owners-same
           (lists-moved (links_of old) (links_of mid) (ends_at old) (ends_at moved) (owner_at old) (Vm v) frames are keeps owned e' (ap (option_map (λ (vm : VmSlot). vm.slot.frames)) at-moved) ends-others (λ is. cc) list within);
+      room = room-kept old moved rest.reserved rest.sparse linked.room;
     };
   }
     where

@@ -62,12 +62,13 @@ pub split-whole : (wanted : List Resource) (ns : List ℕ) (start rest taken : H
     → ((f : ℕ) → page_at taken f ≡ cond (is_among ns f) (page_at start f) None) → ((f : ℕ) → page_at rest f ≡ cond (is_among ns f) None (page_at start f))
     → ((v : ℕ) → vm_at taken v ≡ cond (is_wanted wanted (resource.Vm v)) (vm_at start v) None) → ((v : ℕ) → vm_at rest v ≡ cond (is_wanted wanted (resource.Vm v)) None (vm_at start v))
     → taken.free ≡ cond (is_wanted wanted resource.Free) start.free None → rest.free ≡ cond (is_wanted wanted resource.Free) None start.free
-    → rest.numbers ≡ start.numbers → rest.vms.numbers ≡ start.vms.numbers → IsSplit start (is_wanted wanted) rest taken
-split-whole wanted ns start rest taken among pages others slots left ends kept places for_slots = record {
+    → rest.numbers ≡ start.numbers → rest.vms.numbers ≡ start.vms.numbers → rest.is_reserved ≡ start.is_reserved → taken.is_reserved ≡ start.is_reserved → IsSplit start (is_wanted wanted) rest taken
+split-whole wanted ns start rest taken among pages others slots left ends kept places for_slots left_reserved took_reserved = record {
   taken_is = taken_at;
   rest_is = rest_at;
   places = places;
   slots = for_slots;
+  reserved = (left_reserved, took_reserved);
 }
   where
     taken_at : (r : Resource) → held_at taken r ≡ cond (is_wanted wanted r) (held_at start r) None
@@ -96,14 +97,14 @@ held-taken wanted ns hs ps start n are filled count pages = record {
 }
 
 -- the same, in the form that the steps leave
-pub split-end : (wanted : List Resource) (ns : List ℕ) (hs : List Bool) (ps : List Page) (empty vms : HeldSlots) (ends : Option Ends) (start mid freed rest : Held) (asked : Bool) (n : ℕ)
+pub split-end : (wanted : List Resource) (ns : List ℕ) (hs : List Bool) (ps : List Page) (empty vms : HeldSlots) (ends : Option Ends) (start mid freed rest : Held) (asked is_reserved : Bool) (n : ℕ)
     → AreFramesOf wanted ns → hs ≡ replicate n true → n ≡ length ns → map Some ps ≡ map (page_at freed) ns → IsLifted ns freed rest
-    → AreSlotsFor (is_wanted wanted) empty.numbers → ((v : ℕ) → held_slot empty v ≡ None) → AreMoved empty.numbers start.vms empty mid.vms vms → WithSlots start mid → ends ≡ cond asked mid.free None → freed ≡ record mid { free = cond asked None mid.free } → asked ≡ is_wanted wanted resource.Free
-    → IsSplit start (is_wanted wanted) rest (record { numbers = ns; filled = hs; pages = ps; vms = vms; free = ends })
-split-end wanted ns hs ps empty vms ends start mid freed rest asked n are filled count pages lifted slots nothing moved slots_only took kept is =
+    → AreSlotsFor (is_wanted wanted) empty.numbers → ((v : ℕ) → held_slot empty v ≡ None) → AreMoved empty.numbers start.vms empty mid.vms vms → WithSlots start mid → ends ≡ cond asked mid.free None → freed ≡ record mid { free = cond asked None mid.free } → asked ≡ is_wanted wanted resource.Free → is_reserved ≡ rest.is_reserved
+    → IsSplit start (is_wanted wanted) rest (record { numbers = ns; filled = hs; pages = ps; vms = vms; free = ends; is_reserved = is_reserved })
+split-end wanted ns hs ps empty vms ends start mid freed rest asked is_reserved n are filled count pages lifted slots nothing moved slots_only took kept is reserved =
     let held = held-taken wanted ns hs ps freed n are filled count pages in
     let unmoved = same-pages start mid freed (cond asked None mid.free) slots_only kept in
-    split-whole wanted ns start rest (record { numbers = ns; filled = hs; pages = ps; vms = vms; free = ends }) are.members
+    split-whole wanted ns start rest (record { numbers = ns; filled = hs; pages = ps; vms = vms; free = ends; is_reserved = is_reserved }) are.members
     (λ f. pages-taken ns hs ps freed held (filled ∙ ap (λ k. replicate k true) (count ∙ sym held.pages)) pages f ∙ ap (λ o. cond (is_among ns f) o None) (unmoved f))
     (λ f. lifted.pages f ∙ ap (cond (is_among ns f) None) (unmoved f))
     (λ v. moved.joined_is v ∙ rw (nothing v, slots.members v) refl)
@@ -112,6 +113,8 @@ split-end wanted ns hs ps empty vms ends start mid freed rest asked n are filled
     (lifted.free ∙ ap (λ h. h.free) kept ∙ ap (λ b. cond b None mid.free) is ∙ ap (cond (is_wanted wanted resource.Free) None) (ap (λ h. h.free) slots_only))
     (lifted.numbers ∙ ap (λ h. h.numbers) kept ∙ ap (λ h. h.numbers) slots_only)
     (ap (λ vs. vs.numbers) (lifted.vms ∙ ap (λ h. h.vms) kept) ∙ moved.left_places)
+    (lifted.reserved ∙ ap (λ h. h.is_reserved) kept ∙ ap (λ h. h.is_reserved) slots_only)
+    (reserved ∙ lifted.reserved ∙ ap (λ h. h.is_reserved) kept ∙ ap (λ h. h.is_reserved) slots_only)
 
 -- everything that came out is here
 pub taken-full : (wanted : List Resource) (start rest taken : Held) → AreHere start wanted → IsSplit start (is_wanted wanted) rest taken → AreAmong wanted taken.numbers → IsFull taken

@@ -39,14 +39,15 @@ filled-here ns hs ps f h = by_filled (is_filled ns hs f) refl h
 pub place-here : (ns : List ℕ) (hs : List Bool) (ps : List Page) (f : ℕ) → IsSome (page_among ns hs ps f) → place_of ns f < length ns
 place-here ns hs ps f here = filled-place ns hs f (filled-here ns hs ps f here)
 
-pub write-place : (ns : List ℕ) (hs : List Bool) (ps : List Page) (vms : HeldSlots) (free : Option Ends) (f at : ℕ) (b : Bool) (p : Page)
+pub write-place : (ns : List ℕ) (hs : List Bool) (ps : List Page) (vms : HeldSlots) (free : Option Ends) (is_reserved : Bool) (f at : ℕ) (b : Bool) (p : Page)
     → IsHeld ns hs ps → at ≡ place_of ns f → place_of ns f < length ns
-    → IsWrite f (cond b (Some p) None) (record { numbers = ns; filled = hs; pages = ps; vms = vms; free = free })
-    (record { numbers = ns; filled = set hs at b; pages = set ps at p; vms = vms; free = free })
-write-place ns hs ps vms free f at b p held is low = record {
+    → IsWrite f (cond b (Some p) None) (record { numbers = ns; filled = hs; pages = ps; vms = vms; free = free; is_reserved = is_reserved })
+    (record { numbers = ns; filled = set hs at b; pages = set ps at p; vms = vms; free = free; is_reserved = is_reserved })
+write-place ns hs ps vms free is_reserved f at b p held is low = record {
   numbers = refl;
   vms = refl;
   free = refl;
+  reserved = refl;
   pages = λ g. rw is (after g);
 }
   where

@@ -1,5 +1,5 @@
 -- Parts taken out of parts, and parts put back.
-use Rattle.std.specs.Prelude.{ℕ, ◌≡◌, ◌<◌, Bool, true, cond, List, length, get_or, Option, Some, None, IsSome}
+use Rattle.std.specs.Prelude.{ℕ, ◌≡◌, ◌<◌, Bool, true, ◌&&◌, cond, List, length, get_or, Option, Some, None, IsSome}
 use Rattle.std.specs.Option.{option_map}
 use Rattle.kc_types.specs.declared.link.Ends.{Ends}
 use Rattle.kc_types.specs.declared.resource.Resource.TheVariants as resource
@@ -25,12 +25,14 @@ held_at h resource.Free = option_map ends_part h.free
 abbrev pub AreHere : Held → List Resource → Type 0
 AreHere h wanted = (r : Resource) → is_wanted wanted r ≡ true → IsSome (held_at h r)
 
--- `taken` has what was there before and passes the test, `rest` has everything else and keeps its places
+-- `taken` has what was there before and passes the test, `rest` has everything else and keeps its places, and both are
+-- reserved if that was
 pub record IsSplit (before : Held) (test : Resource → Bool) (rest taken : Held) : Type 0 where
   pub taken_is : (r : Resource) → held_at taken r ≡ cond (test r) (held_at before r) None
   pub rest_is : (r : Resource) → held_at rest r ≡ cond (test r) None (held_at before r)
   pub places : rest.numbers ≡ before.numbers
   pub slots : rest.vms.numbers ≡ before.vms.numbers
+  pub reserved : (rest.is_reserved ≡ before.is_reserved) × (taken.is_reserved ≡ before.is_reserved)
 
 -- the slots that pass the test and no others, each once
 pub record AreSlotsFor (test : Resource → Bool) (numbers : List ℕ) : Type 0 where
@@ -48,9 +50,10 @@ abbrev pub either : {X : Type 0} → Option X → Option X → Option X
 either (Some x) second = Some x
 either None second = second
 
--- `after` has what either of the two has
-abbrev pub IsJoin : Held → Held → Held → Type 0
-IsJoin one other after = (r : Resource) → held_at after r ≡ either (held_at one r) (held_at other r)
+-- `after` has what either of the two has, and is reserved if both are
+pub record IsJoin (one other after : Held) : Type 0 where
+  pub parts : (r : Resource) → held_at after r ≡ either (held_at one r) (held_at other r)
+  pub reserved : after.is_reserved ≡ (one.is_reserved && other.is_reserved)
 
 -- no page is taken out: each place has one
 abbrev pub IsFull : Held → Type 0

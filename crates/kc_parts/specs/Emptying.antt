@@ -2,17 +2,18 @@
 use Rattle.std.specs.Prelude.{ℕ, ◌≡◌, ◌<◌, true, false, List, [], ◌∷◌, Option, Some, None, slice_set}
 use Rattle.kc_types.specs.Configuration.{Configuration, slot_count}
 use Rattle.kc_types.specs.declared.owner.Owner.TheVariants.{Free}
-use Rattle.kc_model.specs.State.{zero_page, empty_slot}
+use Rattle.kc_model.specs.State.{empty_slot}
 use Rattle.kc_model.specs.Effects.{scrubbed}
 use Rattle.kc_model.specs.Lawful.{times_in}
 use Rattle.kc_model.specs.Resources.{Resource}
 use Rattle.kc_page.specs.declared.page.Page.{Page}
+use Rattle.kc_page.specs.PageBytes.{zeroed}
 use Rattle.kc_parts.specs.Parts.{Held, page_at, with_page, links_of}
 use Rattle.kc_parts.specs.States.{state_of, here_of, owner_at, is_away, listed_frames, IsLinked}
 
 -- the page of an untouched free frame, with the links that the frame had
 abbrev pub untouched_page : Page → Page
-untouched_page page = record { meta = record page.meta { owner = Free; share = 0; gfn = None; present = false }; bytes = zero_page }
+untouched_page page = record { meta = record page.meta { owner = Free; share = 0; gfn = None; present = false }; bytes = zeroed page.bytes }
 
 -- the parts with such a page for the frame, if it has a page
 abbrev pub with_untouched : Held → ℕ → Option Page → Held
@@ -33,6 +34,7 @@ pub record IsEmptied (v : ℕ) (old new : Held) : Type 0 where
   pub numbers : new.numbers ≡ old.numbers
   pub slots : new.vms.numbers ≡ old.vms.numbers
   pub filled : new.filled ≡ old.filled
+  pub reserved : new.is_reserved ≡ old.is_reserved
   pub free : new.free ≡ old.free
   pub links : links_of new ≡ links_of old
   pub here : (r : Resource) → here_of new r ≡ here_of old r

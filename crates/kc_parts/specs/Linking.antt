@@ -6,26 +6,30 @@ use Rattle.std.proofs.lemmas.Bool.{ltb-true}
 use Rattle.kc_types.specs.Limits.{frame_limit}
 use Rattle.kc_types.specs.declared.link.Link.{Link}
 use Rattle.kc_page.specs.Page.{frame_of}
-use Rattle.kc_parts.specs.Parts.{Held, page_at, links_of}
+use Rattle.kc_parts.specs.Parts.{Held, is_sparse, page_at, links_of}
 
 -- two parts are the same except for the links of their frames
 pub record IsSameRest (old new : Held) : Type 0 where
   pub numbers : new.numbers ≡ old.numbers
   pub filled : new.filled ≡ old.filled
+  pub reserved : new.is_reserved ≡ old.is_reserved
   pub vms : new.vms ≡ old.vms
   pub free : new.free ≡ old.free
   pub frames : (f : ℕ) → option_map frame_of (page_at new f) ≡ option_map frame_of (page_at old f)
+  pub sparse : (f : ℕ) → is_sparse (page_at new f) ≡ is_sparse (page_at old f)
 
 pub rest_kept : (h : Held) → IsSameRest h h
-rest_kept h = record { numbers = refl; filled = refl; vms = refl; free = refl; frames = λ f. refl }
+rest_kept h = record { numbers = refl; filled = refl; reserved = refl; vms = refl; free = refl; frames = λ f. refl; sparse = λ f. refl }
 
 pub rest_through : (old mid new : Held) → IsSameRest old mid → IsSameRest mid new → IsSameRest old new
 rest_through old mid new first second = record {
   numbers = second.numbers ∙ first.numbers;
   filled = second.filled ∙ first.filled;
+  reserved = second.reserved ∙ first.reserved;
   vms = second.vms ∙ first.vms;
   free = second.free ∙ first.free;
   frames = λ f. second.frames f ∙ first.frames f;
+  sparse = λ f. second.sparse f ∙ first.sparse f;
 }
 
 below : (f : ℕ) (there : Option Link) (low : Bool) → nat_lt f frame_limit ≡ low → IsSome (cond low there None) → f < frame_limit

@@ -31,6 +31,7 @@ pub record IsWrite (f : ℕ) (page : Option Page) (before after : Held) : Type 0
   pub numbers : after.numbers ≡ before.numbers
   pub vms : after.vms ≡ before.vms
   pub free : after.free ≡ before.free
+  pub reserved : after.is_reserved ≡ before.is_reserved
   pub pages : (g : ℕ) → page_at after g ≡ cond (g == f) page (page_at before g)
 
 -- `after` lacks the pages of these frames, and has everything else as before
@@ -38,6 +39,7 @@ pub record IsLifted (frames : List ℕ) (before after : Held) : Type 0 where
   pub numbers : after.numbers ≡ before.numbers
   pub vms : after.vms ≡ before.vms
   pub free : after.free ≡ before.free
+  pub reserved : after.is_reserved ≡ before.is_reserved
   pub pages : (g : ℕ) → page_at after g ≡ cond (is_among frames g) None (page_at before g)
 
 -- the page of a frame among numbers, flags and pages
@@ -53,6 +55,7 @@ pub record IsLaid (pages_of : ℕ → Option Page) (before after : Held) : Type 
   pub numbers : after.numbers ≡ before.numbers
   pub vms : after.vms ≡ before.vms
   pub free : after.free ≡ before.free
+  pub reserved : after.is_reserved ≡ before.is_reserved
   pub pages : (g : ℕ) → page_at after g ≡ either (page_at before g) (pages_of g)
 
 -- a page at one frame

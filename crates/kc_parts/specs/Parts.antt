@@ -1,5 +1,5 @@
 -- Parts as contracts see them: places for frames and for slots, each filled or empty, and the ends of the free list.
-use Rattle.std.specs.Prelude.{ℕ, suc, ◌<◌, ◌≡◌, ◌==◌, nat_lt, Bool, true, false, cond, List, [], ◌∷◌, length, get_or, Option, Some, None, slice_get, slice_set}
+use Rattle.std.specs.Prelude.{ℕ, suc, ◌<◌, ◌≡◌, ◌==◌, nat_lt, not, Bool, true, false, cond, List, [], ◌∷◌, length, get_or, Option, Some, None, slice_get, slice_set}
 use Rattle.std.specs.Option.{option_map}
 use Rattle.std.specs.List.{list_any}
 use Rattle.kc_types.specs.Limits.{frame_limit}
@@ -19,22 +19,24 @@ pub record HeldSlots : Type 0 where
   pub slots : List (Option VmSlot)
 
 -- `numbers` are the frames that there are places for, ascending; `filled` says which places are filled; `pages` has a
--- page at each place, which is blank if the place is empty
+-- page at each place, which is blank if the place is empty; `is_reserved` says whether each page always has memory for its
+-- bytes
 pub record Held : Type 0 where
   pub numbers : List ℕ
   pub filled : List Bool
   pub pages : List Page
   pub vms : HeldSlots
   pub free : Option Ends
+  pub is_reserved : Bool
 
 abbrev pub IsRising : List ℕ → Type 0
 IsRising numbers = (i j : ℕ) → i < j → j < length numbers → get_or numbers i 0 < get_or numbers j 0
 
--- the page at a place that is empty: its record says nothing, and its bytes are zero
+-- the page at a place that is empty: its record says nothing, and its bytes are zero and have no memory
 abbrev pub blank_page : Page
 blank_page = record {
   meta = record { owner = Core; share = 0; gfn = None; present = false; prev = None; next = None };
-  bytes = zero_page;
+  bytes = record { bytes = zero_page; is_reserved = false };
 }
 
 -- each place that is not filled has a blank
@@ -85,6 +87,11 @@ place_in h f = cond (is_filled h.numbers h.filled f) (place_of h.numbers f) (len
 
 abbrev pub page_at : Held → ℕ → Option Page
 page_at h f = slice_get h.pages (place_in h f)
+
+-- whether a page is there that has no memory while its bytes are zero
+abbrev pub is_sparse : Option Page → Bool
+is_sparse (Some page) = not page.bytes.is_reserved
+is_sparse None = false
 
 -- a slot by its number, or nothing if it is not here
 abbrev pub held_slot : HeldSlots → ℕ → Option VmSlot

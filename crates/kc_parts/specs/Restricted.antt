@@ -14,6 +14,7 @@ use Rattle.kc_page.specs.Page.{frame_of}
 use Rattle.kc_vms.specs.Vm.{VmSlot, capacity_of}
 use Rattle.kc_links.specs.Chain.{unlinked}
 use Rattle.kc_parts.specs.Parts.{Held, vm_at, link_of}
+use Rattle.kc_parts.specs.States.{HasRoom}
 use Rattle.kc_parts.specs.Cuts.{HeldPart, held_at}
 use Rattle.kc_parts.specs.Cuts.HeldPart.{page_part, slot_part, ends_part}
 
@@ -37,10 +38,11 @@ exists_in config (resource.Frame f) = nat_lt f config.frames
 exists_in config (resource.Vm v) = nat_lt v (slot_count config)
 exists_in config resource.Free = true
 
--- the parts are those of the state at the resources, and nothing else
+-- the parts are those of the state at the resources, and nothing else, and they have memory if they are reserved
 pub record IsRestricted (m : State) (here : Resources) (h : Held) : Type 0 where
   pub parts : (r : Resource) → seen_at h r ≡ cond (here r) (Some (linked_part_of m r)) None
   pub capacities : (v : ℕ) (vm : VmSlot) → vm_at h v ≡ Some vm → vm.capacity ≡ capacity_of m.config
+  pub room : HasRoom h
 
 -- the ends of the owner's list are among the resources
 abbrev pub has_ends : Resources → Owner → Bool

@@ -15,7 +15,7 @@ use Rattle.kc_page.specs.Page.{frame_of}
 use Rattle.kc_vms.specs.Vm.{VmSlot, capacity_of}
 use Rattle.kc_links.specs.Chain.{Links, unlinked}
 use Rattle.kc_links.specs.Ending.{listed, IsList}
-use Rattle.kc_parts.specs.Parts.{Held, page_at, vm_at, links_of, ends_at}
+use Rattle.kc_parts.specs.Parts.{Held, is_sparse, page_at, vm_at, links_of, ends_at}
 
 abbrev pub frame_in : Option Page → Frame
 frame_in (Some page) = frame_of page
@@ -71,11 +71,16 @@ pub record AreLists (links : Links) (ends_at : Owner → Option Ends) (owner_at 
   -- the host's frames are in no list
   pub alone : (f : ℕ) → owner_at f ≡ Host → links f ≡ Some unlinked
 
--- the parts fit the configuration, and their links and ends are those of lists
+-- reserved parts have memory for each page that is here
+abbrev pub HasRoom : Held → Type 0
+HasRoom h = h.is_reserved ≡ true → (f : ℕ) → is_sparse (page_at h f) ≡ false
+
+-- the parts fit the configuration, their links and ends are those of lists, and they have memory if they are reserved
 pub record IsLinked (config : Configuration) (h : Held) : Type 0 where
   pub frames : (f : ℕ) → is_some (page_at h f) ≡ true → f < config.frames
   pub vms : (v : ℕ) (vm : VmSlot) → vm_at h v ≡ Some vm → vm.capacity ≡ capacity_of config
   pub lists : AreLists (links_of h) (ends_at h) (owner_at h)
+  pub room : HasRoom h
 
 -- the free list, if its ends are here
 abbrev pub free_of : Held → List ℕ
@@ -91,6 +96,7 @@ pub record IsFreeMove (old new : Held) : Type 0 where
   pub numbers : new.numbers ≡ old.numbers
   pub slots : new.vms.numbers ≡ old.vms.numbers
   pub filled : new.filled ≡ old.filled
+  pub reserved : new.is_reserved ≡ old.is_reserved
   pub here : (r : Resource) → here_of new r ≡ here_of old r
   pub owners : (f : ℕ) → owner_at new f ≡ owner_at old f
   pub away : (f : ℕ) → is_away old f ≡ true → links_of new f ≡ links_of old f
@@ -106,6 +112,7 @@ pub record IsSlotMove (v : ℕ) (old new : Held) : Type 0 where
   pub numbers : new.numbers ≡ old.numbers
   pub slots : new.vms.numbers ≡ old.vms.numbers
   pub filled : new.filled ≡ old.filled
+  pub reserved : new.is_reserved ≡ old.is_reserved
   pub here : (r : Resource) → here_of new r ≡ here_of old r
   pub owners : (f : ℕ) → owner_at new f ≡ owner_at old f
   pub away : (f : ℕ) → is_away old f ≡ true → links_of new f ≡ links_of old f

@@ -3,6 +3,7 @@ ghost use Rattle.std.specs.Prelude.{◌≡◌, ◌<◌, ◌≤◌, length, map, 
 ghost use Rattle.std.specs.List.{range_with_len};
 ghost use Rattle.kc_types.specs.Configuration.{IsConfiguration, slot_count};
 ghost use Rattle.kc_types.specs.Limits.{slot_limit};
+ghost use Rattle.kc_model.specs.State.{zero_page};
 ghost use Rattle.kc_vms.specs.Vm.{capacity_of, empty_vm};
 ghost use Rattle.kc_parts.specs.Booting.{boot_link, boot_page, boot_ends};
 
@@ -30,10 +31,21 @@ fn boot_link(config: &Config, frame: u32) -> Link
     }
 }
 
-/// Makes the page of a frame at boot.
-fn boot_page(alloc: Global, config: &Config, frame: u32) -> Result<Page, Memory>
+/// Makes a page of zero bytes, reserved or sparse.
+fn boot_bytes(alloc: Global, is_reserved: bool) -> Result<PageBytes, Memory>
+    ensures { IfOk result (λ page. page ≡ record { bytes = zero_page; is_reserved = is_reserved }) }
+{
+    if is_reserved {
+        PageBytes::reserved(alloc)
+    } else {
+        Ok(PageBytes::sparse(alloc))
+    }
+}
+
+/// Makes the page of a frame at boot, reserved or sparse.
+fn boot_page(alloc: Global, config: &Config, is_reserved: bool, frame: u32) -> Result<Page, Memory>
     requires { frame < config.now.frames }
-    ensures { IfOk result (λ page. page ≡ boot_page config.now frame) }
+    ensures { IfOk result (λ page. page ≡ boot_page is_reserved config.now frame) }
 {
     let link = boot_link(config, frame);
     let meta = PageRecord {
@@ -44,17 +56,17 @@ fn boot_page(alloc: Global, config: &Config, frame: u32) -> Result<Page, Memory>
         prev: MaybeFrame::of(link.prev),
         next: MaybeFrame::of(link.next),
     };
-    let bytes = PageBytes::zeroed(alloc)?;
+    let bytes = boot_bytes(alloc, is_reserved)?;
     Ok(Page { meta, bytes })
 }
 
-/// Makes the pages of all frames at boot.
-pub fn boot_pages(alloc: Global, config: &Config) -> Result<Vec<Page>, Memory>
-    ensures { IfOk result (λ pages. pages.items ≡ map (boot_page config.now) (range_with_len 0 config.now.frames)) }
+/// Makes the pages of all frames at boot, reserved or sparse.
+pub fn boot_pages(alloc: Global, config: &Config, is_reserved: bool) -> Result<Vec<Page>, Memory>
+    ensures { IfOk result (λ pages. pages.items ≡ map (boot_page is_reserved config.now) (range_with_len 0 config.now.frames)) }
 {
     let mut pages = Vec::with_capacity(alloc, config.frames() as usize)?;
     for frame in 0..config.frames() {
-        pages.push(boot_page(alloc, config, frame)?)?;
+        pages.push(boot_page(alloc, config, is_reserved, frame)?)?;
     }
     Ok(pages)
 }

@@ -9,7 +9,7 @@ ghost use Rattle.kc_parts.specs.Parts.{IsRising};
 ghost use Rattle.kc_parts.specs.Booting.{slots_of};
 
 use crate::PlaceCounts;
-use crate::blank::Blank;
+use crate::blank::blank_pages;
 use crate::boot::{all_filled, all_numbers, boot_ends, boot_pages, boot_vms};
 use crate::place::place_of;
 use crate::slots::VmSlots;
@@ -19,7 +19,7 @@ use kc_types::{Config, Ends, FrameNo, Memory, Resource, VmId};
 use kc_vms::Vm;
 use std::alloc::Global;
 use std::marker::Model;
-use std::mem::{replace, swap};
+use std::mem::swap;
 
 /// Makes places for this many frames, which are all here, and puts these slots in the places of their numbers.
 fn all_places(
@@ -39,15 +39,16 @@ fn all_places(
 
 /// A store of pages, VM slots and the ends of the free list. Each page and each slot has a place of its own, in the
 /// order of the numbers. The place stays when the page or slot is taken out, with a blank page in it, so that putting
-/// it back takes no memory.
+/// it back takes no memory. Parts are reserved or sparse: each page of reserved parts always has memory for its bytes, and
+/// blanks have none.
 #[derive(Drop)]
 pub struct Parts {
     numbers: Vec<u32>,
     filled: Vec<bool>,
     pages: Vec<Page>,
-    blanks: Vec<Blank>,
     vms: VmSlots,
     free: Option<Ends>,
+    is_reserved: bool,
 }
 
 impl Model for Parts {
@@ -60,59 +61,71 @@ impl Model for Parts {
 
     ghost coded = { Prim.hlevel (codes, map.code {R = nat_cmp} coded_ℕ coded_ℕ) };
 
-    ghost view = { λ p. record { numbers = p.numbers.items; filled = p.filled.items; pages = p.pages.items; vms = p.vms; free = p.free } };
+    ghost view = { λ p. record { numbers = p.numbers.items; filled = p.filled.items; pages = p.pages.items; vms = p.vms; free = p.free; is_reserved = p.is_reserved } };
 
     ghost invariant = { λ p. IsHeld p.numbers.items p.filled.items p.pages.items };
 }
 
 impl Parts {
-    ghost use Rattle.kc_types.specs.Configuration.{IsConfiguration, slot_count};
-    ghost use Rattle.kc_model.specs.Boot.{boot};
+    ghost use Rattle.kc_types.specs.Configuration.{IsConfiguration};
     ghost use Rattle.kc_parts.specs.Parts.{IsHeld, blank_page, place_in, page_at, held_slot, vm_at};
-    ghost use Rattle.kc_parts.specs.States.{state_of, IsLinked};
-    ghost use Rattle.kc_parts.specs.Booting.{IsWhole, parts_of};
+    ghost use Rattle.kc_parts.specs.Booting.{IsBooted, parts_of};
     ghost use Rattle.kc_parts.specs.Lending.{LendsPage, LendsPageHere, LendsVm, LendsVmHere, LendsFree, LendsPages};
     ghost use Rattle.kc_model.specs.Resources.{is_wanted};
     ghost use Rattle.kc_parts.specs.Cuts.{AreHere, IsSplit, AreSlotsFor, FitsInto, IsJoin, IsFull, held_at};
     ghost use Rattle.kc_parts.specs.Moves.{IsWrite, IsLifted, IsLaid, IsEmptyPlace, AreMoved, WithSlots, only_at, page_among};
 
-    /// Makes all parts of the boot state: every frame of the configuration, zeroed; every slot, empty; and the free
+    /// Makes all parts of the boot state, reserved: every frame of the configuration, zeroed; every slot, empty; and the free
     /// list, in ascending order. `Memory` if memory runs out.
     pub fn boot(alloc: Global, config: &Config) -> Result<Parts, Memory>
         // No clause can rule out that memory runs out: a test boots parts.
-        ensures state { IfOk result (λ parts. state_of config.now parts ≡ boot config.now) }
-        ensures linked { IfOk result (IsLinked config.now) }
-        ensures whole { IfOk result (IsWhole config.now) }
-        ensures full { IfOk result IsFull }
-        ensures slots { IfOk result (λ parts. parts.vms.numbers ≡ range_with_len 0 (slot_count config.now)) }
+        ensures parts { IfOk result (IsBooted config.now true) }
         ensures config { OnOk result (IsConfiguration config.now) }
     {
-        let pages = boot_pages(alloc, config)?;
-        let vms = boot_vms(alloc, config)?;
-        Parts::whole(alloc, pages, vms, boot_ends(config))
+        Parts::boot_as(alloc, config, true)
     }
 
-    /// Makes parts of pages and slots, each in the place of its number, and the ends of the free list. `Memory` if
-    /// memory runs out, and then the pages are wiped.
+    /// Makes all parts of the boot state, sparse: frames of zeros have no memory. `Memory` if memory runs out.
+    pub fn boot_sparse(alloc: Global, config: &Config) -> Result<Parts, Memory>
+        // No clause can rule out that memory runs out: a test boots parts.
+        ensures parts { IfOk result (IsBooted config.now false) }
+        ensures config { OnOk result (IsConfiguration config.now) }
+    {
+        Parts::boot_as(alloc, config, false)
+    }
+
+    /// Makes all parts of the boot state, reserved or sparse.
+    fn boot_as(alloc: Global, config: &Config, is_reserved: bool) -> Result<Parts, Memory>
+        ensures parts { IfOk result (IsBooted config.now is_reserved) }
+        ensures config { OnOk result (IsConfiguration config.now) }
+    {
+        let pages = boot_pages(alloc, config, is_reserved)?;
+        let vms = boot_vms(alloc, config)?;
+        Parts::whole(alloc, pages, vms, boot_ends(config), is_reserved)
+    }
+
+    /// Makes parts of pages and slots, each in the place of its number, and the ends of the free list. They count as reserved
+    /// or as sparse. `Memory` if memory runs out, and then the pages are wiped.
     pub fn whole(
         alloc: Global,
         mut pages: Vec<Page>,
         vms: Vec<Option<Vm>>,
         free: Ends,
+        is_reserved: bool,
     ) -> Result<Parts, Memory>
         requires frames { length pages.items ≤ frame_limit }
         requires slots { length vms.items ≤ slot_limit }
         // No clause can rule out that memory runs out: a test boots parts.
-        ensures { IfOk result (λ parts. parts ≡ parts_of pages.items vms.items free) }
+        ensures { IfOk result (λ parts. parts ≡ parts_of pages.items vms.items free is_reserved) }
     {
         match all_places(alloc, pages.len() as u32, vms) {
             Ok((numbers, filled, vms)) => Ok(Parts {
                 numbers,
                 filled,
                 pages,
-                blanks: Vec::new(alloc),
                 vms,
                 free: Some(free),
+                is_reserved,
             }),
             Err(refused) => {
                 scrub_each(pages.as_mut_slice());
@@ -268,7 +281,7 @@ impl Parts {
         let filled = vec![in alloc; true; numbers.len()]?;
         let slots = wanted_slots(alloc, wanted)?;
         let mut vms = VmSlots::places(alloc, slots)?;
-        let mut pages = self.blank_pages(alloc, numbers.len())?;
+        let mut pages = blank_pages(alloc, numbers.len())?;
         self.lift_slots(&mut vms);
         let free = self.lift_free(wants_free(wanted));
         self.lift_pages(numbers.as_slice(), &mut pages);
@@ -276,13 +289,13 @@ impl Parts {
             numbers,
             filled,
             pages,
-            blanks: Vec::new(alloc),
             vms,
             free,
+            is_reserved: self.is_reserved,
         })
     }
 
-    /// Puts parts back into their places, which are empty. It takes no memory.
+    /// Puts parts back into their places, which are empty. It takes no memory. What is left is reserved if both are.
     pub fn put_back(&mut self, other: Parts)
         requires { FitsInto self.old other }
         ensures joined { IsJoin self.old other self.new }
@@ -293,51 +306,16 @@ impl Parts {
             numbers,
             filled,
             pages,
-            blanks,
             vms,
             free,
+            is_reserved,
         } = other;
-        drop(blanks);
+        self.is_reserved = self.is_reserved && is_reserved;
         self.vms.put_back(vms);
         if free.is_some() {
             self.free = free;
         }
         self.lay_pages(numbers, filled, pages);
-    }
-
-    /// Takes a blank from the stock. If the stock is empty, it first gets room for a blank of each place, so that
-    /// blanks that come back need no memory, and then a blank is made.
-    fn blank(&mut self, alloc: Global) -> Result<Blank, Memory>
-        ensures { self.new ≡ self.old }
-    {
-        if let Some(blank) = self.blanks.pop() {
-            return Ok(blank);
-        }
-        self.blanks.reserve(self.numbers.len())?;
-        Blank::make(alloc)
-    }
-
-    /// Takes this many blank pages.
-    fn blank_pages(&mut self, alloc: Global, count: usize) -> Result<Vec<Page>, Memory>
-        ensures kept { self.new ≡ self.old }
-        ensures blank { IfOk result (λ pages. pages.items ≡ replicate count blank_page) }
-    {
-        let mut pages = Vec::with_capacity(alloc, count)?;
-        for _ in 0..count {
-            pages.push(self.blank(alloc)?.into_page())?;
-        }
-        Ok(pages)
-    }
-
-    /// Keeps a blank in the stock, if that has room.
-    fn keep_blank(&mut self, blank: Blank)
-        ensures { self.new ≡ self.old }
-    {
-        if self.blanks.len() < self.blanks.capacity() {
-            let Ok(()) = self.blanks.push(blank) else {
-                unreachable!()
-            };
-        }
     }
 
     /// Takes out the slots for which these places, which are empty, are made.
@@ -382,7 +360,7 @@ impl Parts {
         self.filled[at] = false;
     }
 
-    /// Lays pages into their places, which are empty, and keeps the blanks.
+    /// Lays pages into their places, which are empty.
     fn lay_pages(&mut self, mut numbers: Vec<u32>, mut filled: Vec<bool>, mut pages: Vec<Page>)
         requires held { IsHeld numbers.items filled.items pages.items }
         requires fits { (f : ℕ) (page : Page) → page_among numbers.items filled.items pages.items f ≡ Some page → IsEmptyPlace self.old f }
@@ -396,27 +374,23 @@ impl Parts {
         }
     }
 
-    /// Lays a page into its place, which is empty, if `filled`; otherwise the page is a blank, which is kept.
+    /// Lays a page into its place, which is empty, if `filled`; otherwise the page is a blank.
     fn lay_back(&mut self, number: u32, filled: bool, page: Page)
-        requires empty { filled ≡ true → IsEmptyPlace self.old number }
-        requires blank { filled ≡ false → page ≡ blank_page }
+        requires { filled ≡ true → IsEmptyPlace self.old number }
         ensures { IsLaid (only_at number (cond filled (Some page) None)) self.old self.new }
     {
         if filled {
             self.lay_page(number, page);
-        } else {
-            self.keep_blank(Blank::from_page(page));
         }
     }
 
-    /// Lays a page into its place, which is empty, and keeps the blank that was there.
+    /// Lays a page into its place, which is empty.
     fn lay_page(&mut self, number: u32, page: Page)
         requires { IsEmptyPlace self.old number }
         ensures { IsWrite number (Some page) self.old self.new }
     {
         let at = place_of(self.numbers.as_slice(), number);
-        let blank = Blank::from_page(replace(&mut self.pages[at], page));
+        self.pages[at] = page;
         self.filled[at] = true;
-        self.keep_blank(blank);
     }
 }

@@ -11,6 +11,7 @@ ghost use Rattle.kc_faults.specs.Origins.{BeginsIn};
 ghost use Rattle.kc_texts.specs.Written.{Writes, Begins};
 ghost use Rattle.kc_cli.specs.Answers.{AreAnswered};
 ghost use Rattle.kc_faults.specs.Outcomes.{TellsSources, TellsTexts, TellsSink};
+ghost use Rattle.kc_core.specs.KCore.{state_in};
 ghost use Rattle.kc_redact_text.specs.Reading.{IsHeaderAndCalls, IsReadingFault};
 ghost use Rattle.kc_redact_text.specs.Redacts.{IsHostRedacted, IsHostRedactFault, IsHostReadingFault};
 
@@ -29,7 +30,7 @@ use std::thread::Threads;
 
 /// What is wrong with the header of a trace whose calls were made on a core.
 fn header_fault(core: &Option<KCore>, expected: Expected, header: &Header) -> Option<HeaderFault>
-    ensures { IfSome core.now (λ m. MatchOption result (MayHave m.config expected header.now)
+    ensures { IfSome (state_in core.now) (λ m. MatchOption result (MayHave m.config expected header.now)
         (λ wrong. IsHeaderFault m.config expected header.now wrong)) }
 {
     match core {
@@ -48,10 +49,10 @@ fn read_placed<T: Source>(
 ) -> Result<(Header, Vec<RedactedCall>, Denials), TextFault>
     requires { T.failed trace.old ≡ false }
     ensures ok { IfOk result
-        (λ read. IfSome (T.left trace.old) (λ text. IsHeaderAndCalls core.old text read.0 read.1.items read.2)) }
-    ensures placed { IfOk result (λ read. IfSome core.old (λ m. MayHave m.config expected read.0)) }
+        (λ read. IfSome (T.left trace.old) (λ text. IsHeaderAndCalls (state_in core.old) text read.0 read.1.items read.2)) }
+    ensures placed { IfOk result (λ read. IfSome (state_in core.old) (λ m. MayHave m.config expected read.0)) }
     ensures ended { OnOk result (IsAtEnd (T.left trace.new)) }
-    ensures trace { (fault : TraceFault) → result ≡ Err (TextFault.Trace fault) → IfSome core.old
+    ensures trace { (fault : TraceFault) → result ≡ Err (TextFault.Trace fault) → IfSome (state_in core.old)
         (λ m. IfSome (T.left trace.old) (λ text. IsRefusedThere m.config expected text fault)) × IsAtEnd (T.left trace.new) }
     ensures read { result ≡ Err TextFault.Read → ReadFailed (T.failed trace.new) (T.left trace.old) (T.left trace.new) }
     ensures failed { T.failed trace.new ≡ true → result ≡ Err TextFault.Read }
@@ -73,11 +74,11 @@ fn read_made<T: Source>(
 ) -> Result<(Header, Vec<RedactedCall>, Denials), TextFault>
     requires { T.failed trace.old ≡ false }
     ensures ok { IfOk result
-        (λ read. IfSome (T.left trace.old) (λ text. IsHeaderAndCalls (Some start.core) text read.0 read.1.items read.2)) }
-    ensures placed { IfOk result (λ read. MayHave start.core.config start.expected read.0) }
+        (λ read. IfSome (T.left trace.old) (λ text. IsHeaderAndCalls (Some start.core.state) text read.0 read.1.items read.2)) }
+    ensures placed { IfOk result (λ read. MayHave start.core.state.config start.expected read.0) }
     ensures ended { OnOk result (IsAtEnd (T.left trace.new)) }
     ensures trace { (fault : TraceFault) → result ≡ Err (TextFault.Trace fault)
-        → IfSome (T.left trace.old) (λ text. IsRefusedThere start.core.config start.expected text fault)
+        → IfSome (T.left trace.old) (λ text. IsRefusedThere start.core.state.config start.expected text fault)
         × IsAtEnd (T.left trace.new) }
     ensures read { result ≡ Err TextFault.Read → ReadFailed (T.failed trace.new) (T.left trace.old) (T.left trace.new) }
     ensures failed { T.failed trace.new ≡ true → result ≡ Err TextFault.Read }

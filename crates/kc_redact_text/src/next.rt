@@ -3,6 +3,7 @@ ghost use Rattle.std.specs.Prelude.{◌≡◌, IfOk, OnOk};
 ghost use Rattle.kc_model.specs.State.{frame_at, slot_at};
 ghost use Rattle.kc_model.specs.Refusals.{is_active};
 ghost use Rattle.kc_model.specs.Blanking.{is_guests};
+ghost use Rattle.kc_core.specs.KCore.{state_in};
 ghost use Rattle.kc_redact_text.specs.Made.{is_hidden, redacted_next, core_next, reply_next, CountsMore};
 
 use crate::calls::RedactedCall;
@@ -12,7 +13,7 @@ use kc_types::{Call, Memory, Owner, Phase};
 
 /// Whether the VM in a slot is active; false if the slot does not exist.
 fn is_active(core: &KCore, vm: u32) -> bool
-    ensures { result ≡ is_active (slot_at core.now vm).phase }
+    ensures { result ≡ is_active (slot_at core.now.state vm).phase }
 {
     match core.phase(vm) {
         Some(phase) => matches!(phase, Phase::Active),
@@ -26,7 +27,7 @@ fn is_active(core: &KCore, vm: u32) -> bool
 
 /// The owner of a frame; the core if the frame does not exist.
 fn owner_of(core: &KCore, frame: u32) -> Owner
-    ensures { result ≡ (frame_at core.now frame).owner }
+    ensures { result ≡ (frame_at core.now.state frame).owner }
 {
     match core.page_record(frame) {
         Some(record) => record.owner.get(),
@@ -40,7 +41,7 @@ fn owner_of(core: &KCore, frame: u32) -> Owner
 
 /// Whether an owner is an active VM.
 fn is_guests(core: &KCore, owner: Owner) -> bool
-    ensures { result ≡ is_guests core.now owner }
+    ensures { result ≡ is_guests core.now.state owner }
 {
     match owner {
         Owner::Vm(vm) => is_active(core, vm.index() as u32),
@@ -50,7 +51,7 @@ fn is_guests(core: &KCore, owner: Owner) -> bool
 
 /// Whether the host writes to a frame of an active VM by this call.
 fn is_hidden(core: &KCore, call: &Call) -> bool
-    ensures { result ≡ is_hidden core.now call.now }
+    ensures { result ≡ is_hidden core.now.state call.now }
 {
     match call {
         Call::HostWrite { frame, .. } => is_guests(core, owner_of(core, *frame)),
@@ -66,9 +67,9 @@ pub(crate) fn redact_next(
     call: Call,
     denials: &mut Denials,
 ) -> Result<RedactedCall, Memory>
-    ensures call { IfOk result (λ kept. kept ≡ redacted_next core.old call) }
-    ensures core { OnOk result (core.new ≡ core_next core.old call) }
-    ensures counted { OnOk result (CountsMore (reply_next core.old call) denials.old denials.new) }
+    ensures call { IfOk result (λ kept. kept ≡ redacted_next (state_in core.old) call) }
+    ensures core { OnOk result (state_in core.new ≡ core_next (state_in core.old) call) }
+    ensures counted { OnOk result (CountsMore (reply_next (state_in core.old) call) denials.old denials.new) }
 {
     let Some(core) = core else {
         return Ok(RedactedCall::new(call));

@@ -8,6 +8,7 @@ ghost use Rattle.kc_trace.specs.Trace.{IsRefused};
 ghost use Rattle.kc_trace.specs.declared.fault.TraceFault.{TraceFault};
 ghost use Rattle.kc_texts.specs.Ends.{ReadFailed};
 ghost use Rattle.kc_texts.specs.Streamed.{HasRead};
+ghost use Rattle.kc_core.specs.KCore.{state_in};
 ghost use Rattle.kc_redact_text.specs.Made.{redacted_by, core_after, config_of, replies_by, CountsMore};
 ghost use Rattle.kc_remarks.specs.Denials.{AreCounts};
 ghost use Rattle.kc_redact_text.specs.Reading.{AreRead, stream_of, HasTaken, HasGoneOn, IsHeaderAndCalls, IsReadingFault};
@@ -30,9 +31,9 @@ fn push_each(
     more: Vec<Call>,
     denials: &mut Denials,
 ) -> Result<(), Memory>
-    ensures calls { OnOk result (calls.new.items ≡ calls.old.items ++ redacted_by core.old more.items) }
-    ensures core { OnOk result (core.new ≡ core_after core.old more.items) }
-    ensures counted { OnOk result (CountsMore (replies_by core.old more.items) denials.old denials.new) }
+    ensures calls { OnOk result (calls.new.items ≡ calls.old.items ++ redacted_by (state_in core.old) more.items) }
+    ensures core { OnOk result (state_in core.new ≡ core_after (state_in core.old) more.items) }
+    ensures counted { OnOk result (CountsMore (replies_by (state_in core.old) more.items) denials.old denials.new) }
 {
     calls.reserve(more.len())?;
     for call in more {
@@ -51,7 +52,7 @@ fn read_calls(
     piece: &[u8],
 ) -> Result<Vec<Call>, TraceFault>
     ensures answer { MatchResult result
-        (λ calls. AreRead core.now (fed reader.old piece.now) reader.new.progress calls.items)
+        (λ calls. AreRead (state_in core.now) (fed reader.old piece.now) reader.new.progress calls.items)
         (λ fault. Fails fault (fed reader.old piece.now)) }
     ensures ok { OnOk result (reader.new.fault ≡ None) }
     ensures fault { IfErr result (λ fault. fault ≢ TraceFault.Memory → reader.new.fault ≡ Some fault) }
@@ -96,7 +97,7 @@ impl Redacting {
         piece: &[u8],
     ) -> Result<(), ReadFault>
         requires { self.old.total ≤ byte_limit }
-        ensures ok { OnOk result (HasTaken core.old core.new self.old self.new piece.now) }
+        ensures ok { OnOk result (HasTaken (state_in core.old) (state_in core.new) self.old self.new piece.now) }
         ensures total { OnOk result (self.new.total ≡ self.old.total + length piece.now) }
         ensures few { OnOk result (self.new.total ≤ byte_limit) }
         ensures read { result ≡ Err ReadFault.Read → byte_limit < self.old.total + length piece.now }
@@ -125,7 +126,7 @@ impl Redacting {
         requires few { self.old.total ≤ byte_limit }
         requires whole { T.failed source.old ≡ false }
         ensures ok { OnOk result
-            (HasGoneOn core.old core.new self.old self.new (T.left source.old) (T.left source.new)) }
+            (HasGoneOn (state_in core.old) (state_in core.new) self.old self.new (T.left source.old) (T.left source.new)) }
         ensures ended { OnOk result (IsAtEnd (T.left source.new)) }
         ensures mark { OnOk result (T.failed source.new ≡ false) }
         ensures read { result ≡ Err ReadFault.Read → (bytes : List ℕ) (calls : List Call) (first : Option (List ℕ))
@@ -159,8 +160,8 @@ pub fn read_redacted<T: Source>(
 ) -> Result<(Header, Vec<RedactedCall>, Denials), TextFault>
     requires { T.failed source.old ≡ false }
     ensures ok { IfOk result
-        (λ read. IfSome (T.left source.old) (λ text. IsHeaderAndCalls core.old text read.0 read.1.items read.2)) }
-    ensures config { OnOk result (config_of core.new ≡ config_of core.old) }
+        (λ read. IfSome (T.left source.old) (λ text. IsHeaderAndCalls (state_in core.old) text read.0 read.1.items read.2)) }
+    ensures config { OnOk result (config_of (state_in core.new) ≡ config_of (state_in core.old)) }
     ensures ended { OnOk result (IsAtEnd (T.left source.new)) }
     ensures trace { (fault : TraceFault) → result ≡ Err (TextFault.Trace fault)
         → IfSome (T.left source.old) (λ text. IsRefused text fault) × IsAtEnd (T.left source.new) }

@@ -22,6 +22,7 @@ use Rattle.kc_parts.specs.Parts.{Held, vm_at}
 use Rattle.kc_parts.specs.Cuts.{HeldPart, held_at, IsSplit, IsJoin, either}
 use Rattle.kc_parts.specs.Cuts.HeldPart.{slot_part}
 use Rattle.kc_parts.specs.Restricted.{seen_part, seen_at, exists_in, has_ends, IsRestricted, IsClosed}
+use Rattle.kc_parts.proofs.Rooms.{room-taken, room-rest, room-joined}
 use Rattle.kc_replay.specs.Wave.{AreApart, out, IsRest}
 
 from-need : (a b : Bool) → (a ≡ true → b ≡ true) → b ≡ false → a ≡ false
@@ -134,6 +135,7 @@ module _ (m : State) (calls : List Call) (footprints : ℕ → Resources) (is : 
         step-taken (footprints k r) (out footprints ks r) (exists_in m.config r) (seen_at h r) (seen_at got r) (linked_part_of m r) (linked_part_of (state_at m calls k) r) (free r) (are.exist k low r) (left.parts r)
         (ap (option_map seen_part) (split.taken_is r) ∙ shown-split (footprints k r) (held_at h r)) (finds k r low);
     capacities = λ v vm at. left.capacities v vm (of-slot (footprints k (resource.Vm v)) (vm_at h v) (vm_at got v) vm (split.taken_is (resource.Vm v)) at) ∙ ap capacity_of (sym (config-at k));
+    room = room-taken h (footprints k) rest got left.room split;
   }
     where
       of-slot : (b : Bool) (was there : Option VmSlot) (vm : VmSlot) → option_map slot_part there ≡ cond b (option_map slot_part was) None → there ≡ Some vm → was ≡ Some vm
@@ -148,6 +150,7 @@ module _ (m : State) (calls : List Call) (footprints : ℕ → Resources) (is : 
   rest-left ks k h rest got left split = record {
     parts = λ r. step-rest (footprints k r) (out footprints ks r) (seen_at h r) (seen_at rest r) (cond (exists_in m.config r) (Some (linked_part_of m r)) None) (left.parts r) (ap (option_map seen_part) (split.rest_is r) ∙ shown-rest (footprints k r) (held_at h r));
     capacities = λ v vm at. left.capacities v vm (of-slot (footprints k (resource.Vm v)) (vm_at h v) (vm_at rest v) vm (split.rest_is (resource.Vm v)) at);
+    room = room-rest h (footprints k) rest got left.room split;
   }
     where
       of-slot : (b : Bool) (was there : Option VmSlot) (vm : VmSlot) → option_map slot_part there ≡ cond b None (option_map slot_part was) → there ≡ Some vm → was ≡ Some vm
@@ -163,6 +166,7 @@ module _ (m : State) (calls : List Call) (footprints : ℕ → Resources) (is : 
   all-out ks h all left = record {
     parts = λ r. left.parts r ∙ by_out r (out footprints ks r) refl;
     capacities = λ v vm at. left.capacities v vm at ∙ ap capacity_of (sym (config-at (length calls)));
+    room = left.room;
   }
     where
       end : State
@@ -192,8 +196,9 @@ module _ (m : State) (calls : List Call) (footprints : ℕ → Resources) (is : 
   back ks k h done joined low free left is_done join = record {
     parts = λ r.
         step-back (footprints k r) (out footprints ks r) (exists_in (state_at m calls (length calls)).config r) (seen_at h r) (seen_at done r) (seen_at joined r) (linked_part_of (state_at m calls (length calls)) r) (linked_part_of (state_at m calls (suc k)) r)
-        (free r) (λ e. ap (λ config. exists_in config r) (config-at (length calls)) ∙ are.exist k low r e) (left.parts r) (is_done.parts r) (leaves k r low) (ap (option_map seen_part) (join r) ∙ shown-join (held_at h r) (held_at done r));
-    capacities = λ v vm at. of-slot (vm_at h v) (vm_at done v) (vm_at joined v) vm (join (resource.Vm v)) at (left.capacities v vm) (λ e. is_done.capacities v vm e ∙ ap capacity_of (config-at (suc k) ∙ sym (config-at (length calls))));
+        (free r) (λ e. ap (λ config. exists_in config r) (config-at (length calls)) ∙ are.exist k low r e) (left.parts r) (is_done.parts r) (leaves k r low) (ap (option_map seen_part) (join.parts r) ∙ shown-join (held_at h r) (held_at done r));
+    capacities = λ v vm at. of-slot (vm_at h v) (vm_at done v) (vm_at joined v) vm (join.parts (resource.Vm v)) at (left.capacities v vm) (λ e. is_done.capacities v vm e ∙ ap capacity_of (config-at (suc k) ∙ sym (config-at (length calls))));
+    room = room-joined h done joined left.room is_done.room join;
   }
     where
       of-slot : (a b there : Option VmSlot) (vm : VmSlot) → option_map slot_part there ≡ either (option_map slot_part a) (option_map slot_part b) → there ≡ Some vm → (a ≡ Some vm → vm.capacity ≡ capacity_of (state_at m calls (length calls)).config) → (b ≡ Some vm → vm.capacity ≡ capacity_of (state_at m calls (length calls)).config) → vm.capacity ≡ capacity_of (state_at m calls (length calls)).config

@@ -18,6 +18,7 @@ use Rattle.kc_parts.specs.Cuts.HeldPart.{slot_part}
 use Rattle.kc_parts.specs.Parts.{Held, vm_at}
 use Rattle.kc_parts.specs.Restricted.{seen_part, seen_at, exists_in, IsRestricted}
 use Rattle.kc_parts.specs.States.{state_of}
+use Rattle.kc_parts.proofs.Rooms.{room-taken, room-rest, room-joined}
 use Rattle.kc_core.specs.KCore.{IsCore}
 use Rattle.kc_replay.specs.Wave.{HasPlaces}
 use Rattle.kc_replay.specs.Moving.{in_both, in_first, in_either, IsMoving}
@@ -54,10 +55,12 @@ taken m here wanted h rest got is split = (
   record {
     parts = λ r. taken-part (here r) (wanted r) (held_at h r) (held_at got r) (linked_part_of m r) (is.parts r) (split.taken_is r);
     capacities = λ v vm at. is.capacities v vm (taken-slot (wanted (resource.Vm v)) (vm_at h v) (vm_at got v) vm (split.taken_is (resource.Vm v)) at);
+    room = room-taken h wanted rest got is.room split;
   },
   record {
     parts = λ r. rest-part (here r) (wanted r) (held_at h r) (held_at rest r) (linked_part_of m r) (is.parts r) (split.rest_is r);
     capacities = λ v vm at. is.capacities v vm (rest-slot (wanted (resource.Vm v)) (vm_at h v) (vm_at rest v) vm (split.rest_is (resource.Vm v)) at);
+    room = room-rest h wanted rest got is.room split;
   },
 )
 
@@ -69,6 +72,7 @@ stays : (m : State) (here : Resources) (h : Held) (call : Call) → IsLawful m �
 stays m here h call lawful is apart = record {
   parts = λ r. kept-part (here r) (seen_at h r) (linked_part_of m r) (linked_part_of (next m call).1 r) (is.parts r) (λ e. links-kept m call (orderly-is m lawful) (lists-all m lawful) r (apart r e));
   capacities = λ v vm at. rw ((sized-next m call).config) (is.capacities v vm at);
+  room = is.room;
 }
 
 joined-part : (a b : Bool) (one other after : Option HeldPart) (l : LinkedPart) → option_map seen_part one ≡ cond a (Some l) None → option_map seen_part other ≡ cond b (Some l) None → after ≡ either one other → option_map seen_part after ≡ cond (a || b) (Some l) None
@@ -83,20 +87,21 @@ joined-slot None other after vm is at = inr (slot-of other vm (sym is ∙ ap (op
 
 joined : (m : State) (here there : Resources) (one other after : Held) → IsRestricted m here one → IsRestricted m there other → IsJoin one other after → IsRestricted m (in_either here there) after
 joined m here there one other after first second join = record {
-  parts = λ r. joined-part (here r) (there r) (held_at one r) (held_at other r) (held_at after r) (linked_part_of m r) (first.parts r) (second.parts r) (join r);
-  capacities = λ v vm at. elim (joined-slot (vm_at one v) (vm_at other v) (vm_at after v) vm (join (resource.Vm v)) at) [
+  parts = λ r. joined-part (here r) (there r) (held_at one r) (held_at other r) (held_at after r) (linked_part_of m r) (first.parts r) (second.parts r) (join.parts r);
+  capacities = λ v vm at. elim (joined-slot (vm_at one v) (vm_at other v) (vm_at after v) vm (join.parts (resource.Vm v)) at) [
     | inl found ↦ first.capacities v vm found
     | inr found ↦ second.capacities v vm found
   ];
+  room = room-joined one other after first.room second.room join;
 }
 
 same : (m : State) (here there : Resources) (h : Held) → IsRestricted m here h → ((r : Resource) → here r ≡ there r) → IsRestricted m there h
-same m here there h is equal = record { parts = λ r. rw (← equal r) (is.parts r); capacities = is.capacities }
+same m here there h is equal = record { parts = λ r. rw (← equal r) (is.parts r); capacities = is.capacities; room = is.room }
 
 whole : (config : Configuration) (h : Held) → IsCore config h → IsRestricted (state_of config h) (exists_in config) h × HasPlaces config h
 whole config h is =
     let left = left-whole config h is (λ k r. false) in
-    (record { parts = left.parts; capacities = left.capacities }, places-whole config h is)
+    (record { parts = left.parts; capacities = left.capacities; room = left.room }, places-whole config h is)
 
 pub moving : IsMoving
 moving = record { whole = whole; taken = taken; stays = stays; joined = joined; same = same; core = core-again }

@@ -137,7 +137,7 @@ module _ (m : State) (calls : List Call) (footprints : ℕ → Resources) (membe
   core-last h left places =
       let end : State = state_at m (wave_calls calls members) (length (wave_calls calls members)) in
       subst (λ config. IsCore config h × (state_of config h ≡ end)) config-last
-      (core-again end h lawful-last (record { parts = left.parts; capacities = left.capacities }) (subst (λ config. HasPlaces config h) (sym config-last) places))
+      (core-again end h lawful-last (record { parts = left.parts; capacities = left.capacities; room = left.room }) (subst (λ config. HasPlaces config h) (sym config-last) places))
 
 -- one more reply is written
 module _ (m : State) (calls : List Call) (footprints : ℕ → Resources) (members : List ℕ) (wave : IsWave m calls footprints members) (replies : List Reply) (j number : ℕ) (reply : Reply) (low : j < length members) (is : number ≡ get_or members j 0) (within : number < length replies) where

@@ -94,7 +94,7 @@ module _ (config : Configuration) (h : Held) (is : IsCore config h) where
 
   -- a whole core has all of its state
   pub left-whole : (footprints : ℕ → Resources) → IsRest (state_of config h) footprints [] h
-  left-whole footprints = record { parts = parts; capacities = is.linked.vms }
+  left-whole footprints = record { parts = parts; capacities = is.linked.vms; room = is.linked.room }
     where
       parts : (r : Resource) → seen_at h r ≡ cond (exists_in config r) (Some (linked_part_of (state_of config h) r)) None
       parts (resource.Frame f) = by_low (cases_lt f config.frames) (page_at h f) refl

@@ -18,9 +18,9 @@ use Rattle.kc_core.proofs.Frames.{frame-is}
 use Rattle.kc_replay.specs.Wave.{HasPlaces, HasNoBytes, IsWiped}
 use Rattle.kc_replay.proofs.Taking.{places-whole}
 
-wiped-page : (there : Option Page) (page : Page) → option_map scrubbed_page there ≡ Some page → page.bytes ≡ zero_page
+wiped-page : (there : Option Page) (page : Page) → option_map scrubbed_page there ≡ Some page → page.bytes.bytes ≡ zero_page
 wiped-page None page e = cc
-wiped-page (Some p) page e = ap (λ (x : Page). x.bytes) (sym (same_Some (scrubbed_page p) page e))
+wiped-page (Some p) page e = ap (λ (x : Page). x.bytes.bytes) (sym (same_Some (scrubbed_page p) page e))
 
 page-clean : (h : Held) (f : ℕ) → page_at (record h { pages = map scrubbed_page h.pages }) f ≡ option_map scrubbed_page (page_at h f)
 page-clean h f = ap (λ n. slice_get (map scrubbed_page h.pages) (cond (is_filled h.numbers h.filled f) (place_of h.numbers f) n)) (length-map h.pages scrubbed_page) ∙ slice_get-map scrubbed_page h.pages (place_in h f)

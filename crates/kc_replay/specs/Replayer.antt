@@ -27,8 +27,8 @@ pub record IsFed (before after : Replaying) (calls : List Call) (replies : List 
 -- calls in order, and neither shows what no VM granted
 pub record IsReplayOf (m : State) (calls : List Call) (outcome : Outcome) : Type 0 where
   pub replies : outcome.replies.items ≡ replies_from m calls
-  pub state : outcome.core ≡ state_after m calls
-  pub blind : ShowsNothing m calls outcome.replies.items outcome.core
+  pub state : outcome.core.state ≡ state_after m calls
+  pub blind : ShowsNothing m calls outcome.replies.items outcome.core.state
 
 -- the replies to segments in turn, joined
 unfoldable pub replies_to_each : State → List (List Call) → List Reply

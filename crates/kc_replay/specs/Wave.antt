@@ -15,6 +15,7 @@ use Rattle.kc_footprints.specs.Spans.{Footprints, footprint_has, footprint_at}
 use Rattle.kc_vms.specs.Vm.{VmSlot, capacity_of}
 use Rattle.kc_page.specs.declared.page.Page.{Page}
 use Rattle.kc_parts.specs.Parts.{Held, HasPlace, page_at, vm_at}
+use Rattle.kc_parts.specs.States.{HasRoom}
 use Rattle.kc_parts.specs.Restricted.{seen_at, exists_in, IsRestricted}
 use Rattle.kc_replay.specs.declared.crew.WaveCalls.{WaveCalls}
 use Rattle.kc_replay.specs.declared.task.Task.{Task}
@@ -33,10 +34,11 @@ pub record AreApart (m : State) (calls : List Call) (footprints : ℕ → Resour
 abbrev pub out : (ℕ → Resources) → List ℕ → Resources
 out footprints ks r = list_any (λ k. footprints k r) ks
 
--- the store lacks what the calls may touch, and has everything else of the state
+-- the store lacks what the calls may touch, and has everything else of the state, and memory if it is reserved
 pub record IsRest (m : State) (footprints : ℕ → Resources) (ks : List ℕ) (h : Held) : Type 0 where
   pub parts : (r : Resource) → seen_at h r ≡ cond (out footprints ks r) None (cond (exists_in m.config r) (Some (linked_part_of m r)) None)
   pub capacities : (v : ℕ) (vm : VmSlot) → vm_at h v ≡ Some vm → vm.capacity ≡ capacity_of m.config
+  pub room : HasRoom h
 
 -- the store has a place for everything in the configuration
 pub record HasPlaces (config : Configuration) (h : Held) : Type 0 where
@@ -97,7 +99,7 @@ pub record AreReplied (m : State) (calls : List Call) (members : List ℕ) (old 
 
 -- no page that is here has bytes other than zero
 abbrev pub HasNoBytes : Held → Type 0
-HasNoBytes h = (f : ℕ) (page : Page) → page_at h f ≡ Some page → page.bytes ≡ zero_page
+HasNoBytes h = (f : ℕ) (page : Page) → page_at h f ≡ Some page → page.bytes.bytes ≡ zero_page
 
 -- what is left of a core that failed and was wiped: it has the places of the configuration, and all its bytes are zero
 pub record IsWiped (config : Configuration) (left : Held) : Type 0 where

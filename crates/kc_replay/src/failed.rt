@@ -18,7 +18,7 @@ impl Failed {
     /// Fails with `Memory`, and leaves the parts of a core, which is wiped first, with several threads.
     pub(crate) fn for_memory<R: Threads + Sync>(rt: &R, core: KCore) -> Failed
         ensures fault { result.fault ≡ ReplayFault.Memory }
-        ensures wiped { IsWiped core.config result.left }
+        ensures wiped { IsWiped core.state.config result.left }
     {
         let mut core = core;
         core.wipe(rt);

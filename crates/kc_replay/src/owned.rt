@@ -21,10 +21,10 @@ fn principal_of(owner: Owner, slots: usize) -> Option<usize>
 
 /// Lists the frames of the slots and of the free list, each with the number of its owner.
 pub(crate) fn owned_frames(alloc: Global, core: &KCore) -> Result<Vec<(usize, u32)>, Memory>
-    ensures owned { IfOk result (λ pairs. IsOwned core.now pairs.items) }
+    ensures owned { IfOk result (λ pairs. IsOwned core.now.state pairs.items) }
     ensures one { IfOk result (λ pairs. HasOneOwnerEach pairs.items) }
-    ensures principals { IfOk result (λ pairs. AreBelow (slot_count core.now.config + 1) pairs.items) }
-    ensures frames { IfOk result (λ pairs. HaveFramesBelow core.now.config.frames pairs.items) }
+    ensures principals { IfOk result (λ pairs. AreBelow (slot_count core.now.state.config + 1) pairs.items) }
+    ensures frames { IfOk result (λ pairs. HaveFramesBelow core.now.state.config.frames pairs.items) }
 {
     let slots = core.config().slots() as usize;
     let mut pairs = Vec::new(alloc);

@@ -62,13 +62,14 @@ impl Model for Replayer {
     ghost use Rattle.std.specs.FinMap as map;
     ghost use Rattle.std.specs.Ordering.{nat_cmp};
     ghost use Rattle.kc_types.specs.Limits.{call_limit, worker_limit};
+    ghost use Rattle.kc_core.specs.KCore.{state_in};
     ghost use Rattle.kc_replay.specs.Replayer.{Replaying};
 
     ghost Value = { Replaying };
 
     ghost coded = { Prim.hlevel (codes, map.code {R = nat_cmp} coded_ℕ coded_ℕ) };
 
-    ghost view = { λ r. record { state = r.core; fed = r.fed; workers = r.workers } };
+    ghost view = { λ r. record { state = state_in r.core; fed = r.fed; workers = r.workers } };
 
     ghost invariant = { λ r. (0 < r.workers) × (r.workers ≤ worker_limit) × (r.fed ≤ call_limit) };
 }
@@ -86,7 +87,7 @@ impl Replayer {
         if workers == 0 || workers > WORKER_LIMIT {
             return Err(ReplayFault::BadWorkers);
         }
-        match KCore::boot(alloc, config) {
+        match KCore::boot_sparse(alloc, config) {
             Ok(core) => Replayer::from_core(core, workers),
             Err(_) => Err(ReplayFault::Memory),
         }
@@ -94,7 +95,7 @@ impl Replayer {
 
     /// Starts a replay from a core on, by 1 to 64 workers: `BadWorkers` for any other number, and no other fault.
     pub fn from_core(core: KCore, workers: usize) -> Result<Replayer, ReplayFault>
-        ensures start { IfOk result (λ replayer. replayer ≡ record { state = Some core; fed = 0; workers = workers }) }
+        ensures start { IfOk result (λ replayer. replayer ≡ record { state = Some core.state; fed = 0; workers = workers }) }
         ensures workers { OnOk result ((0 < workers) × (workers ≤ worker_limit)) }
         ensures bad_workers { IfErr result (λ fault. (fault ≡ BadWorkers) × ((workers ≡ 0) ⊎ (worker_limit < workers))) }
     {
@@ -168,7 +169,7 @@ impl Replayer {
 
     /// The core that the calls so far leave; `None` if a segment failed.
     pub fn core(&self) -> Option<&KCore>
-        ensures { option_map (λ core. core.now) result ≡ self.now.state }
+        ensures { option_map (λ core. core.now.state) result ≡ self.now.state }
     {
         self.core.as_ref()
     }
@@ -182,7 +183,7 @@ impl Replayer {
 
     /// Returns the core that all calls leave; `Broken` if a segment failed.
     pub fn finish(self) -> Result<KCore, ReplayFault>
-        ensures core { IfOk result (λ core. self.state ≡ Some core) }
+        ensures core { IfOk result (λ core. self.state ≡ Some core.state) }
         ensures broken { IfErr result (λ fault. (fault ≡ Broken) × (self.state ≡ None)) }
     {
         match self.core {
@@ -205,11 +206,11 @@ pub fn replay<R: Threads + Wait + Sync, G: Gate + Sync>(
     gate: &G,
 ) -> Result<Outcome, ReplayFault>
     requires { length calls.now ≤ call_limit }
-    ensures blind { IfOk result (λ outcome. ShowsNothing (boot config) calls.now outcome.replies.items outcome.core) }
-    ensures blind_from_boot { IfOk result (λ outcome. ShowsNothingFromBoot config calls.now outcome.replies.items outcome.core) }
+    ensures blind { IfOk result (λ outcome. ShowsNothing (boot config) calls.now outcome.replies.items outcome.core.state) }
+    ensures blind_from_boot { IfOk result (λ outcome. ShowsNothingFromBoot config calls.now outcome.replies.items outcome.core.state) }
     ensures promises { OnOk result (KeepsPromises (boot config) calls.now) }
     ensures replies { IfOk result (λ outcome. outcome.replies.items ≡ replies_from (boot config) calls.now) }
-    ensures state { IfOk result (λ outcome. outcome.core ≡ state_after (boot config) calls.now) }
+    ensures state { IfOk result (λ outcome. outcome.core.state ≡ state_after (boot config) calls.now) }
     ensures workers { OnOk result ((0 < workers) × (workers ≤ worker_limit)) }
     ensures bad_workers { IfErr result (λ fault. (fault ≡ BadWorkers) ↔ ((workers ≡ 0) ⊎ (worker_limit < workers))) }
     ensures whole { result ≢ Err Broken }

@@ -40,9 +40,9 @@ fn answer_wave<G: Gate>(
 ) -> Result<(), Memory>
     requires members { AreCallNumbers (length calls.now) members.now }
     requires long { length replies.old ≡ length calls.now }
-    ensures replies { OnOk result (AreReplied core.old calls.now members.now replies.old replies.new) }
-    ensures state { OnOk result (core.new ≡ state_at core.old (wave_calls calls.now members.now) (length members.now)) }
-    ensures config { core.new.config ≡ core.old.config }
+    ensures replies { OnOk result (AreReplied core.old.state calls.now members.now replies.old replies.new) }
+    ensures state { OnOk result (core.new.state ≡ state_at core.old.state (wave_calls calls.now members.now) (length members.now)) }
+    ensures config { core.new.state.config ≡ core.old.state.config }
 {
     for place in 0..members.len() {
         let number = members[place];
@@ -62,13 +62,13 @@ fn share_wave<R: Threads + Wait + Sync, G: Gate + Sync>(
     workers: usize,
     replies: &mut [Reply],
 ) -> Result<KCore, Failed>
-    requires wave { IsWave core wave.now.calls.now (footprint_of wave.now.footprints.now) wave.now.members.now }
+    requires wave { IsWave core.state wave.now.calls.now (footprint_of wave.now.footprints.now) wave.now.members.now }
     requires footprints { length wave.now.footprints.now.calls ≡ length wave.now.calls.now }
     requires long { length replies.old ≡ length wave.now.calls.now }
     requires workers { 0 < workers }
-    ensures replies { OnOk result (AreReplied core wave.now.calls.now wave.now.members.now replies.old replies.new) }
-    ensures state { IfOk result (λ left. left ≡ state_at core (wave_calls wave.now.calls.now wave.now.members.now) (length wave.now.members.now)) }
-    ensures wiped { IfErr result (λ failed. IsWiped core.config failed.left) }
+    ensures replies { OnOk result (AreReplied core.state wave.now.calls.now wave.now.members.now replies.old replies.new) }
+    ensures state { IfOk result (λ left. left.state ≡ state_at core.state (wave_calls wave.now.calls.now wave.now.members.now) (length wave.now.members.now)) }
+    ensures wiped { IfErr result (λ failed. IsWiped core.state.config failed.left) }
 {
     let (config, mut parts) = core.into_parts();
     match run_wave(crew, &config, &mut parts, wave, workers, replies) {
@@ -86,8 +86,8 @@ const FRAMES_WORTH_A_THREAD: u32 = 32;
 /// a third of what is gained. What other calls do costs no more than taking parts out.
 const PARTS_FOR_A_FRAME: u32 = 4;
 
-/// The number of parts that may be out at once, besides one for every five frames of the core: a blank page takes as
-/// much memory as the page that it replaces.
+/// The number of parts that may be out at once, besides one for every five frames of the core: a part that is out takes a
+/// place in a task, besides its place in the core.
 const PARTS_OUT: u32 = 512;
 
 const FRAMES_FOR_A_PART: u32 = 5;
@@ -158,13 +158,13 @@ fn take_wave<R: Threads + Wait + Sync, G: Gate + Sync>(
     replies: &mut [Reply],
     budget: &mut Budget,
 ) -> Result<KCore, Failed>
-    requires wave { IsWave core wave.now.calls.now (footprint_of wave.now.footprints.now) wave.now.members.now }
+    requires wave { IsWave core.state wave.now.calls.now (footprint_of wave.now.footprints.now) wave.now.members.now }
     requires footprints { length wave.now.footprints.now.calls ≡ length wave.now.calls.now }
     requires members { AreCallNumbers (length wave.now.calls.now) wave.now.members.now }
     requires long { length replies.old ≡ length wave.now.calls.now }
-    ensures replies { OnOk result (AreReplied core wave.now.calls.now wave.now.members.now replies.old replies.new) }
-    ensures state { IfOk result (λ left. left ≡ state_at core (wave_calls wave.now.calls.now wave.now.members.now) (length wave.now.members.now)) }
-    ensures wiped { IfErr result (λ failed. IsWiped core.config failed.left) }
+    ensures replies { OnOk result (AreReplied core.state wave.now.calls.now wave.now.members.now replies.old replies.new) }
+    ensures state { IfOk result (λ left. left.state ≡ state_at core.state (wave_calls wave.now.calls.now wave.now.members.now) (length wave.now.members.now)) }
+    ensures wiped { IfErr result (λ failed. IsWiped core.state.config failed.left) }
 {
     let work = Work::of(&core, wave);
     let worth = if crew.gate.may_wait() {
@@ -205,7 +205,7 @@ struct Prepared {
 
 fn prepare(alloc: Global, core: &KCore, calls: &[Call]) -> Result<Prepared, Memory>
     requires { length calls.now ≤ call_limit }
-    ensures footprints { IfOk result (λ prepared. AreFootprints core.now calls.now prepared.footprints) }
+    ensures footprints { IfOk result (λ prepared. AreFootprints core.now.state calls.now prepared.footprints) }
     ensures plan { IfOk result (λ prepared. prepared.plan ≡ prepared.footprints.waves) }
     ensures long { IfOk result (λ prepared. length prepared.replies.items ≡ length calls.now) }
 {
@@ -227,12 +227,12 @@ fn replay_waves<R: Threads + Wait + Sync, G: Gate + Sync>(
     prepared: Prepared,
     budget: &mut Budget,
 ) -> Result<Outcome, Failed>
-    requires lawful { IsLawful core }
-    requires footprints { AreFootprints core calls.now prepared.footprints }
+    requires lawful { IsLawful core.state }
+    requires footprints { AreFootprints core.state calls.now prepared.footprints }
     requires plan { prepared.plan ≡ prepared.footprints.waves }
     requires long { length prepared.replies.items ≡ length calls.now }
-    ensures replayed { IfOk result (IsReplayOf core calls.now) }
-    ensures wiped { IfErr result (λ failed. IsWiped core.config failed.left) }
+    ensures replayed { IfOk result (IsReplayOf core.state calls.now) }
+    ensures wiped { IfErr result (λ failed. IsWiped core.state.config failed.left) }
 {
     let Prepared {
         footprints,
@@ -261,10 +261,10 @@ fn answer_by_waves<R: Threads + Wait + Sync, G: Gate + Sync>(
     calls: &[Call],
     budget: &mut Budget,
 ) -> Result<Outcome, Failed>
-    requires lawful { IsLawful core }
+    requires lawful { IsLawful core.state }
     requires short { length calls.now ≤ call_limit }
-    ensures replayed { IfOk result (IsReplayOf core calls.now) }
-    ensures wiped { IfErr result (λ failed. IsWiped core.config failed.left) }
+    ensures replayed { IfOk result (IsReplayOf core.state calls.now) }
+    ensures wiped { IfErr result (λ failed. IsWiped core.state.config failed.left) }
 {
     let Ok(prepared) = prepare(crew.alloc, &core, calls) else {
         return Err(Failed::for_memory(crew.rt, core));
@@ -278,9 +278,9 @@ fn answer_in_order<R: Threads + Sync, G: Gate>(
     core: KCore,
     calls: &[Call],
 ) -> Result<Outcome, Failed>
-    requires lawful { IsLawful core }
-    ensures replayed { IfOk result (IsReplayOf core calls.now) }
-    ensures wiped { IfErr result (λ failed. IsWiped core.config failed.left) }
+    requires lawful { IsLawful core.state }
+    ensures replayed { IfOk result (IsReplayOf core.state calls.now) }
+    ensures wiped { IfErr result (λ failed. IsWiped core.state.config failed.left) }
     ensures alone { IfErr result (λ failed. failed.fault ≢ Start) }
 {
     let mut core = core;
@@ -328,11 +328,11 @@ pub(crate) fn answer_segment<R: Threads + Wait + Sync, G: Gate + Sync>(
     calls: &[Call],
     budget: &mut Budget,
 ) -> Result<Outcome, Failed>
-    requires lawful { IsLawful core }
+    requires lawful { IsLawful core.state }
     requires short { length calls.now ≤ call_limit }
-    ensures replayed { IfOk result (IsReplayOf core calls.now) }
-    ensures wiped { IfErr result (λ failed. IsWiped core.config failed.left) }
-    ensures promises { KeepsPromises core calls.now }
+    ensures replayed { IfOk result (IsReplayOf core.state calls.now) }
+    ensures wiped { IfErr result (λ failed. IsWiped core.state.config failed.left) }
+    ensures promises { KeepsPromises core.state calls.now }
     ensures started { IfErr result (λ failed. failed.fault ≡ Start → 1 < crew.now.workers) }
 {
     budget.add_calls(calls.len());

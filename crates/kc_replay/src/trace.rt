@@ -13,7 +13,7 @@ use std::alloc::Global;
 /// 65,536.
 pub fn footprints(alloc: Global, core: &KCore, calls: &[Call]) -> Result<Footprints, Memory>
     requires { length calls.now < 2 ^ 32 }
-    ensures { IfOk result (AreFootprints core.now calls.now) }
+    ensures { IfOk result (AreFootprints core.now.state calls.now) }
 {
     let owned = owned_frames(alloc, core)?;
     footprints_from(alloc, core.config(), owned.as_slice(), calls)

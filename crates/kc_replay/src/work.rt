@@ -10,7 +10,7 @@ use crate::crew::Crew;
 use crate::fault::ReplayFault;
 use crate::task::{Finished, Task};
 use kc_core::{Gate, apply};
-use kc_types::{Call, Config, Memory, ReplyBuffer};
+use kc_types::{Call, CallBuffer, Config, Memory};
 use std::alloc::Global;
 use std::marker::{Brand, PhantomData};
 use std::snapshot::Snapshot;
@@ -32,7 +32,7 @@ fn finish<G: Gate>(
     let mut left = task;
     gate.before(left.number);
     let call = &calls[left.number];
-    let reply = apply(&mut left.parts, config, call, ReplyBuffer::none(alloc));
+    let reply = apply(&mut left.parts, config, call, CallBuffer::none(alloc));
     gate.after(left.number);
     Ok(Finished {
         reply: reply?,

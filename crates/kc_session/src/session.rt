@@ -124,9 +124,9 @@ impl Model for Session {
 impl Session {
     /// Begins with a core that was asked nothing yet, and with this position of the first volume, or none.
     fn of(alloc: Global, core: KCore, position: Option<Position>) -> Result<Session, Memory>
-        requires lawful { IsLawful core }
-        requires header { MayRecord (header_at core.config position) }
-        ensures { IfOk result (λ session. session ≡ begun position core) }
+        requires lawful { IsLawful core.state }
+        requires header { MayRecord (header_at core.state.config position) }
+        ensures { IfOk result (λ session. session ≡ begun position core.state) }
     {
         Ok(Session {
             alloc,
@@ -231,7 +231,7 @@ impl Session {
 
     /// The core as the calls so far left it.
     pub fn core(&self) -> &KCore
-        ensures { result.now ≡ self.now.log.state }
+        ensures { result.now.state ≡ self.now.log.state }
     {
         self.journal.core()
     }

@@ -6,6 +6,7 @@ use Rattle.std.specs.FinMap as finite
 use Rattle.std.proofs.lemmas.Bool.{cases_lt}
 use Rattle.std.proofs.lemmas.List.{ext_get_or, get_or_past, get_or_default, get_or-map, length-map}
 use Rattle.std.proofs.lemmas.List.FromFn.{get_or-map-range_with_len, length-map-range_with_len}
+use Rattle.std.proofs.Math.ListN.{get_or-map as content-at}
 use Rattle.std.proofs.lemmas.Option.{same_Some}
 use Rattle.kc_types.specs.Configuration.{Configuration, slot_count, slots_of}
 use Rattle.kc_types.specs.declared.link.Ends.{Ends}
@@ -15,6 +16,8 @@ use Rattle.kc_model.specs.State.{State, Frame, Slot, frame_at, slot_at, zero_pag
 use Rattle.kc_model.specs.Links.{link_at}
 use Rattle.kc_page.specs.declared.page.Page.{Page}
 use Rattle.kc_page.specs.Page.{frame_of}
+use Rattle.kc_page.specs.PageBytes.{Content}
+use Rattle.kc_model.specs.Lawful.{IsPage}
 use Rattle.kc_vms.specs.Vm.{VmSlot, Capacity, capacity_for}
 use Rattle.kc_parts.specs.Parts.{Held, page_at, vm_at, links_of}
 use Rattle.kc_parts.specs.States.{frame_in, slot_in, unlinked_slot, state_of}
@@ -31,9 +34,9 @@ use Rattle.kc_dump.specs.Dump.{Dumped, SlotDump, absent_line, line_at, empty_dum
 use Rattle.kc_dump.specs.Sound.{IsSoundFrame}
 use Rattle.sha2.specs.Sha256.{sha256}
 use Rattle.kc_snapshot.specs.Dumping.{frame_line, frame_lines, slot_dump, dump_of}
-use Rattle.kc_snapshot.specs.Told.{Told, SlotRest, slot_rest, told_of, config_of}
+use Rattle.kc_snapshot.specs.Told.{Told, SlotRest, slot_rest, told_of, config_of, bytes_of}
 use Rattle.kc_snapshot.specs.Unlawful.{IsSized, slot_rest_at, page_of}
-use Rattle.kc_snapshot.specs.Making.{IsJudged, IsVmTold, IsPlaceTold, AreVmsTold, page_told}
+use Rattle.kc_snapshot.specs.Making.{IsJudged, IsVmTold, IsPlaceTold, AreVmsTold, content_of, page_told}
 use Rattle.kc_snapshot.proofs.Mapped.{entry-key, has}
 use Rattle.kc_snapshot.proofs.Shows.{Shows, SharesInActive}
 use Rattle.kc_snapshot.proofs.Shown.{core-shown}
@@ -43,7 +46,7 @@ abbrev no_rest : SlotRest
 no_rest = record { vcpus = []; images = [] }
 
 -- the neighbours of a page's frame are those of its line: the core's and the host's frames have none
-module _ (core f : ℕ) (line : FrameLine) (bytes : List ℕ) (is : IsSoundFrame core f line) where
+module _ (core f : ℕ) (line : FrameLine) (bytes : Content) (is : IsSoundFrame core f line) where
   prev-shown : (shown (page_told line bytes).meta).prev ≡ line.prev
   prev-shown = by_owner line.owner refl
     where
@@ -62,7 +65,8 @@ module _ (core f : ℕ) (line : FrameLine) (bytes : List ℕ) (is : IsSoundFrame
       by_owner Free e = refl
       by_owner (Vm v) e = refl
 
-module _ (t : Told) (sized : IsSized t) (judged : IsJudged t) (vms : List (Option VmSlot)) (count : length vms ≡ length t.dump.slots) (each : AreVmsTold t.dump t.rest.slots vms (length t.dump.slots)) where
+module _ (t : Told) (sized : IsSized t) (judged : IsJudged t) (vms : List (Option VmSlot)) (count : length vms ≡ length t.dump.slots) (each : AreVmsTold t.dump t.rest.slots vms (length t.dump.slots))
+    (contents : List Content) (spells : bytes_of contents ≡ t.rest.pages) where
   abbrev d : Dumped
   d = t.dump
 
@@ -73,13 +77,16 @@ module _ (t : Told) (sized : IsSized t) (judged : IsJudged t) (vms : List (Optio
   capacity = capacity_for d.version d.leaves
 
   abbrev page_made : ℕ → Page
-  page_made f = page_told (line_at d.frames f) (page_of t.rest.pages f)
+  page_made f = page_told (line_at d.frames f) (content_of contents f)
+
+  bytes-made : (f : ℕ) → (content_of contents f).bytes ≡ page_of t.rest.pages f
+  bytes-made f = sym (content-at (λ (page : Content). page.bytes) contents f (record { bytes = zero_page; is_reserved = false })) ∙ ap (λ pages. page_of pages f) spells
 
   abbrev pages : List Page
   pages = map page_made (range_with_len 0 (length d.frames))
 
   abbrev h : Held
-  h = parts_of pages vms d.free
+  h = parts_of pages vms d.free false
 
   abbrev m : State
   m = state_of config h
@@ -92,17 +99,17 @@ module _ (t : Told) (sized : IsSized t) (judged : IsJudged t) (vms : List (Optio
   slots-count = sym judged.range.slots
 
   page-here : (f : ℕ) → f < length d.frames → page_at h f ≡ Some (page_made f)
-  page-here f low = whole-page pages vms d.free f (page_made f) (rw long low) ∙ ap Some (get_or-map-range_with_len page_made 0 (length d.frames) f f (page_made f) low (omega arith))
+  page-here f low = whole-page pages vms d.free false f (page_made f) (rw long low) ∙ ap Some (get_or-map-range_with_len page_made 0 (length d.frames) f f (page_made f) low (omega arith))
 
   vm-told : (v : ℕ) (vm : VmSlot) → v < length d.slots → vm_at h v ≡ Some vm → IsVmTold capacity (slot_dump_at d v) (slot_rest_at t.rest.slots v) vm
-  vm-told v vm low at = subst (IsPlaceTold capacity (slot_dump_at d v) (slot_rest_at t.rest.slots v)) (sym (whole-vm pages vms d.free v) ∙ at) (each v low)
+  vm-told v vm low at = subst (IsPlaceTold capacity (slot_dump_at d v) (slot_rest_at t.rest.slots v)) (sym (whole-vm pages vms d.free false v) ∙ at) (each v low)
 
   some-told : (v : ℕ) (there : Option VmSlot) → IsPlaceTold capacity (slot_dump_at d v) (slot_rest_at t.rest.slots v) there → is_some there ≡ true
   some-told v (Some vm) is = refl
   some-told v None is = absurd is
 
   whole : IsWhole config h
-  whole = whole-parts pages vms d.free config (sym long) (slots-count ∙ sym count) (λ v e low. ap is_some (get_or_default vms v e None low) ∙ some-told v (get_or vms v None) (each v (rw count at low)))
+  whole = whole-parts pages vms d.free false config (sym long) (slots-count ∙ sym count) (λ v e low. ap is_some (get_or_default vms v e None low) ∙ some-told v (get_or vms v None) (each v (rw count at low)))
 
   vm-low : (v : ℕ) (vm : VmSlot) → vm_at h v ≡ Some vm → v < length d.slots
   vm-low v vm at = rw slots-count at (whole.past v (ap is_some at))
@@ -119,7 +126,7 @@ module _ (t : Told) (sized : IsSized t) (judged : IsJudged t) (vms : List (Optio
     dump = record { version = refl; frames = refl; core = refl; leaves = refl };
     free = refl;
     each_page = λ f page low at. (let is : page ≡ page_made f = same_Some page (page_made f) (sym at ∙ page-here f low) in
-        rw is (record { owner = refl; share = refl; gfn = refl; present = refl; prev = refl; next = refl; zeroed = (judged.frames f low).zeroed; whole = judged.pages f low }));
+        rw is (record { owner = refl; share = refl; gfn = refl; present = refl; prev = refl; next = refl; zeroed = λ free. bytes-made f ∙ (judged.frames f low).zeroed free; whole = subst IsPage (sym (bytes-made f)) (judged.pages f low) }));
     each_slot = λ v vm low at. (
         let within : v < length d.slots = rw slots-count at low in
         let told = vm-told v vm within at in
@@ -133,6 +140,7 @@ module _ (t : Told) (sized : IsSized t) (judged : IsJudged t) (vms : List (Optio
           images = λ booting g. entry-key vm.slot.mapped g ∙ ap (λ es. has es g) told.entries ∙ slot.booting (sym told.phase ∙ booting) g ∙ rw told.images refl;
         });
     shared = in-active;
+    room = λ reserved f. cc;
   }
 
   pub core-made : IsCore config h
@@ -160,7 +168,7 @@ module _ (t : Told) (sized : IsSized t) (judged : IsJudged t) (vms : List (Optio
   pages-told : map (λ (frame : Frame). frame.bytes) m.frames ≡ t.rest.pages
   pages-told = ext_get_or zero_page _ _ (length-map m.frames (λ (frame : Frame). frame.bytes) ∙ frames-long ∙ sym sized.pages) (λ f low.
       let within : f < length m.frames = rw length-map at low in
-      get_or-map (λ (frame : Frame). frame.bytes) m.frames f (untouched Core) zero_page within ∙ ap (λ (frame : Frame). frame.bytes) (frame-is f (rw frames-long at within)))
+      get_or-map (λ (frame : Frame). frame.bytes) m.frames f (untouched Core) zero_page within ∙ ap (λ (frame : Frame). frame.bytes) (frame-is f (rw frames-long at within)) ∙ bytes-made f)
 
   rests-told : map slot_rest m.slots ≡ t.rest.slots
   rests-told = ext_get_or no_rest _ _ (length-map m.slots slot_rest ∙ slots-long ∙ sym sized.slots) (λ v low.
@@ -189,7 +197,7 @@ module _ (t : Told) (sized : IsSized t) (judged : IsJudged t) (vms : List (Optio
   line-told : (f : ℕ) → f < length d.frames → frame_line (frame_at m f) (link_at m f) ≡ line_at d.frames f
   line-told f low =
       let line = line_at d.frames f in
-      let bytes = page_of t.rest.pages f in
+      let bytes = content_of contents f in
       let record' = record-shown config h core-made f (shown (page_made f).meta) low (rw (page-here f low) refl) in
       let frame = frame-is f low in
       let sound = judged.sound.each_frame f low in
@@ -200,7 +208,7 @@ module _ (t : Told) (sized : IsSized t) (judged : IsJudged t) (vms : List (Optio
         present = (ap (λ (x : Frame). x.present) frame) i;
         prev = (sym record'.prev ∙ prev-shown d.core f line bytes sound) i;
         next = (sym record'.next ∙ next-shown d.core f line bytes sound) i;
-        digest = (ap (λ (x : Frame). sha256 x.bytes) frame ∙ sym (judged.frames f low).digest) i;
+        digest = (ap (λ (x : Frame). sha256 x.bytes) frame ∙ ap sha256 (bytes-made f) ∙ sym (judged.frames f low).digest) i;
       }
 
   lines-told : frame_lines m config.frames ≡ d.frames
@@ -217,13 +225,13 @@ module _ (t : Told) (sized : IsSized t) (judged : IsJudged t) (vms : List (Optio
 
 -- the same for parts that are made one after another
 module _ (t : Told) (sized : IsSized t) (judged : IsJudged t) (vms : List (Option VmSlot)) (count : length vms ≡ length t.dump.slots) (each : AreVmsTold t.dump t.rest.slots vms (length t.dump.slots))
-    (config : Configuration) (lines : List FrameLine) (bytes : List (List ℕ)) (pages : List Page) (free : Ends) (parts : Held) (is_config : config ≡ config_of t) (is_lines : lines ≡ t.dump.frames) (is_bytes : bytes ≡ t.rest.pages)
-    (are_pages : pages ≡ map (λ f. page_told (line_at lines f) (page_of bytes f)) (range_with_len 0 (length lines))) (is_free : free ≡ t.dump.free) (are_parts : parts ≡ parts_of pages vms free) where
-  parts-made : parts ≡ parts_of (map (λ f. page_told (line_at t.dump.frames f) (page_of t.rest.pages f)) (range_with_len 0 (length t.dump.frames))) vms t.dump.free
-  parts-made = are_parts ∙ (λ i. parts_of ((are_pages ∙ (λ k. map (λ f. page_told (line_at (is_lines k) f) (page_of (is_bytes k) f)) (range_with_len 0 (length (is_lines k))))) i) vms (is_free i))
+    (config : Configuration) (lines : List FrameLine) (bytes : List Content) (pages : List Page) (free : Ends) (parts : Held) (is_config : config ≡ config_of t) (is_lines : lines ≡ t.dump.frames) (is_bytes : bytes_of bytes ≡ t.rest.pages)
+    (are_pages : pages ≡ map (λ f. page_told (line_at lines f) (content_of bytes f)) (range_with_len 0 (length lines))) (is_free : free ≡ t.dump.free) (are_parts : parts ≡ parts_of pages vms free false) where
+  parts-made : parts ≡ parts_of (map (λ f. page_told (line_at t.dump.frames f) (content_of bytes f)) (range_with_len 0 (length t.dump.frames))) vms t.dump.free false
+  parts-made = are_parts ∙ (λ i. parts_of ((are_pages ∙ (λ k. map (λ f. page_told (line_at (is_lines k) f) (content_of bytes f)) (range_with_len 0 (length (is_lines k))))) i) vms (is_free i) false)
 
   pub core-assembled : IsCore config parts
-  core-assembled = rw (is_config, parts-made) (core-made t sized judged vms count each)
+  core-assembled = rw (is_config, parts-made) (core-made t sized judged vms count each bytes is_bytes)
 
   pub told-assembled : told_of (state_of config parts) ≡ t
-  told-assembled = (λ i. told_of (state_of (is_config i) (parts-made i))) ∙ told-made t sized judged vms count each
+  told-assembled = (λ i. told_of (state_of (is_config i) (parts-made i))) ∙ told-made t sized judged vms count each bytes is_bytes

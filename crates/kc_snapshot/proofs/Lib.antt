@@ -11,3 +11,4 @@ mod Shown
 mod Assembled
 mod Refused
 mod Shares
+mod Pages

@@ -10,11 +10,12 @@ use Rattle.kc_model.specs.Lawful.{IsLawful}
 use Rattle.kc_page.specs.declared.page.Page.{Page}
 use Rattle.kc_page.specs.declared.page.PageRecord.{PageRecord}
 use Rattle.kc_page.specs.Page.{frame_of, IsRecordOf}
+use Rattle.kc_page.specs.PageBytes.{Content}
 use Rattle.kc_types.specs.declared.owner.Owner.TheVariants.{Core}
 use Rattle.sha2.specs.Sha256.{sha256}
 use Rattle.kc_dump.specs.declared.line.FrameLine.{FrameLine}
 use Rattle.kc_dump.specs.Dump.{empty_dump}
-use Rattle.kc_digests.specs.Digests.{digest_of}
+use Rattle.kc_digests.specs.Digests.{digest_of, digest_of_bytes}
 use Rattle.kc_snapshot.specs.Dumping.{frame_line, digests_of, slot_dump, slot_dumps}
 
 -- one more, by its number
@@ -28,7 +29,7 @@ pages-digests pages frames is = same pages ∙ ap (map (λ (frame : Frame). sha2
   where
     same : (pages : List Page) → map digest_of pages ≡ map (λ (frame : Frame). sha256 frame.bytes) (map frame_of pages)
     same [] = refl
-    same (page ∷ pages) = ap (λ l. sha256 page.bytes ∷ l) (same pages)
+    same (page ∷ pages) = ap (λ l. sha256 page.bytes.bytes ∷ l) (same pages)
 
 pub digests-made : (m : State) (pages : List Page) (digests : List (List ℕ)) → map frame_of pages ≡ m.frames → digests ≡ map digest_of pages → digests ≡ digests_of m
 digests-made m pages digests is made = made ∙ pages-digests pages m.frames is
@@ -54,8 +55,8 @@ digests-ranged m count all = ext_get_or [] _ _ (length-map-range_with_len (λ f.
     ∙ sym (get_or-map (λ (frame : Frame). sha256 frame.bytes) m.frames i (untouched Core) [] (rw (← all) within)))
 
 -- the digests of the first pages and of one more
-pub digest-more : (pages : List (List ℕ)) (n : ℕ) (page : List ℕ) (old new : List (List ℕ)) (x : List ℕ) → old ≡ map sha256 (take n pages) → new ≡ old ++ x ∷ [] → x ≡ sha256 page → n < length pages → page ≡ get_or pages n page
-    → new ≡ map sha256 (take (n + 1) pages)
+pub digest-more : (pages : List Content) (n : ℕ) (page : Content) (old new : List (List ℕ)) (x : List ℕ) → old ≡ map digest_of_bytes (take n pages) → new ≡ old ++ x ∷ [] → x ≡ digest_of_bytes page → n < length pages → page ≡ get_or pages n page
+    → new ≡ map digest_of_bytes (take (n + 1) pages)
 digest-more pages n page old new x so_far pushed made low is =
-    pushed ∙ ap (λ (l : List (List ℕ)). l ++ x ∷ []) so_far ∙ ap (λ (y : List ℕ). map sha256 (take n pages) ++ y ∷ []) (made ∙ ap sha256 is)
-    ∙ sym (ap (map sha256) (take_more pages n page low) ∙ map-append sha256 (take n pages) (get_or pages n page ∷ []))
+    pushed ∙ ap (λ (l : List (List ℕ)). l ++ x ∷ []) so_far ∙ ap (λ (y : List ℕ). map digest_of_bytes (take n pages) ++ y ∷ []) (made ∙ ap digest_of_bytes is)
+    ∙ sym (ap (map digest_of_bytes) (take_more pages n page low) ∙ map-append digest_of_bytes (take n pages) (get_or pages n page ∷ []))

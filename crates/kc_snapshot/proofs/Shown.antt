@@ -224,6 +224,7 @@ module _ (config : Configuration) (d : Dumped) (h : Held) (is : IsConfiguration 
         | inr past ↦ let core : owner_at h f ≡ Core = ap (λ there. (frame_in there).owner) (page-past f past) in let no : Core ≡ Host = sym core ∙ host in cc
       ];
     };
+    room = shows.room;
   }
 
   lawful-frame : (f : ℕ) → f < config.frames → IsLawfulFrame config f (frame_at m f)

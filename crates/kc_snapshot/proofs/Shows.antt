@@ -11,6 +11,7 @@ use Rattle.kc_page.specs.declared.page.Page.{Page}
 use Rattle.kc_types.specs.declared.version.Version.{Version}
 use Rattle.kc_vms.specs.Vm.{VmSlot, IsSlot, capacity_of}
 use Rattle.kc_parts.specs.Parts.{Held, page_at, vm_at}
+use Rattle.kc_parts.specs.States.{HasRoom}
 use Rattle.kc_parts.specs.Booting.{IsWhole}
 use Rattle.kc_dump.specs.declared.line.FrameLine.{FrameLine}
 use Rattle.kc_dump.specs.Dump.{Dumped, SlotDump, line_at, line_owner, slot_dump_at}
@@ -23,8 +24,8 @@ pub record ShowsPage (line : FrameLine) (page : Page) : Type 0 where
   pub present : page.meta.present ≡ line.present
   pub prev : page.meta.prev ≡ line.prev
   pub next : page.meta.next ≡ line.next
-  pub zeroed : line.owner ≡ Free → page.bytes ≡ zero_page
-  pub whole : IsPage page.bytes
+  pub zeroed : line.owner ≡ Free → page.bytes.bytes ≡ zero_page
+  pub whole : IsPage page.bytes.bytes
 
 -- the slot is the dump's, and while it boots, the images' pages so far are mapped and nothing else
 pub record ShowsSlot (version : Version) (there : SlotDump) (vm : VmSlot) : Type 0 where
@@ -58,3 +59,4 @@ pub record Shows (config : Configuration) (d : Dumped) (h : Held) : Type 0 where
   pub each_page : (f : ℕ) (page : Page) → f < config.frames → page_at h f ≡ Some page → ShowsPage (line_at d.frames f) page
   pub each_slot : (v : ℕ) (vm : VmSlot) → v < slot_count config → vm_at h v ≡ Some vm → ShowsSlot config.version (slot_dump_at d v) vm
   pub shared : SharesInActive d
+  pub room : HasRoom h

@@ -1,8 +1,10 @@
 -- The parts of the core that is made from a description.
-use Rattle.std.specs.Prelude.{ℕ, ◌≡◌, ◌<◌, List, length, slice_index_or, Option, Some, None}
+use Rattle.std.specs.Prelude.{ℕ, ◌≡◌, ◌<◌, false, List, length, slice_index_or, Option, Some, None}
 use Rattle.std.specs.FinMap as finite
 use Rattle.kc_model.specs.Lawful.{IsPage}
+use Rattle.kc_model.specs.State.{zero_page}
 use Rattle.kc_page.specs.declared.page.Page.{Page}
+use Rattle.kc_page.specs.PageBytes.{Content}
 use Rattle.kc_vms.specs.Vm.{VmSlot, Capacity, capacity_for}
 use Rattle.kc_dump.specs.declared.line.FrameLine.{FrameLine}
 use Rattle.kc_dump.specs.Dump.{Dumped, SlotDump, slot_dump_at}
@@ -19,8 +21,12 @@ pub record IsJudged (t : Told) : Type 0 where
   pub frames : AreFramesTold t (length t.dump.frames)
   pub pages : (f : ℕ) → f < length t.dump.frames → IsPage (page_of t.rest.pages f)
 
+-- the page of a number, or a sparse page of zeros if there is none
+abbrev pub content_of : List Content → ℕ → Content
+content_of pages f = slice_index_or pages f (record { bytes = zero_page; is_reserved = false })
+
 -- the page of these bytes, with the record that the dump shows
-abbrev pub page_told : FrameLine → List ℕ → Page
+abbrev pub page_told : FrameLine → Content → Page
 page_told line bytes = record {
   meta = record { owner = line.owner; share = line.share; gfn = line.gfn; present = line.present; prev = line.prev; next = line.next };
   bytes = bytes;

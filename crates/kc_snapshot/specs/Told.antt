@@ -2,6 +2,7 @@
 use Rattle.std.specs.Prelude.{ℕ, List, length, map}
 use Rattle.kc_types.specs.Configuration.{Configuration}
 use Rattle.kc_model.specs.State.{State, Frame, Slot, Vcpu, Image}
+use Rattle.kc_page.specs.PageBytes.{Content}
 use Rattle.kc_dump.specs.Dump.{Dumped}
 use Rattle.kc_snapshot.specs.Dumping.{dump_of}
 
@@ -16,6 +17,10 @@ pub record Rest : Type 0 where
   pub approved : List (List ℕ)
   pub slots : List SlotRest
   pub pages : List (List ℕ)
+
+-- the bytes of pages
+abbrev pub bytes_of : List Content → List (List ℕ)
+bytes_of pages = map (λ (page : Content). page.bytes) pages
 
 pub record Told : Type 0 where
   pub rest : Rest

@@ -24,9 +24,9 @@ struct Digests {
 
 /// Lists the records of all frames with the digests of their pages.
 fn lines(alloc: Global, core: &KCore, digests: &Digests) -> Result<Vec<FrameLine>, Memory>
-    requires { digests.now.each.items ≡ digests_of (in_form digests.now.form core.now) }
+    requires { digests.now.each.items ≡ digests_of (in_form digests.now.form core.now.state) }
     ensures { IfOk result
-        (λ lines. lines.items ≡ frame_lines (in_form digests.now.form core.now) core.now.config.frames) }
+        (λ lines. lines.items ≡ frame_lines (in_form digests.now.form core.now.state) core.now.state.config.frames) }
 {
     let each = digests.each.as_slice();
     let mut lines = Vec::with_capacity(alloc, each.len())?;
@@ -47,8 +47,8 @@ fn lines(alloc: Global, core: &KCore, digests: &Digests) -> Result<Vec<FrameLine
 
 /// Dumps a VM slot that exists.
 fn slot(alloc: Global, core: &KCore, vm: u32) -> Result<SlotDump, Memory>
-    requires { vm < slot_count core.now.config }
-    ensures { IfOk result (λ slot. slot ≡ slot_dump (slot_at core.now vm)) }
+    requires { vm < slot_count core.now.state.config }
+    ensures { IfOk result (λ slot. slot ≡ slot_dump (slot_at core.now.state vm)) }
 {
     let phase = core.phase(vm).unwrap();
     let list = core.slot_ends(vm).unwrap();
@@ -59,7 +59,7 @@ fn slot(alloc: Global, core: &KCore, vm: u32) -> Result<SlotDump, Memory>
 
 /// Dumps all VM slots.
 fn slots(alloc: Global, core: &KCore) -> Result<Vec<SlotDump>, Memory>
-    ensures { IfOk result (λ slots. slots.items ≡ slot_dumps core.now (slot_count core.now.config)) }
+    ensures { IfOk result (λ slots. slots.items ≡ slot_dumps core.now.state (slot_count core.now.state.config)) }
 {
     let mut slots = Vec::new(alloc);
     for vm in 0..core.config().slots() {
@@ -70,8 +70,8 @@ fn slots(alloc: Global, core: &KCore) -> Result<Vec<SlotDump>, Memory>
 
 /// Dumps a core with these digests.
 fn dump_with(alloc: Global, core: &KCore, digests: &Digests) -> Result<Dump, Memory>
-    requires { digests.now.each.items ≡ digests_of (in_form digests.now.form core.now) }
-    ensures dump { IfOk result (λ dump. dump ≡ dump_of (in_form digests.now.form core.now)) }
+    requires { digests.now.each.items ≡ digests_of (in_form digests.now.form core.now.state) }
+    ensures dump { IfOk result (λ dump. dump ≡ dump_of (in_form digests.now.form core.now.state)) }
     ensures sound { IfOk result IsSound }
 {
     let frames = lines(alloc, core, digests)?;
@@ -96,7 +96,7 @@ pub fn dump(
     lanes: Lanes,
 ) -> Result<Dump, Memory>
     // No clause can rule out that memory runs out: a test dumps a core.
-    ensures dump { IfOk result (λ dump. dump ≡ dump_of core.now) }
+    ensures dump { IfOk result (λ dump. dump ≡ dump_of core.now.state) }
     ensures sound { IfOk result IsSound }
 {
     let digests = Digests {
@@ -109,7 +109,7 @@ pub fn dump(
 /// Dumps a core in a form, as `dump` does, on this thread alone, which hashes page by page.
 pub fn dump_alone(alloc: Global, core: &KCore, form: StateForm) -> Result<Dump, Memory>
     // No clause can rule out that memory runs out: tests dump a core.
-    ensures dump { IfOk result (λ dump. dump ≡ dump_of (in_form form core.now)) }
+    ensures dump { IfOk result (λ dump. dump ≡ dump_of (in_form form core.now.state)) }
     ensures sound { IfOk result IsSound }
 {
     let digests = Digests {

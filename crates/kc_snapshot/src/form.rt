@@ -20,7 +20,7 @@ pub enum StateForm {
 
 /// Whether the VM in a slot is active; false for a slot that does not exist.
 fn is_active(core: &KCore, vm: u32) -> bool
-    ensures { result ≡ is_active (slot_at core.now vm).phase }
+    ensures { result ≡ is_active (slot_at core.now.state vm).phase }
 {
     let _config = core.config();
     match core.phase(vm) {
@@ -31,7 +31,7 @@ fn is_active(core: &KCore, vm: u32) -> bool
 
 /// Whether the owner is an active VM.
 fn is_guests(core: &KCore, owner: Owner) -> bool
-    ensures { result ≡ is_guests core.now owner }
+    ensures { result ≡ is_guests core.now.state owner }
 {
     match owner {
         Owner::Vm(vm) => is_active(core, vm.index() as u32),
@@ -41,8 +41,8 @@ fn is_guests(core: &KCore, owner: Owner) -> bool
 
 /// The owner of a frame that exists.
 fn owner_of(core: &KCore, frame: u32) -> Owner
-    requires { frame < core.now.config.frames }
-    ensures { result ≡ (frame_at core.now frame).owner }
+    requires { frame < core.now.state.config.frames }
+    ensures { result ≡ (frame_at core.now.state frame).owner }
 {
     match core.page_record(frame) {
         Some(record) => record.owner.get(),
@@ -57,9 +57,9 @@ pub fn bytes_in<'a>(
     frame: u32,
     zero: &'a PageBytes,
 ) -> &'a PageBytes
-    requires exists { frame < core.now.config.frames }
-    requires zero { zero.now ≡ zero_page }
-    ensures { result.now ≡ (frame_at (in_form form core.now) frame).bytes }
+    requires exists { frame < core.now.state.config.frames }
+    requires zero { zero.now.bytes ≡ zero_page }
+    ensures { result.now.bytes ≡ (frame_at (in_form form core.now.state) frame).bytes }
 {
     let bytes = core.bytes(frame).unwrap();
     let owner = owner_of(core, frame);

@@ -90,6 +90,7 @@ fn judge_frames(told: &Told, digests: &[[u8; 32]]) -> Result<(), Unlawful>
 
 /// Judges a description: returns the first reason why it is that of no lawful state. The pages are hashed, and the
 /// frames audited, by several threads.
+#[tactic(auto, using(crate::proofs::Pages::digests_of))]
 pub(crate) fn judge(
     rt: &(impl Threads + Sync),
     alloc: Global,
@@ -111,6 +112,7 @@ pub(crate) fn judge(
 }
 
 /// Does what `judge` does, on this thread alone.
+#[tactic(auto, using(crate::proofs::Pages::digests_of))]
 pub(crate) fn judge_alone(alloc: Global, told: &Told) -> Result<(), Unlawful>
     requires { IsSized told.now }
     ensures judged { OnOk result (IsJudged told.now) }

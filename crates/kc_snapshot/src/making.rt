@@ -8,8 +8,8 @@ ghost use Rattle.kc_vms.specs.Vm.{IsSlot, capacity_for};
 ghost use Rattle.kc_dump.specs.Dump.{line_at};
 ghost use Rattle.kc_dump.specs.Sound.{IsSound};
 ghost use Rattle.kc_snapshot.specs.Told.{config_of, told_of};
-ghost use Rattle.kc_snapshot.specs.Unlawful.{IsSized, IsUnlawful, AreSlotsOf, page_of};
-ghost use Rattle.kc_snapshot.specs.Making.{IsJudged, IsVmTold, AreVmsTold, page_told};
+ghost use Rattle.kc_snapshot.specs.Unlawful.{IsSized, IsUnlawful, AreSlotsOf};
+ghost use Rattle.kc_snapshot.specs.Making.{IsJudged, IsVmTold, AreVmsTold, content_of, page_told};
 
 use crate::judging::{judge, judge_alone, sized};
 use crate::told::{SlotRest, Told};
@@ -87,7 +87,7 @@ fn make_pages(lines: &[FrameLine], bytes: Vec<PageBytes>, mut pages: Vec<Page>) 
     requires none { pages.items ≡ [] }
     requires room { length lines.now ≤ vec_capacity pages }
     requires shares { (f : ℕ) → f < length lines.now → (line_at lines.now f).share ≤ share_limit }
-    ensures { result.items ≡ map (λ f. page_told (line_at lines.now f) (page_of bytes.items f)) (range_with_len 0 (length lines.now)) }
+    ensures { result.items ≡ map (λ f. page_told (line_at lines.now f) (content_of bytes.items f)) (range_with_len 0 (length lines.now)) }
 {
     let mut rest = bytes.into_iter();
     for line in lines {
@@ -97,18 +97,18 @@ fn make_pages(lines: &[FrameLine], bytes: Vec<PageBytes>, mut pages: Vec<Page>) 
     pages
 }
 
-/// Makes a core from what was judged; `Memory` if memory runs out.
+/// Makes a sparse core from what was judged; `Memory` if memory runs out.
 fn make_core(alloc: Global, config: Config, told: Told) -> Result<KCore, Memory>
     requires config { config ≡ config_of told }
     requires sized { IsSized told }
     requires judged { IsJudged told }
-    ensures { IfOk result (λ core. told_of core ≡ told) }
+    ensures { IfOk result (λ core. told_of core.state ≡ told) }
 {
     let vms = make_slots(alloc, &told.dump, told.slots.as_slice())?;
     let room = Vec::with_capacity(alloc, told.pages.len())?;
     let (pages, dump) = told.into_parts();
     let pages = make_pages(dump.frames(), pages, room);
-    let parts = Parts::whole(alloc, pages, vms, *dump.free())?;
+    let parts = Parts::whole(alloc, pages, vms, *dump.free(), false)?;
     Ok(KCore::from_parts(alloc, config, parts))
 }
 
@@ -117,7 +117,7 @@ fn made(alloc: Global, config: Config, told: Told) -> Result<KCore, Unlawful>
     requires config { config ≡ config_of told }
     requires sized { IsSized told }
     requires judged { IsJudged told }
-    ensures told { IfOk result (λ core. told_of core ≡ told) }
+    ensures told { IfOk result (λ core. told_of core.state ≡ told) }
     ensures unlawful { IfErr result (IsUnlawful told) }
 {
     match make_core(alloc, config, told) {
@@ -134,7 +134,7 @@ pub fn core_of(
     told: Told,
     lanes: Lanes,
 ) -> Result<KCore, Unlawful>
-    ensures told { IfOk result (λ core. told_of core ≡ told) }
+    ensures told { IfOk result (λ core. told_of core.state ≡ told) }
     ensures unlawful { IfErr result (IsUnlawful told) }
 {
     let config = match sized(&told) {
@@ -149,7 +149,7 @@ pub fn core_of(
 
 /// Does what `core_of` does, on this thread alone, which hashes page by page.
 pub fn core_alone(alloc: Global, told: Told) -> Result<KCore, Unlawful>
-    ensures told { IfOk result (λ core. told_of core ≡ told) }
+    ensures told { IfOk result (λ core. told_of core.state ≡ told) }
     ensures unlawful { IfErr result (IsUnlawful told) }
 {
     let config = match sized(&told) {

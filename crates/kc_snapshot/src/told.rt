@@ -35,19 +35,20 @@ pub struct Told {
 }
 
 impl Model for Told {
-    ghost use Rattle.kc_snapshot.specs.Told.{Told as Value_of_told};
+    ghost use Rattle.kc_snapshot.specs.Told.{Told as Value_of_told, bytes_of};
 
     ghost Value = { Value_of_told };
 
-    ghost view = { λ t. record { rest = record { host = t.host; approved = t.approved.items; slots = t.slots.items; pages = t.pages.items }; dump = t.dump } };
+    ghost view = { λ t. record { rest = record { host = t.host; approved = t.approved.items; slots = t.slots.items; pages = bytes_of t.pages.items }; dump = t.dump } };
 }
 
 impl Told {
     ghost use Rattle.std.specs.Prelude.{◌≡◌};
+    ghost use Rattle.kc_snapshot.specs.Told.{bytes_of};
 
     /// Takes apart: the bytes of the pages, and the dump.
     pub(crate) fn into_parts(self) -> (Vec<PageBytes>, Dump)
-        ensures pages { result.0.items ≡ self.rest.pages }
+        ensures pages { bytes_of result.0.items ≡ self.rest.pages }
         ensures dump { result.1 ≡ self.dump }
     {
         let Told {

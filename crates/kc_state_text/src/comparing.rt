@@ -48,7 +48,7 @@ fn after<'a>(text: &'a [u8], bytes: &[u8]) -> Result<&'a [u8], usize>
 /// How many bytes a text has in common with these pieces at its beginning; `None` if it is just these pieces.
 fn difference(core: &KCore, pieces: StatePieces, piece: &mut Vec<u8>, text: &[u8]) -> Option<usize>
     requires { longest_page_line ≤ vec_capacity piece.old }
-    ensures { MatchOption result (text.now ≡ to_come core.now pieces) (λ n. PartAfter n text.now (to_come core.now pieces)) }
+    ensures { MatchOption result (text.now ≡ to_come core.now.state pieces) (λ n. PartAfter n text.now (to_come core.now.state pieces)) }
 {
     let mut pieces = pieces;
     let mut rest = text;
@@ -91,7 +91,7 @@ pub fn difference_from_state(
     lanes: Lanes,
 ) -> Result<Option<usize>, Memory>
     // No clause can rule out that memory runs out: a test compares states.
-    ensures { IfOk result (λ line. IsDifference line text.now (placed_state_text position core.now)) }
+    ensures { IfOk result (λ line. IsDifference line text.now (placed_state_text position core.now.state)) }
 {
     let pieces = StatePieces::new(rt, alloc, core, position, lanes)?;
     let mut piece = Vec::with_capacity(alloc, PIECE)?;

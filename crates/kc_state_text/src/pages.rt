@@ -4,6 +4,7 @@ ghost use Rattle.std.specs.Str.{bytes_eq};
 ghost use Rattle.kc_types.specs.Limits.{page_size};
 ghost use Rattle.kc_model.specs.State.{zero_page};
 ghost use Rattle.kc_model.specs.Lawful.{IsPage};
+ghost use Rattle.kc_snapshot.specs.Told.{bytes_of};
 ghost use Rattle.kc_state_text.specs.StateText.{page_word, page_line};
 ghost use Rattle.kc_state_text.specs.Reading.{LacksWhole, IsWhole, BeginsAs, IsOneMore, AreDigits};
 ghost use Rattle.kc_state_text.specs.Refused.{HasNone};
@@ -11,7 +12,7 @@ ghost use Rattle.kc_state_text.specs.Refused.{HasNone};
 use crate::line_reader::page_word;
 use kc_lines::{decode_into, split_line};
 use kc_page::PageBytes;
-use kc_types::{Memory, PAGE_SIZE, SecretBytes};
+use kc_types::{CallBuffer, Memory, PAGE_SIZE, SecretBytes};
 use std::alloc::Global;
 use std::marker::Model;
 
@@ -42,33 +43,45 @@ impl Buffer {
 }
 
 /// Decodes a word of digits into a zero page, through a buffer, and returns whether it spells the bytes of a page, not
-/// all of them zero.
-fn decode_page(word: &[u8], bytes: &mut [u8], page: &mut PageBytes) -> bool
+/// all of them zero. `Memory` if memory for the page runs out.
+fn decode_page(
+    alloc: Global,
+    word: &[u8],
+    bytes: &mut [u8],
+    page: &mut PageBytes,
+) -> Result<bool, Memory>
     requires whole { length bytes.old ≡ page_size }
-    requires zero { page.old ≡ zero_page }
-    ensures spelled { IsTrue result → AreDigits word.now page.new }
-    ensures refused { result ≡ false → bytes_eq word.now (codes "-") ≡ false → LacksWhole IsPage page_word word.now }
+    requires zero { page.old.bytes ≡ zero_page }
+    ensures spelled { IfOk result (λ valid. IsTrue valid → AreDigits word.now page.new.bytes) }
+    ensures refused { IfOk result (λ valid. valid ≡ false → bytes_eq word.now (codes "-") ≡ false → LacksWhole IsPage page_word word.now) }
 {
     if word.len() != 2 * PAGE_SIZE as usize {
-        return false;
+        return Ok(false);
     }
     if !decode_into(word, bytes) {
-        return false;
+        return Ok(false);
     }
-    page.write(0, bytes);
-    !page.is_zero()
+    page.write(0, bytes, CallBuffer::none(alloc))?;
+    Ok(!page.is_zero())
 }
 
-/// Fills a zero page from its spelling; returns false if the word does not spell a page.
-fn fill_page(word: &[u8], page: &mut PageBytes, buffer: &mut Buffer) -> bool
-    requires { page.old ≡ zero_page }
-    ensures spelled { IsTrue result → IsWhole IsPage page_word word.now page.new }
-    ensures refused { result ≡ false → LacksWhole IsPage page_word word.now }
+/// Fills a zero page from its spelling; returns false if the word does not spell a page. `Memory` if memory for the page
+/// runs out.
+fn fill_page(
+    alloc: Global,
+    word: &[u8],
+    page: &mut PageBytes,
+    buffer: &mut Buffer,
+) -> Result<bool, Memory>
+    requires { page.old.bytes ≡ zero_page }
+    ensures spelled { IfOk result (λ valid. IsTrue valid → IsWhole IsPage page_word word.now page.new.bytes) }
+    ensures refused { IfOk result (λ valid. valid ≡ false → LacksWhole IsPage page_word word.now) }
 {
     if word == b"-".as_slice() {
-        return true;
+        return Ok(true);
     }
-    decode_page(word, buffer.bytes.as_mut_slice(), page)
+    let valid = decode_page(alloc, word, buffer.bytes.as_mut_slice(), page)?;
+    Ok(valid)
 }
 
 /// The bytes of pages, by their numbers.
@@ -79,10 +92,11 @@ pub struct Pages {
 
 impl Model for Pages {
     ghost use Rattle.std.specs.Prelude.{ℕ, List};
+    ghost use Rattle.kc_snapshot.specs.Told.{bytes_of};
 
     ghost Value = { List (List ℕ) };
 
-    ghost view = { λ p. p.pages.items };
+    ghost view = { λ p. bytes_of p.pages.items };
 }
 
 impl Pages {
@@ -101,8 +115,8 @@ impl Pages {
         ensures refused { IfOk result (λ valid. valid ≡ false → LacksWhole IsPage page_word word.now) }
     {
         self.pages.reserve(1)?;
-        let mut page = PageBytes::zeroed(alloc)?;
-        if !fill_page(word, &mut page, buffer) {
+        let mut page = PageBytes::sparse(alloc);
+        if !fill_page(alloc, word, &mut page, buffer)? {
             return Ok(false);
         }
         self.pages.push(page).unwrap();
@@ -141,7 +155,7 @@ impl Pages {
 
     /// The pages.
     pub fn into_vec(self) -> Vec<PageBytes>
-        ensures { result.items ≡ self }
+        ensures { bytes_of result.items ≡ self }
     {
         let Pages { pages } = self;
         pages

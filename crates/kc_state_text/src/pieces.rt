@@ -94,7 +94,7 @@ impl Model for StatePieces {
 
     ghost view = { λ p. record { form = p.form; front = p.front; page = p.page; dump = p.dump } };
 
-    ghost invariant = { λ p. p.zero ≡ zero_page };
+    ghost invariant = { λ p. p.zero.bytes ≡ zero_page };
 }
 
 impl StatePieces {
@@ -106,14 +106,14 @@ impl StatePieces {
         form: StateForm,
         dump: &Dump,
     ) -> Result<StatePieces, Memory>
-        requires { dump.now ≡ dump_of (in_form form core.now) }
-        ensures { IfOk result (λ pieces. to_come core.now pieces ≡ placed_state_text position (in_form form core.now)) }
+        requires { dump.now ≡ dump_of (in_form form core.now.state) }
+        ensures { IfOk result (λ pieces. to_come core.now.state pieces ≡ placed_state_text position (in_form form core.now.state)) }
     {
         let front = write_front(alloc, core, position)?;
         let dump = write_dump(alloc, dump)?;
         Ok(StatePieces {
             form,
-            zero: PageBytes::zeroed(alloc)?,
+            zero: PageBytes::sparse(alloc),
             front: Left::all(front),
             page: 0,
             dump: Left::all(dump),
@@ -129,7 +129,7 @@ impl StatePieces {
         position: Option<Position>,
         lanes: Lanes,
     ) -> Result<StatePieces, Memory>
-        ensures { IfOk result (λ pieces. to_come core.now pieces ≡ placed_state_text position core.now) }
+        ensures { IfOk result (λ pieces. to_come core.now.state pieces ≡ placed_state_text position core.now.state) }
     {
         let dumped = dump(rt, alloc, core, lanes)?;
         StatePieces::begun(alloc, core, position, StateForm::Whole, &dumped)
@@ -142,7 +142,7 @@ impl StatePieces {
         position: Option<Position>,
         form: StateForm,
     ) -> Result<StatePieces, Memory>
-        ensures { IfOk result (λ pieces. to_come core.now pieces ≡ placed_state_text position (in_form form core.now)) }
+        ensures { IfOk result (λ pieces. to_come core.now.state pieces ≡ placed_state_text position (in_form form core.now.state)) }
     {
         let dumped = dump_alone(alloc, core, form)?;
         StatePieces::begun(alloc, core, position, form, &dumped)
@@ -163,8 +163,8 @@ impl StatePieces {
     fn give_pages(&mut self, core: &KCore, piece: &mut Vec<u8>)
         requires room { vec_len piece.old + longest_page_line ≤ vec_capacity piece.old }
         requires front { self.old.front ≡ [] }
-        requires page { self.old.page < core.now.config.frames }
-        ensures given { piece.new.items ++ to_come core.now self.new ≡ piece.old.items ++ to_come core.now self.old }
+        requires page { self.old.page < core.now.state.config.frames }
+        ensures given { piece.new.items ++ to_come core.now.state self.new ≡ piece.old.items ++ to_come core.now.state self.old }
         ensures some { 0 < length piece.new.items }
         ensures capacity { vec_capacity piece.old ≤ vec_capacity piece.new }
     {
@@ -182,8 +182,8 @@ impl StatePieces {
     /// only if nothing is left.
     pub fn fill(&mut self, core: &KCore, piece: &mut Vec<u8>)
         requires { longest_page_line ≤ vec_capacity piece.old }
-        ensures given { piece.new.items ++ to_come core.now self.new ≡ to_come core.now self.old }
-        ensures some { piece.new.items ≡ [] → to_come core.now self.old ≡ [] }
+        ensures given { piece.new.items ++ to_come core.now.state self.new ≡ to_come core.now.state self.old }
+        ensures some { piece.new.items ≡ [] → to_come core.now.state self.old ≡ [] }
         ensures capacity { longest_page_line ≤ vec_capacity piece.new }
     {
         piece.clear();

@@ -93,8 +93,8 @@ fn read_core(
     lanes: Lanes,
 ) -> Result<KCore, StateFault>
     requires { length (state_header ++ rest.now) ≤ byte_limit }
-    ensures state { IfOk result (λ core. state_header ++ rest.now ≡ state_text core) }
-    ensures core { IfOk result IsCoreState }
+    ensures state { IfOk result (λ core. state_header ++ rest.now ≡ state_text core.state) }
+    ensures core { IfOk result (λ core. IsCoreState core.state) }
     ensures refused { IfErr result (IsRefusedState (state_header ++ rest.now)) }
 {
     let told = read_told(alloc, rest)?;
@@ -110,8 +110,8 @@ fn read_core(
 /// Does what `read_core` does, on this thread alone.
 fn read_core_alone(alloc: Global, rest: &[u8]) -> Result<KCore, StateFault>
     requires { length (state_header ++ rest.now) ≤ byte_limit }
-    ensures state { IfOk result (λ core. state_header ++ rest.now ≡ state_text core) }
-    ensures core { IfOk result IsCoreState }
+    ensures state { IfOk result (λ core. state_header ++ rest.now ≡ state_text core.state) }
+    ensures core { IfOk result (λ core. IsCoreState core.state) }
     ensures refused { IfErr result (IsRefusedState (state_header ++ rest.now)) }
 {
     let told = read_told(alloc, rest)?;
@@ -159,9 +159,9 @@ pub fn read_state(
 ) -> Result<ReadState, StateFault>
     requires { length text.now ≤ byte_limit }
     // What is read is the state's one text, and what is refused is not a lawful state's, for its first fault.
-    ensures state { IfOk result (λ read. text.now ≡ placed_state_text read.position read.core) }
+    ensures state { IfOk result (λ read. text.now ≡ placed_state_text read.position read.core.state) }
     ensures position { IfOk result (λ read. IfSome read.position IsPosition) }
-    ensures core { IfOk result (λ read. IsCoreState read.core) }
+    ensures core { IfOk result (λ read. IsCoreState read.core.state) }
     ensures refused { IfErr result (IsRefusedPlaced text.now) }
 {
     let (position, rest) = read_header(text)?;
@@ -174,9 +174,9 @@ pub fn read_state(
 /// Does what `read_state` does, on this thread alone, which hashes page by page.
 pub fn read_state_alone(alloc: Global, text: &[u8]) -> Result<ReadState, StateFault>
     requires { length text.now ≤ byte_limit }
-    ensures state { IfOk result (λ read. text.now ≡ placed_state_text read.position read.core) }
+    ensures state { IfOk result (λ read. text.now ≡ placed_state_text read.position read.core.state) }
     ensures position { IfOk result (λ read. IfSome read.position IsPosition) }
-    ensures core { IfOk result (λ read. IsCoreState read.core) }
+    ensures core { IfOk result (λ read. IsCoreState read.core.state) }
     ensures refused { IfErr result (IsRefusedPlaced text.now) }
 {
     let (position, rest) = read_header(text)?;

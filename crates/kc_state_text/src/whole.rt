@@ -26,7 +26,7 @@ fn push_pieces(
     piece: &mut Vec<u8>,
 ) -> Result<(), Memory>
     requires { longest_page_line ≤ vec_capacity piece.old }
-    ensures { OnOk result (text.new.items ≡ text.old.items ++ to_come core.now pieces) }
+    ensures { OnOk result (text.new.items ≡ text.old.items ++ to_come core.now.state pieces) }
 {
     let mut pieces = pieces;
     'pieces: loop {
@@ -47,7 +47,7 @@ pub fn whole_text(
     form: StateForm,
 ) -> Result<SecretBytes, Memory>
     // No clause can rule out that memory runs out: tests ask for states.
-    ensures { IfOk result (λ text. text ≡ placed_state_text position (in_form form core.now)) }
+    ensures { IfOk result (λ text. text ≡ placed_state_text position (in_form form core.now.state)) }
 {
     let pieces = StatePieces::alone(alloc, core, position, form)?;
     let mut piece = Vec::with_capacity(alloc, PIECE)?;
@@ -65,7 +65,7 @@ pub fn whole_text(
 fn hash_pieces(hasher: &mut Sha256, core: &KCore, pieces: StatePieces, piece: &mut Vec<u8>)
     requires { longest_page_line ≤ vec_capacity piece.old }
     ensures { (bytes : List ℕ) → Holds256 hasher.old bytes
-        → Holds256 hasher.new (bytes ++ to_come core.now pieces) }
+        → Holds256 hasher.new (bytes ++ to_come core.now.state pieces) }
 {
     let mut pieces = pieces;
     'pieces: loop {
@@ -87,7 +87,7 @@ pub fn state_digest(
     form: StateForm,
 ) -> Result<[u8; 32], Memory>
     // No clause can rule out that memory runs out: tests ask for digests.
-    ensures { IfOk result (λ digest. digest ≡ sha256 (placed_state_text position (in_form form core.now))) }
+    ensures { IfOk result (λ digest. digest ≡ sha256 (placed_state_text position (in_form form core.now.state))) }
 {
     let pieces = StatePieces::alone(alloc, core, position, form)?;
     let mut piece = Vec::with_capacity(alloc, PIECE)?;

@@ -21,7 +21,7 @@ pub const LONGEST_PAGE_LINE: usize = 8_198;
 /// Appends the line of a page, for which there is room.
 pub fn push_page(text: &mut Vec<u8>, page: &PageBytes)
     requires { vec_len text.old + 8198 ≤ vec_capacity text.old }
-    ensures items { text.new.items ≡ text.old.items ++ page_line page.now }
+    ensures items { text.new.items ≡ text.old.items ++ page_line page.now.bytes }
     ensures len { vec_len text.new ≤ vec_len text.old + 8198 }
     ensures capacity { vec_capacity text.old ≤ vec_capacity text.new }
 {
@@ -50,8 +50,8 @@ fn push_vcpu(text: &mut Vec<u8>, vcpu: Vcpu) -> Result<(), Memory>
 }
 
 fn push_vcpus(text: &mut Vec<u8>, core: &KCore, vm: u32) -> Result<(), Memory>
-    requires { vm < slot_count core.now.config }
-    ensures { OnOk result (text.new.items ≡ text.old.items ++ flat_map (λ vcpu. spaced (vcpu_words vcpu)) (slot_at core.now vm).vcpus) }
+    requires { vm < slot_count core.now.state.config }
+    ensures { OnOk result (text.new.items ≡ text.old.items ++ flat_map (λ vcpu. spaced (vcpu_words vcpu)) (slot_at core.now.state vm).vcpus) }
 {
     let vcpus = core.config().version().vcpus();
     for number in 0..vcpus {
@@ -90,8 +90,8 @@ pub fn push_short(text: &mut Vec<u8>, bytes: &[u8]) -> Result<(), Memory>
 
 /// Appends the line of a slot.
 fn push_slot(text: &mut Vec<u8>, core: &KCore, vm: u32) -> Result<(), Memory>
-    requires { vm < slot_count core.now.config }
-    ensures { OnOk result (text.new.items ≡ text.old.items ++ slot_line (slot_rest (slot_at core.now vm))) }
+    requires { vm < slot_count core.now.state.config }
+    ensures { OnOk result (text.new.items ≡ text.old.items ++ slot_line (slot_rest (slot_at core.now.state vm))) }
 {
     push_short(text, b"slot")?;
     push_vcpus(text, core, vm)?;
@@ -100,7 +100,7 @@ fn push_slot(text: &mut Vec<u8>, core: &KCore, vm: u32) -> Result<(), Memory>
 }
 
 fn push_slots(text: &mut Vec<u8>, core: &KCore) -> Result<(), Memory>
-    ensures { OnOk result (text.new.items ≡ text.old.items ++ flat_map slot_line (map slot_rest core.now.slots)) }
+    ensures { OnOk result (text.new.items ≡ text.old.items ++ flat_map slot_line (map slot_rest core.now.state.slots)) }
 {
     for vm in 0..core.config().slots() {
         push_slot(text, core, vm)?;
@@ -130,7 +130,7 @@ fn push_approved(text: &mut Vec<u8>, digests: &[[u8; 32]]) -> Result<(), Memory>
 
 /// The sizes of a core's state.
 fn sizes_of(core: &KCore) -> Sizes
-    ensures { result ≡ sizes_of (rest_of core.now) }
+    ensures { result ≡ sizes_of (rest_of core.now.state) }
 {
     let config = core.config();
     let host = config.host();
@@ -179,7 +179,7 @@ pub fn write_front(
     position: Option<Position>,
 ) -> Result<Vec<u8>, Memory>
     // No clause can rule out that memory runs out: a test writes states.
-    ensures { IfOk result (λ text. text.items ≡ placed_text position (front_begin core.now)) }
+    ensures { IfOk result (λ text. text.items ≡ placed_text position (front_begin core.now.state)) }
 {
     let mut text = Vec::new(alloc);
     push_header(&mut text, position)?;

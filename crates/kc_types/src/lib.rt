@@ -9,6 +9,7 @@
 #![tactic(auto)]
 
 mod call;
+mod call_buffer;
 mod config;
 mod custody;
 mod data;
@@ -21,13 +22,13 @@ mod owner;
 mod packed;
 mod refusal;
 mod reply;
-mod reply_buffer;
 mod resource;
 mod secret;
 mod slot;
 mod version;
 
 pub use call::{Actor, Call, actor_of, slot_of};
+pub use call_buffer::CallBuffer;
 pub use config::{Config, ConfigFault};
 pub use custody::{
     Bar, Change, Custody, Event, FrameChange, Life, MeasuredImage, MeasuredImages, PhaseChange,
@@ -47,7 +48,6 @@ pub use owner::{Owner, vm_of};
 pub use packed::{MaybeFrame, MaybeGfn, OwnerCode};
 pub use refusal::Refusal;
 pub use reply::Reply;
-pub use reply_buffer::ReplyBuffer;
 pub use resource::Resource;
 pub use secret::SecretBytes;
 pub use slot::{Image, Phase, Vcpu};

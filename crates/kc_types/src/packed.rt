@@ -1,4 +1,5 @@
-//! A frame, a guest frame and an owner in few bytes, as a frame's record keeps them. Contracts see what they stand for.
+//! A frame, a guest frame, an owner and a leaf in few bytes, as records and tables keep them. Contracts see what they
+//! stand for.
 ghost use Rattle.std.specs.Prelude.{◌≡◌};
 
 use crate::{FRAME_LIMIT, FrameNo, GFN_LIMIT, Gfn, Owner, VmId};

@@ -27,8 +27,8 @@ impl Measure {
     /// Feeds the first `used` bytes of a page, 0 to 4,096.
     pub fn page(&mut self, bytes: &PageBytes, used: usize)
         requires { used ≤ page_size }
-        ensures fed { (fed : List ℕ) → WasFed self.old fed → WasFed self.new (fed ++ take used bytes.now) }
-        ensures whole { length bytes.now ≡ page_size }
+        ensures fed { (fed : List ℕ) → WasFed self.old fed → WasFed self.new (fed ++ take used bytes.now.bytes) }
+        ensures whole { length bytes.now.bytes ≡ page_size }
     {
         self.hasher.update(&bytes.as_slice()[..used]);
     }

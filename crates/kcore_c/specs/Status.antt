@@ -71,7 +71,8 @@ code_of (State states.Memory) = 3
 abbrev pub IsCode : (Status → Type 0) → ℕ → Type 0
 IsCode Says code = (status : Status) × (code ≡ code_of status) × Says status
 
--- a function puts as many bytes as it uses at the front of a buffer, and by its status says this of the room there and of them; there are none unless it is done, and the other bytes of the buffer stay
+-- A function puts bytes at the front of a buffer and counts them in `used`. `Says` relates the room, the bytes and the
+-- status. A status other than `Done` puts none, and the bytes after them stay.
 abbrev pub Puts : (ℕ → List ℕ → Status → Type 0) → List ℕ → List ℕ → ℕ → Status → Type 0
 Puts Says old new used status = Says (length old) (take used new) status × (used ≤ length new) × (drop used new ≡ drop used old) × ((status ≡ Done → ⊥) → used ≡ 0)
 

@@ -129,7 +129,7 @@ pub fn tell_changes(changes: &[FrameChange], out: &mut [Change])
 
 /// Whether a frame's record has this owner.
 fn is_of(core: &KCore, frame: u32, owner: u32, vm: u32) -> bool
-    ensures { result ≡ is_of core.now owner vm frame }
+    ensures { result ≡ is_of core.now.state owner vm frame }
 {
     let custody = custody_at(core, frame);
     owner_code(custody.owner) == owner && vm_code(custody.owner) == vm
@@ -137,7 +137,7 @@ fn is_of(core: &KCore, frame: u32, owner: u32, vm: u32) -> bool
 
 /// The first frame from this number on whose record has this owner.
 pub fn next_of(core: &KCore, owner: u32, vm: u32, from: u32) -> Option<u32>
-    ensures { MatchOption result (HasNoneOf core.now owner vm from) (IsNextOf core.now owner vm from) }
+    ensures { MatchOption result (HasNoneOf core.now.state owner vm from) (IsNextOf core.now.state owner vm from) }
 {
     for frame in from..core.config().frames() {
         if is_of(core, frame, owner, vm) {

@@ -24,8 +24,7 @@ use std::alloc::Global;
 /// The number of bytes of a digest.
 const DIGEST: usize = 32;
 
-/// Puts bytes at the front of a buffer that has room for them, and their number where the caller looks for it. The
-/// buffer's other bytes stay.
+/// Puts bytes at the front of a buffer that has room for them, and their number in `used`. The bytes after them stay.
 fn fill(out: &mut [u8], used: &mut usize, bytes: &[u8])
     requires { length bytes.now ≤ length out.old }
     ensures used { used.new ≡ length bytes.now }
@@ -297,7 +296,7 @@ pub fn state(
 
 /// Makes the text of a core's dump.
 fn dumped(alloc: Global, core: &KCore) -> Result<Vec<u8>, Memory>
-    ensures { IfOk result (λ text. text.items ≡ dump_text (dump_of core.now)) }
+    ensures { IfOk result (λ text. text.items ≡ dump_text (dump_of core.now.state)) }
 {
     let dump = dump_alone(alloc, core, StateForm::Whole)?;
     write_dump(alloc, &dump)

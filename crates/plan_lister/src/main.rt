@@ -349,11 +349,11 @@ fn print_asked<R: Threads + Wait + Clock + Sync>(
             )
         },
         (Some(times), None) => {
-            let core = KCore::boot(rt.alloc(), config)?;
+            let core = KCore::boot_sparse(rt.alloc(), config)?;
             print_times(rt, &core, calls.as_slice(), times)
         },
         (None, _) => {
-            let core = KCore::boot(rt.alloc(), config)?;
+            let core = KCore::boot_sparse(rt.alloc(), config)?;
             print_plan(rt, &core, calls.as_slice())
         },
     }

@@ -6,10 +6,10 @@ use Rattle.kc_cli.proofs.giving.give_pieces.Given as goal
 
 abbrev pub invariant-pieces : goal.invariant-pieces
 invariant-pieces g l = record {
-  given : (bytes : List ℕ) × Appends (g.K.Sink.taken l.fn.out) (g.K.Sink.taken l.out) bytes × (bytes ++ to_come l.core l.pieces ≡ to_come l.core l.fn.pieces);
+  given : (bytes : List ℕ) × Appends (g.K.Sink.taken l.fn.out) (g.K.Sink.taken l.out) bytes × (bytes ++ to_come l.core.state l.pieces ≡ to_come l.core.state l.fn.pieces);
   room : longest_page_line ≤ vec_capacity l.piece;
   mark : g.K.Sink.failed l.out ≡ false;
 }
 
 abbrev pub decreases-pieces : goal.decreases-pieces
-decreases-pieces g l = length (to_come l.core l.pieces)
+decreases-pieces g l = length (to_come l.core.state l.pieces)

@@ -15,14 +15,14 @@ returns-in_err-core-clause-texts g c =
 pub returns-in-Err-clause-texts : goal.returns-in-Err-clause-texts
 returns-in-Err-clause-texts g c =
     let is = c.in-Err.ensures.fault in
-    texts_trace c.args.order.origin _ _ _ c.in_ok-core.field-0.core c.in_ok-core.field-0.expected c.in-Err.fault c.in_ok-core.ensures.ok (λ said same. let is = c.in-Err.ensures.trace said (ap Err same) in (known_refused_there _ _ _ said is.0, is.1)) is.config is.state is.told
+    texts_trace c.args.order.origin _ _ _ c.in_ok-core.field-0.core.state c.in_ok-core.field-0.expected c.in-Err.fault c.in_ok-core.ensures.ok (λ said same. let is = c.in-Err.ensures.trace said (ap Err same) in (known_refused_there _ _ _ said is.0, is.1)) is.config is.state is.told
 
 pub returns-in-Some-clause-texts : goal.returns-in-Some-clause-texts
 returns-in-Some-clause-texts g c =
     let start = c.in_ok-core.field-0 in
     let fed = c.in-Ok-feed_source.field-0 in
-    texts_misplaced _ _ _ _ start.core start.expected c.in-Some.wrong c.in_ok-core.ensures.ok
-    (misfed _ _ fed.header start.expected _ start.core c.in-Ok.replayer c.feed_source.new.replayer fed.calls.items fed.replies.items fed.digest c.in-Ok-finish.core c.in-Some.wrong (ap (λ (r : Replaying). r.state) c.in-Ok.ensures.start) c.in-Ok-finish.ensures.core c.in-Ok-feed_source.ensures.ok (rw c.config.ensures.value at c.in-Some.ensures))
+    texts_misplaced _ _ _ _ start.core.state start.expected c.in-Some.wrong c.in_ok-core.ensures.ok
+    (misfed _ _ fed.header start.expected _ start.core.state c.in-Ok.replayer c.feed_source.new.replayer fed.calls.items fed.replies.items fed.digest c.in-Ok-finish.core.state c.in-Some.wrong (ap (λ (r : Replaying). r.state) c.in-Ok.ensures.start) c.in-Ok-finish.ensures.core c.in-Ok-feed_source.ensures.ok (rw c.config.ensures.value at c.in-Some.ensures))
     c.in-Ok-feed_source.ensures.ended
 
 pub returns-in-Some-clause-replay : goal.returns-in-Some-clause-replay
@@ -41,17 +41,17 @@ pub returns-in_default-fault-clause-ok : goal.returns-in_default-fault-clause-ok
 returns-in_default-fault-clause-ok g c =
     let start = c.in_ok-core.field-0 in
     let fed = c.in-Ok-feed_source.field-0 in
-    rw c.after-next.ensures (are_replayed _ _ c.args.is_placed _ _ start.core start.expected fed.calls.items fed.replies.items c.in-Ok-finish.core _ c.in_ok-core.ensures.ok
-    (replayed _ _ fed.header start.expected _ start.core c.in-Ok.replayer c.feed_source.new.replayer fed.calls.items fed.replies.items fed.digest c.in-Ok-finish.core c.in_ok-core.ensures.lawful (ap (λ (r : Replaying). r.state) c.in-Ok.ensures.start) c.in-Ok-finish.ensures.core c.in-Ok-feed_source.ensures.ok (rw c.config.ensures.value at c.in_default-fault.ensures)))
+    rw c.after-next.ensures (are_replayed _ _ c.args.is_placed _ _ start.core.state start.expected fed.calls.items fed.replies.items c.in-Ok-finish.core.state _ c.in_ok-core.ensures.ok
+    (replayed _ _ fed.header start.expected _ start.core.state c.in-Ok.replayer c.feed_source.new.replayer fed.calls.items fed.replies.items fed.digest c.in-Ok-finish.core.state c.in_ok-core.ensures.lawful (ap (λ (r : Replaying). r.state) c.in-Ok.ensures.start) c.in-Ok-finish.ensures.core c.in-Ok-feed_source.ensures.ok (rw c.config.ensures.value at c.in_default-fault.ensures)))
 
 pub returns-in_default-fault-clause-answered : goal.returns-in_default-fault-clause-answered
 returns-in_default-fault-clause-answered g c =
     let start = c.in_ok-core.field-0 in
     let fed = c.in-Ok-feed_source.field-0 in
-    answered_so c.args.order.origin c.args.order.form c.args.is_placed _ _ fed.calls.items fed.replies.items c.in-Ok-finish.core _ _
-    (are_replayed _ _ c.args.is_placed _ _ start.core start.expected fed.calls.items fed.replies.items c.in-Ok-finish.core _ c.in_ok-core.ensures.ok
-    (replayed _ _ fed.header start.expected _ start.core c.in-Ok.replayer c.feed_source.new.replayer fed.calls.items fed.replies.items fed.digest c.in-Ok-finish.core c.in_ok-core.ensures.lawful (ap (λ (r : Replaying). r.state) c.in-Ok.ensures.start) c.in-Ok-finish.ensures.core c.in-Ok-feed_source.ensures.ok (rw c.config.ensures.value at c.in_default-fault.ensures)))
+    answered_so c.args.order.origin c.args.order.form c.args.is_placed _ _ fed.calls.items fed.replies.items c.in-Ok-finish.core.state _ _
+    (are_replayed _ _ c.args.is_placed _ _ start.core.state start.expected fed.calls.items fed.replies.items c.in-Ok-finish.core.state _ c.in_ok-core.ensures.ok
+    (replayed _ _ fed.header start.expected _ start.core.state c.in-Ok.replayer c.feed_source.new.replayer fed.calls.items fed.replies.items fed.digest c.in-Ok-finish.core.state c.in_ok-core.ensures.lawful (ap (λ (r : Replaying). r.state) c.in-Ok.ensures.start) c.in-Ok-finish.ensures.core c.in-Ok-feed_source.ensures.ok (rw c.config.ensures.value at c.in_default-fault.ensures)))
     (rw c.deref.ensures.value at c.of-answered.ensures)
 
 pub returns-in_default-fault-clause-texts : goal.returns-in_default-fault-clause-texts
-returns-in_default-fault-clause-texts g c = texts_ok c.args.order.origin _ _ _ c.in_ok-core.field-0.core c.in_ok-core.field-0.expected _ c.in_ok-core.ensures.ok
+returns-in_default-fault-clause-texts g c = texts_ok c.args.order.origin _ _ _ c.in_ok-core.field-0.core.state c.in_ok-core.field-0.expected _ c.in_ok-core.ensures.ok

@@ -1,4 +1,5 @@
 use Rattle.std.proofs.Common.{is_some, refl, sym, ap, ◌∙◌}
+use Rattle.kc_page.specs.PageBytes.{Content}
 use Rattle.kc_parts.specs.States.{frame_in}
 use Rattle.kc_parts.proofs.Pages.{page-set}
 use Rattle.kc_parts.proofs.Seen.{linked-moved}
@@ -8,7 +9,7 @@ use Rattle.kc_core.proofs.Drops.{state-freed}
 use Rattle.kc_core.proofs.freeing.free_frame.Goals as goal
 
 pub append_free-requires-clause-lists : goal.append_free-requires-clause-lists
-append_free-requires-clause-lists c = (linked-moved c.args.config.now _ _ _ _ c.requires.linked c.page_mut-page.ensures.value refl c.requires.loose.absent (λ host. c.requires.loose.alone)).lists
+append_free-requires-clause-lists c = (linked-moved c.args.config.now _ _ _ _ c.requires.linked c.page_mut-page.ensures.value refl c.requires.loose.absent (λ host. c.requires.loose.alone) (ap (λ (page : Content). page.is_reserved) c.scrub.ensures)).lists
 
 pub append_free-requires-clause-loose : goal.append_free-requires-clause-loose
 append_free-requires-clause-loose c = loose-page _ _ _ _ c.page_mut-page.ensures.value refl c.requires.loose
@@ -22,7 +23,7 @@ returns-clause-state c =
     state-freed _ c.args.parts.now c.append_free.new.self _ _ _ (c.requires.linked.frames c.args.frame (ap is_some at)) at refl (rw (c.of-page.ensures, c.of-page-2.ensures, c.scrub.ensures) refl) c.append_free.ensures.rest c.append_free.ensures.frames
 
 pub returns-clause-linked : goal.returns-clause-linked
-returns-clause-linked c = c.append_free.ensures.rest.linked _ (linked-moved _ _ _ _ _ c.requires.linked c.page_mut-page.ensures.value refl c.requires.loose.absent (λ host. c.requires.loose.alone))
+returns-clause-linked c = c.append_free.ensures.rest.linked _ (linked-moved _ _ _ _ _ c.requires.linked c.page_mut-page.ensures.value refl c.requires.loose.absent (λ host. c.requires.loose.alone) (ap (λ (page : Content). page.is_reserved) c.scrub.ensures))
 
 pub returns-clause-places : goal.returns-clause-places
 returns-clause-places c = places-through _ _ _ (places-page _ _ _ _ c.page_mut-page.ensures.value refl (λ away. let no = sym c.requires.near ∙ away in cc)) (places-move _ _ c.append_free.ensures.rest)

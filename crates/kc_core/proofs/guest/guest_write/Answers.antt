@@ -1,4 +1,4 @@
-use Rattle.std.proofs.Common.{◌≡◌, ◌<◌, ◌≤◌, ◌+◌, Some, None, length, IsSome, refl, sym, ap, ◌∙◌, Err, arith}
+use Rattle.std.proofs.Common.{◌≡◌, ◌<◌, ◌≤◌, ◌+◌, Some, None, length, is_some, IsSome, refl, sym, ap, ◌∙◌, Err, arith}
 use Rattle.kc_types.specs.Configuration.{slot_count}
 use Rattle.kc_types.specs.declared.call.Call.TheVariants.{GuestWrite}
 use Rattle.kc_types.specs.declared.reply.Reply.TheVariants as reply
@@ -11,7 +11,9 @@ use Rattle.kc_parts.specs.Parts.{vm_at}
 use Rattle.kc_parts.specs.States.{state_of}
 use Rattle.kc_core.proofs.Needed.{slot-needed, mapped-needed}
 use Rattle.kc_core.proofs.Frames.{places-through}
+use Rattle.kc_core.specs.declared.unserved.Unserved.TheVariants as unserved
 use Rattle.kc_core.proofs.Answered.{answer-refused, answer-served}
+use Rattle.kc_core.proofs.Reading.{guest-done}
 use Rattle.kc_core.proofs.Guests.{fault-at, waits-at}
 use Rattle.kc_core.proofs.guest.guest_write.Goals as goal
 use Rattle.kc_core.proofs.guest.guest_write.Goals.{In_ok-at, In-Some, In_default}
@@ -62,22 +64,22 @@ pub set_fault-requires-clause-registered : goal.set_fault-requires-clause-regist
 set_fault-requires-clause-registered c = rw (c.in_ok-at.ensures.named.vm, c.in_ok-at.ensures.named.vcpu) (seen (goal.at.set_fault-requires-clause-registered c).In_ok-at).0.registered
 
 pub spend_fault-requires-clause-here : goal.spend_fault-requires-clause-here
-spend_fault-requires-clause-here c = c.write_frame.ensures.places.here (resource.Vm c.in_ok-at.at.vm) ∙ here (goal.at.spend_fault-requires-clause-here c).In_ok-at
+spend_fault-requires-clause-here c = c.in_ok-write_frame.ensures.places.here (resource.Vm c.in_ok-at.at.vm) ∙ here (goal.at.spend_fault-requires-clause-here c).In_ok-at
 
-pub returns : goal.returns
-returns c =
-    let k = goal.at.returns c in
+pub returns-clause-answer : goal.returns-clause-answer
+returns-clause-answer c =
+    let k = goal.at.returns-clause-answer c in
     let m = state_of c.args.config.now c.args.parts.now in
     let is = mapped k.In-Some in
     answer-served c.args.config.now c.args.parts.now _ (GuestWrite c.args.vm c.args.vcpu c.args.gfn c.args.offset c.args.bytes.now) reply.Done (served k.In_ok-at)
     (ap (λ there. (guest_written m c.args.vm c.args.vcpu c.args.gfn c.args.offset c.args.bytes.now there).0) (sym is))
-    (c.spend_fault.ensures.state ∙ fault-at _ _ _ _ _ None c.in_ok-at.ensures.named ∙ ap (λ (s : State). with_fault s c.args.vm c.args.vcpu None) c.write_frame.ensures.state
+    (c.spend_fault.ensures.state ∙ fault-at _ _ _ _ _ None c.in_ok-at.ensures.named ∙ ap (λ (s : State). with_fault s c.args.vm c.args.vcpu None) c.in_ok-write_frame.ensures.state
     ∙ ap (λ there. (guest_written m c.args.vm c.args.vcpu c.args.gfn c.args.offset c.args.bytes.now there).1) (sym is))
-    c.spend_fault.ensures.linked (places-through _ _ _ c.write_frame.ensures.places c.spend_fault.ensures.places)
+    c.spend_fault.ensures.linked (places-through _ _ _ c.in_ok-write_frame.ensures.places c.spend_fault.ensures.places)
 
-pub returns-in_default : goal.returns-in_default
-returns-in_default c =
-    let k = goal.at.returns-in_default c in
+pub returns-in_default-clause-answer : goal.returns-in_default-clause-answer
+returns-in_default-clause-answer c =
+    let k = goal.at.returns-in_default-clause-answer c in
     let m = state_of c.args.config.now c.args.parts.now in
     let is = unmapped k.In_default in
     answer-served c.args.config.now c.args.parts.now _ (GuestWrite c.args.vm c.args.vcpu c.args.gfn c.args.offset c.args.bytes.now) (reply.Fault c.args.gfn) (served k.In_ok-at)
@@ -85,7 +87,12 @@ returns-in_default c =
     (c.set_fault.ensures.state ∙ waits-at m _ _ _ _ c.in_ok-at.ensures.named ∙ ap (λ there. (guest_written m c.args.vm c.args.vcpu c.args.gfn c.args.offset c.args.bytes.now there).1) (sym is))
     c.set_fault.ensures.linked c.set_fault.ensures.places
 
-pub returns-in_err-at : goal.returns-in_err-at
-returns-in_err-at c =
-    let is : c.from_residual.result ≡ Err c.in_err-at.field-0.0 = grind arith in
+pub returns-in_err-write_frame-clause-sparse : goal.returns-in_err-write_frame-clause-sparse
+returns-in_err-write_frame-clause-sparse c =
+    let k = goal.at.returns-in_err-write_frame-clause-sparse c in
+    λ failed. guest-done _ _ _ _ _ _ (served k.In_ok-at) (ap is_some (mapped k.In-Some))
+
+pub returns-in_err-at-clause-answer : goal.returns-in_err-at-clause-answer
+returns-in_err-at-clause-answer c =
+    let is : c.from_residual.result ≡ Err (unserved.Refused c.in_err-at.field-0.0) = grind arith in
     rw is (answer-refused _ _ _ _ c.requires.linked (rw (← c.as_slice.ensures.value) c.in_err-at.ensures.answer))

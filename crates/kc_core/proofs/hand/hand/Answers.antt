@@ -18,6 +18,7 @@ handing c = record {
   host = c.requires.host;
   maps = rw (c.unwrap.ensures, c.table_mut.ensures.value) at c.map.ensures.ok;
   same = refl;
+  reserved = refl;
   to = rw (c.of-owner.ensures, c.of-place.ensures) refl;
 }
 

@@ -4,6 +4,7 @@ use Rattle.kc_types.specs.declared.owner.Owner.TheVariants.{Host}
 use Rattle.kc_types.specs.declared.resource.Resource.TheVariants as resource
 use Rattle.kc_types.specs.declared.reply.Reply.TheVariants as reply
 use Rattle.kc_model.specs.Refusals.{refusal}
+use Rattle.kc_page.specs.PageBytes.{Content}
 use Rattle.kc_parts.specs.States.{state_of, frame_in, owner_at, IsLoose}
 use Rattle.kc_parts.proofs.Pages.{page-set}
 use Rattle.kc_parts.proofs.Seen.{linked-moved}
@@ -38,7 +39,7 @@ page_mut-page-requires c =
 pub append_free-requires-clause-lists : goal.append_free-requires-clause-lists
 append_free-requires-clause-lists c =
     let is = loose (goal.at.append_free-requires-clause-lists c).In_ok-frame in
-    (linked-moved c.args.config.now _ _ _ _ c.requires.linked c.page_mut-page.ensures.value refl is.absent (λ host. is.alone)).lists
+    (linked-moved c.args.config.now _ _ _ _ c.requires.linked c.page_mut-page.ensures.value refl is.absent (λ host. is.alone) (ap (λ (page : Content). page.is_reserved) c.scrub.ensures)).lists
 
 pub append_free-requires-clause-loose : goal.append_free-requires-clause-loose
 append_free-requires-clause-loose c = loose-page _ _ _ _ c.page_mut-page.ensures.value refl (loose (goal.at.append_free-requires-clause-loose c).In_ok-frame)
@@ -59,7 +60,7 @@ returns c =
     let move = c.append_free.ensures.rest in
     rw (← c.in_ok-frame.ensures.frame) (answer-served c.args.config.now old c.append_free.new.self (Give c.in_ok-frame.frame) reply.Done (served k) refl
     (state-given _ old c.append_free.new.self _ _ _ (seen k).0 at refl (rw (c.of-page.ensures, c.scrub.ensures) refl) move c.append_free.ensures.frames)
-    (move.linked _ (linked-moved _ _ _ _ _ c.requires.linked at refl is.absent (λ host. is.alone)))
+    (move.linked _ (linked-moved _ _ _ _ _ c.requires.linked at refl is.absent (λ host. is.alone) (ap (λ (page : Content). page.is_reserved) c.scrub.ensures)))
     (places-through _ _ _ (places-page _ _ _ _ at refl (λ away. let no = sym near ∙ away in cc)) (places-move _ _ move)))
 
 pub returns-in_err-frame : goal.returns-in_err-frame

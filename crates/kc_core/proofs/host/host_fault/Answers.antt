@@ -32,7 +32,7 @@ returns c =
     let at = c.page_mut-page.ensures.value in
     rw (← c.in_ok-frame.ensures.frame) (answer-served c.args.config.now c.args.parts.now _ (HostFault c.in_ok-frame.frame) reply.Done (served k) refl
     (changed c.args.config.now c.args.parts.now _ _ _ (λ frame. record frame { present = true }) (low k) at refl refl)
-    (linked-kept _ _ _ _ _ c.requires.linked at refl refl)
+    (linked-kept _ _ _ _ _ c.requires.linked at refl refl refl)
     (places-page _ _ _ _ at refl (λ away. refl)))
 
 pub returns-in_err-frame : goal.returns-in_err-frame

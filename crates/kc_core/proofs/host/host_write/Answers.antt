@@ -6,7 +6,9 @@ use Rattle.kc_model.proofs.Refusals.Served.{IsHostAccess, host_access-served}
 use Rattle.kc_parts.specs.States.{state_of}
 use Rattle.kc_core.specs.Applying.{IsAble}
 use Rattle.kc_core.proofs.Needed.{frame-needed}
+use Rattle.kc_core.specs.declared.unserved.Unserved.TheVariants as unserved
 use Rattle.kc_core.proofs.Answered.{answer-refused, answer-served}
+use Rattle.kc_core.proofs.Reading.{host-done}
 use Rattle.kc_core.proofs.host.host_write.Goals as goal
 use Rattle.kc_core.proofs.host.host_write.Goals.{In_ok-frame}
 
@@ -27,12 +29,15 @@ write_frame-requires-clause-here c =
 pub write_frame-requires-clause-within : goal.write_frame-requires-clause-within
 write_frame-requires-clause-within c = (seen (goal.at.write_frame-requires-clause-within c).In_ok-frame).within
 
-pub returns : goal.returns
-returns c =
-    let done = c.write_frame.ensures in
-    rw (← c.in_ok-frame.ensures.frame) (answer-served c.args.config.now c.args.parts.now _ (HostWrite c.in_ok-frame.frame c.args.offset c.args.bytes.now) reply.Done (served (goal.at.returns c).In_ok-frame) refl done.state done.linked done.places)
+pub returns-clause-answer : goal.returns-clause-answer
+returns-clause-answer c =
+    let done = c.in_ok-write_frame.ensures in
+    rw (← c.in_ok-frame.ensures.frame) (answer-served c.args.config.now c.args.parts.now _ (HostWrite c.in_ok-frame.frame c.args.offset c.args.bytes.now) reply.Done (served (goal.at.returns-clause-answer c).In_ok-frame) refl done.state done.linked done.places)
 
-pub returns-in_err-frame : goal.returns-in_err-frame
-returns-in_err-frame c =
-    let is : c.from_residual.result ≡ Err c.in_err-frame.field-0.0 = grind arith in
+pub returns-in_err-write_frame-clause-sparse : goal.returns-in_err-write_frame-clause-sparse
+returns-in_err-write_frame-clause-sparse c = λ failed. host-done _ _ _ _ (rw (← c.as_slice.ensures.value) c.in_ok-frame.ensures.answer)
+
+pub returns-in_err-frame-clause-answer : goal.returns-in_err-frame-clause-answer
+returns-in_err-frame-clause-answer c =
+    let is : c.from_residual.result ≡ Err (unserved.Refused c.in_err-frame.field-0.0) = grind arith in
     rw is (answer-refused _ _ _ _ c.requires.linked (rw (← c.as_slice.ensures.value) c.in_err-frame.ensures.answer))

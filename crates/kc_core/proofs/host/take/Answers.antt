@@ -31,5 +31,5 @@ returns c =
     let some = take-some config old _ _ first in
     answer-served config old _ Take _ some.0 (ap reply.Frame c.number.ensures.value ∙ some.1)
     (state-taken config old mid _ _ _ move first (linked.frames _ (ap is_some at)) at refl (rw c.of-page.ensures refl))
-    (linked-taken config mid _ _ _ linked c.in-Some.ensures.loose at refl)
+    (linked-taken config mid _ _ _ linked c.in-Some.ensures.loose at refl refl)
     (places-through old mid _ (places-move _ _ move) (places-page mid _ _ _ at refl (λ away. let no = sym near ∙ away in cc)))

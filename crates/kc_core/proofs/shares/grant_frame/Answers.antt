@@ -18,7 +18,7 @@ returns-clause-state c =
     changed c.args.config.now c.args.parts.now _ _ _ granted (c.requires.linked.frames c.args.frame (ap is_some at)) at refl refl
 
 pub returns-clause-linked : goal.returns-clause-linked
-returns-clause-linked c = linked-kept _ _ _ _ _ c.requires.linked c.page_mut-page.ensures.value refl refl
+returns-clause-linked c = linked-kept _ _ _ _ _ c.requires.linked c.page_mut-page.ensures.value refl refl refl
 
 pub returns-clause-places : goal.returns-clause-places
 returns-clause-places c = places-page _ _ _ _ c.page_mut-page.ensures.value refl (λ away. refl)

@@ -13,11 +13,11 @@ loop-gfn-preserved c =
     let g = c.loop-gfn.gfn in
     let from : base ≤ g = c.loop-gfn.invariant.from in
     let left = c.loop-gfn.invariant.left in
-    let page : bytes g ≡ c.page_under.result.now.bytes = ap (λ at. (frame_in at).bytes) c.page_under.ensures in
+    let page : bytes g ≡ c.page_under.result.now.bytes.bytes = ap (λ at. (frame_in at).bytes) c.page_under.ensures in
     let used : c.min-used.result ≡ min (c.args.image.now.len - 4096 * (g - base)) 4096 = c.min-used.ensures ∙ ap (λ n. min n 4096) left in
     record {
       from = omega (arith, from);
-      fed = subst (λ (fed : List ℕ). WasFed c.page.new.self fed) (fed-more bytes c.args.image.now.len base g c.page_under.result.now.bytes c.min-used.result from page c.page.ensures.whole c.loop-gfn.invariant.whole used) (c.page.ensures.fed _ c.loop-gfn.invariant.fed);
+      fed = subst (λ (fed : List ℕ). WasFed c.page.new.self fed) (fed-more bytes c.args.image.now.len base g c.page_under.result.now.bytes.bytes c.min-used.result from page c.page.ensures.whole c.loop-gfn.invariant.whole used) (c.page.ensures.fed _ c.loop-gfn.invariant.fed);
       left = let m = c.min-used.ensures in omega (arith, m, left, from);
-      whole = whole-more bytes base g c.page_under.result.now.bytes from page c.page.ensures.whole c.loop-gfn.invariant.whole;
+      whole = whole-more bytes base g c.page_under.result.now.bytes.bytes from page c.page.ensures.whole c.loop-gfn.invariant.whole;
     }

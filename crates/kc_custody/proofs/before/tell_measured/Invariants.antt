@@ -6,4 +6,4 @@ use Rattle.kc_custody.proofs.before.tell_measured.Given as goal
 
 -- the slots so far
 abbrev pub invariant-loop-vm : goal.invariant-loop-vm
-invariant-loop-vm l = l.told.items ≡ l.fn.told.items ++ map (λ v. turn_before (slot_at l.core v).phase v) (filter (is_measured l.core) (range_with_len 0 l.vm))
+invariant-loop-vm l = l.told.items ≡ l.fn.told.items ++ map (λ v. turn_before (slot_at l.core.state v).phase v) (filter (is_measured l.core.state) (range_with_len 0 l.vm))

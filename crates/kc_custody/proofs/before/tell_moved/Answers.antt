@@ -12,7 +12,7 @@ use Rattle.kc_custody.proofs.before.tell_moved.Goals.{then-not-same_custody+in_o
 
 pub loop-frame-preserved : goal.loop-frame-preserved
 loop-frame-preserved c =
-    let new = c.args.core.now in
+    let new = c.args.core.now.state in
     let old = boot new.config in
     let f = c.loop-frame.frame in
     let next = passed-more (moved new) (has_moved old new) f in
@@ -29,7 +29,7 @@ loop-frame-preserved c =
 
 pub returns : goal.returns
 returns c =
-    let new = c.args.core.now in
+    let new = c.args.core.now.state in
     let old = boot new.config in
     let past = c.loop-frame-test.false in
     let within = c.loop-frame.auto.frame-end in

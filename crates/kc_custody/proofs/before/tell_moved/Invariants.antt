@@ -12,4 +12,4 @@ moved m f = frame_before (frame_change header_line (boot m.config) m f)
 
 -- the frames so far
 abbrev pub invariant-loop-frame : goal.invariant-loop-frame
-invariant-loop-frame l = l.told.items ≡ l.fn.told.items ++ map (moved l.core) (filter (has_moved (boot l.core.config) l.core) (range_with_len 0 l.frame))
+invariant-loop-frame l = l.told.items ≡ l.fn.told.items ++ map (moved l.core.state) (filter (has_moved (boot l.core.state.config) l.core.state) (range_with_len 0 l.frame))

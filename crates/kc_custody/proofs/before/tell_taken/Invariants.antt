@@ -6,4 +6,4 @@ use Rattle.kc_custody.proofs.before.tell_taken.Given as goal
 
 -- the slots so far
 abbrev pub invariant-loop-vm : goal.invariant-loop-vm
-invariant-loop-vm l = l.told.items ≡ l.fn.told.items ++ map (turn_before Booting) (filter (is_taken l.core) (range_with_len 0 l.vm))
+invariant-loop-vm l = l.told.items ≡ l.fn.told.items ++ map (turn_before Booting) (filter (is_taken l.core.state) (range_with_len 0 l.vm))

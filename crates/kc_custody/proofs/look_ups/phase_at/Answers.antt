@@ -7,4 +7,4 @@ use Rattle.kc_custody.proofs.look_ups.phase_at.Goals as goal
 pub returns-in-None : goal.returns-in-None
 returns-in-None c =
     let past = past_none c.args.vm _ c.in-None.ensures.exists.1 in
-    sym (ap (λ (slot : Slot). slot.phase) (slot-past c.args.core.now c.args.vm c.config-config.ensures.lawful.slots past))
+    sym (ap (λ (slot : Slot). slot.phase) (slot-past c.args.core.now.state c.args.vm c.config-config.ensures.lawful.slots past))

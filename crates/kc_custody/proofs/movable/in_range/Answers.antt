@@ -9,7 +9,7 @@ use Rattle.kc_custody.proofs.movable.in_range.Goals.{in-Some+in_ok-push, in_defa
 
 pub loop-i-preserved : goal.loop-i-preserved
 loop-i-preserved c =
-    let get : ℕ → Option ℕ = λ h. mapped_at c.args.core.now c.args.vm h in
+    let get : ℕ → Option ℕ = λ h. mapped_at c.args.core.now.state c.args.vm h in
     let so_far = filter_map get (range_with_len c.args.gfn c.loop-i.i) in
     let next = ranged-more get c.args.gfn c.loop-i.i in
     let there : c.lookup.result ≡ get (c.args.gfn + c.loop-i.i) = c.lookup.ensures.value in
@@ -27,5 +27,5 @@ returns c =
     let past = c.loop-i-test.false in
     let within = c.loop-i.auto.i-end in
     let version = c.version.ensures ∙ ap (λ (config : Configuration). config.version) c.config.ensures.value in
-    let low : c.args.gfn < gfns_of c.args.core.now.config.version = subst (λ n. c.args.gfn < n) (c.gfns-gfns.ensures.value ∙ ap gfns_of version) c.if-gfn-gfns.false in
-    mapped-is c.args.core.now c.args.vm c.args.gfn c.args.count c.loop-i.i c.loop-i.frames.items c.if-count-gt-RANGE_LIMIT.false low (omega (arith, past, within)) c.loop-i.invariant
+    let low : c.args.gfn < gfns_of c.args.core.now.state.config.version = subst (λ n. c.args.gfn < n) (c.gfns-gfns.ensures.value ∙ ap gfns_of version) c.if-gfn-gfns.false in
+    mapped-is c.args.core.now.state c.args.vm c.args.gfn c.args.count c.loop-i.i c.loop-i.frames.items c.if-count-gt-RANGE_LIMIT.false low (omega (arith, past, within)) c.loop-i.invariant

@@ -8,9 +8,9 @@ use Rattle.kc_custody.proofs.noting.note_calls.Given as goal
 -- the notes on the calls so far, how many of these were denied and for what, and the state after them
 abbrev pub invariant-loop-i : goal.invariant-loop-i
 invariant-loop-i l = record {
-  notes : l.notes.items ≡ l.fn.notes.items ++ notes_from l.first l.fn.core (take l.i l.calls);
-  denied : l.denials.total ≡ l.fn.denials.total + length (filter is_denied (notes_from l.first l.fn.core (take l.i l.calls)));
-  counted : (replies : List Reply) → Counts replies l.fn.denials → Counts (replies ++ replies_from l.fn.core (take l.i l.calls)) l.denials;
+  notes : l.notes.items ≡ l.fn.notes.items ++ notes_from l.first l.fn.core.state (take l.i l.calls);
+  denied : l.denials.total ≡ l.fn.denials.total + length (filter is_denied (notes_from l.first l.fn.core.state (take l.i l.calls)));
+  counted : (replies : List Reply) → Counts replies l.fn.denials → Counts (replies ++ replies_from l.fn.core.state (take l.i l.calls)) l.denials;
   few : l.denials.total ≤ l.fn.denials.total + l.i;
-  state : l.core ≡ state_after l.fn.core (take l.i l.calls);
+  state : l.core.state ≡ state_after l.fn.core.state (take l.i l.calls);
 }

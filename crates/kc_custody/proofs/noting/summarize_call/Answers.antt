@@ -13,7 +13,7 @@ use Rattle.kc_custody.proofs.noting.summarize_call.Goals.{in-Some+in_ok-push, in
 pub returns-clause-attempts : goal.returns-clause-attempts
 returns-clause-attempts c =
     let found = c.attempt_told.ensures ∙ ap₂ (λ (named : Option NamedFrame) (reply : Reply). attempt_told c.args.line named reply) c.named_by-named.ensures c.in_ok-reply.ensures.reply in
-    let all : attempts_in (notes_by c.args.line c.args.core.now c.args.call.now) ≡ option_to_list c.attempt_told.result = of-call _ _ _ ∙ ap option_to_list (sym found) in
+    let all : attempts_in (notes_by c.args.line c.args.core.now.state c.args.call.now) ≡ option_to_list c.attempt_told.result = of-call _ _ _ ∙ ap option_to_list (sym found) in
     rw all (elim c.match-attempt_told.branch [
       | in-Some+in_ok-push w ↦ rw (w.attempts-is, w.in-Some.is) w.in_ok-push.ensures.items
       | in_default w ↦ rw (w.attempts-is, w.in_default.is) (sym (append-nil c.args.attempts.now.items))
@@ -21,5 +21,5 @@ returns-clause-attempts c =
 
 pub returns-clause-lives : goal.returns-clause-lives
 returns-clause-lives c =
-    let all = c.in_ok-reply.ensures.told ∙ ap (λ (xs : List Event). xs ++ events_by c.args.line c.args.core.now c.args.call.now) c.new-events.ensures.items in
+    let all = c.in_ok-reply.ensures.told ∙ ap (λ (xs : List Event). xs ++ events_by c.args.line c.args.core.now.state c.args.call.now) c.new-events.ensures.items in
     rw (← all) c.in_ok-note_all.ensures

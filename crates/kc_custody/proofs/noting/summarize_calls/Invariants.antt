@@ -11,10 +11,10 @@ use Rattle.kc_custody.proofs.noting.summarize_calls.Given as goal
 -- the lives with the events of the calls so far, the attempts among these, how many of these were denied and for what, and the state after them
 abbrev pub invariant-loop-i : goal.invariant-loop-i
 invariant-loop-i l = record {
-  lives : NotesAll (events_from l.first l.fn.core (take l.i l.calls)) l.fn.lives l.lives;
-  attempts : l.attempts.items ≡ l.fn.attempts.items ++ attempts_in (notes_from l.first l.fn.core (take l.i l.calls));
-  denied : l.denials.total ≡ l.fn.denials.total + length (filter is_denied (notes_from l.first l.fn.core (take l.i l.calls)));
-  counted : (replies : List Reply) → Counts replies l.fn.denials → Counts (replies ++ replies_from l.fn.core (take l.i l.calls)) l.denials;
+  lives : NotesAll (events_from l.first l.fn.core.state (take l.i l.calls)) l.fn.lives l.lives;
+  attempts : l.attempts.items ≡ l.fn.attempts.items ++ attempts_in (notes_from l.first l.fn.core.state (take l.i l.calls));
+  denied : l.denials.total ≡ l.fn.denials.total + length (filter is_denied (notes_from l.first l.fn.core.state (take l.i l.calls)));
+  counted : (replies : List Reply) → Counts replies l.fn.denials → Counts (replies ++ replies_from l.fn.core.state (take l.i l.calls)) l.denials;
   few : l.denials.total ≤ l.fn.denials.total + l.i;
-  state : l.core ≡ state_after l.fn.core (take l.i l.calls);
+  state : l.core.state ≡ state_after l.fn.core.state (take l.i l.calls);
 }

@@ -6,14 +6,14 @@ use Rattle.kc_custody.proofs.telling.tell_calls.Goals as goal
 
 pub loop-i-preserved : goal.loop-i-preserved
 loop-i-preserved c =
-    let step = state_after-more c.args.core.now c.args.calls.now c.loop-i.i c.index-calls-i.result c.loop-i-test.true c.index-calls-i.is in
+    let step = state_after-more c.args.core.now.state c.args.calls.now c.loop-i.i c.index-calls-i.result c.loop-i-test.true c.index-calls-i.is in
     let added = c.note.ensures.total (room _ _ _ _ c.requires.counts c.loop-i.invariant.few c.loop-i-test.true) in
     record {
-      told = calls-told c.args.first c.args.core.now c.loop-i.core c.args.calls.now c.loop-i.i c.index-calls-i.result c.args.told.now.items c.loop-i.told.items _ c.loop-i-test.true c.index-calls-i.is
+      told = calls-told c.args.first c.args.core.now.state c.loop-i.core.state c.args.calls.now c.loop-i.i c.index-calls-i.result c.args.told.now.items c.loop-i.told.items _ c.loop-i-test.true c.index-calls-i.is
           c.loop-i.invariant.told c.loop-i.invariant.state c.in_ok-reply.ensures.told;
-      denied = denied-more c.args.first c.args.core.now c.loop-i.core c.args.calls.now c.loop-i.i c.index-calls-i.result c.in_ok-reply.reply c.args.denials.now.total c.loop-i.denials.total c.note.new.self.total c.loop-i-test.true c.index-calls-i.is
+      denied = denied-more c.args.first c.args.core.now.state c.loop-i.core.state c.args.calls.now c.loop-i.i c.index-calls-i.result c.in_ok-reply.reply c.args.denials.now.total c.loop-i.denials.total c.note.new.self.total c.loop-i-test.true c.index-calls-i.is
           c.loop-i.invariant.state c.in_ok-reply.ensures.reply c.loop-i.invariant.denied added;
-      counted = counted-more c.args.core.now c.loop-i.core c.args.calls.now c.loop-i.i c.index-calls-i.result c.in_ok-reply.reply c.args.denials.now c.loop-i.denials c.note.new.self c.loop-i-test.true c.index-calls-i.is
+      counted = counted-more c.args.core.now.state c.loop-i.core.state c.args.calls.now c.loop-i.i c.index-calls-i.result c.in_ok-reply.reply c.args.denials.now c.loop-i.denials c.note.new.self c.loop-i-test.true c.index-calls-i.is
           c.loop-i.invariant.state c.in_ok-reply.ensures.reply c.loop-i.invariant.counted c.note.ensures.counted;
       few = denied-few (is_denial c.in_ok-reply.reply) c.args.denials.now.total c.loop-i.denials.total c.note.new.self.total c.loop-i.i c.loop-i.invariant.few added;
       state = rw (step, ← c.loop-i.invariant.state) c.in_ok-reply.ensures.state;

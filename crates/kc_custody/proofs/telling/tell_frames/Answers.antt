@@ -7,7 +7,7 @@ use Rattle.kc_custody.proofs.telling.tell_frames.Goals.{then-not-same_custody, e
 
 pub loop-mark-preserved : goal.loop-mark-preserved
 loop-mark-preserved c =
-    let new = c.args.core.now in
+    let new = c.args.core.now.state in
     let mark = c.mark-item.result in
     let next = settled-more new c.args.marks.now c.loop-mark.mark-index mark c.loop-mark-test.true c.mark-item.is in
     let test : c.same_custody.result ≡ same_custody mark.before (custody_at new mark.frame) = c.same_custody.ensures ∙ ap (same_custody mark.before) c.custody_at.ensures in

@@ -7,7 +7,7 @@ use Rattle.kc_page.specs.Page.{scrubbed_page}
 use Rattle.kc_page.proofs.page.scrub_all.Goals as goal
 
 blank : Page
-blank = record { meta = record { owner = Core; share = 0; gfn = None; present = false; prev = None; next = None }; bytes = zero_page }
+blank = record { meta = record { owner = Core; share = 0; gfn = None; present = false; prev = None; next = None }; bytes = record { bytes = zero_page; is_reserved = false } }
 
 pub returns : goal.returns
 returns g c =

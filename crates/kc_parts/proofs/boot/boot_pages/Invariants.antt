@@ -4,4 +4,4 @@ use Rattle.kc_parts.specs.Booting.{boot_page}
 use Rattle.kc_parts.proofs.boot.boot_pages.Given as goal
 
 abbrev pub invariant-loop-frame : goal.invariant-loop-frame
-invariant-loop-frame l = l.pages.items ≡ map (boot_page l.config) (range_with_len 0 l.frame)
+invariant-loop-frame l = l.pages.items ≡ map (boot_page l.is_reserved l.config) (range_with_len 0 l.frame)

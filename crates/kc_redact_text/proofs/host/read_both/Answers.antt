@@ -12,4 +12,4 @@ returns-in_err-begun-clause-texts g c =
 pub returns-clause-texts : goal.returns-clause-texts
 returns-clause-texts g c =
     let begun = c.in_ok-begun in
-    texts_read _ _ _ _ begun.begun.core begun.begun.expected c.read_made.result begun.ensures.ok c.read_made.ensures.trace c.read_made.ensures.fault
+    texts_read _ _ _ _ begun.begun.core.state begun.begun.expected c.read_made.result begun.ensures.ok c.read_made.ensures.trace c.read_made.ensures.fault

@@ -2,6 +2,7 @@ use Rattle.std.proofs.Common.{◌≡◌, ◌∙◌, Err, sym, ap}
 use Rattle.std.proofs.lemmas.Result.{err_from_is_err_and}
 use Rattle.kc_texts.proofs.Fed.{ends_a_trace, ends_refused}
 use Rattle.kc_faults.specs.declared.fault.TextFault.TheVariants as texts
+use Rattle.kc_core.specs.KCore.{state_in}
 use Rattle.kc_redact_text.specs.Reading.{stream_of}
 use Rattle.kc_redact_text.specs.Made.{config_of}
 use Rattle.kc_redact_text.proofs.Made.{config-made}
@@ -24,7 +25,7 @@ returns-in-Ok-clause-ok g c =
 pub returns-in-Ok-clause-config : goal.returns-in-Ok-clause-config
 returns-in-Ok-clause-config g c =
     let on = c.in_ok-take_rest.ensures.ok in
-    ap config_of on.3 ∙ config-made c.args.core.now on.0
+    ap config_of on.3 ∙ config-made (state_in c.args.core.now) on.0
 
 pub returns-in-Err-clause-trace : goal.returns-in-Err-clause-trace
 returns-in-Err-clause-trace g c fault e =

@@ -15,20 +15,20 @@ after-call m before after call state same = ap (λ (s : State). s.config) state 
 
 pub loop-number-preserved : goal.loop-number-preserved
 loop-number-preserved g c =
-    let step = state_after-more c.args.core c.args.calls.now c.loop-number.number c.index-calls-number.result c.loop-number-test.true c.index-calls-number.is in
-    let told = replies_from-more c.args.core c.args.calls.now c.loop-number.number c.index-calls-number.result c.loop-number-test.true c.index-calls-number.is in
+    let step = state_after-more c.args.core.state c.args.calls.now c.loop-number.number c.index-calls-number.result c.loop-number-test.true c.index-calls-number.is in
+    let told = replies_from-more c.args.core.state c.args.calls.now c.loop-number.number c.index-calls-number.result c.loop-number-test.true c.index-calls-number.is in
     record {
       replies = rw (told, ← c.loop-number.invariant.state, ← c.loop-number.invariant.replies, ← c.in-Ok-call.ensures.reply) c.in-Ok-push.ensures.items;
       state = rw (step, ← c.loop-number.invariant.state) c.in-Ok-call.ensures.state;
-      config = after-call c.args.core c.loop-number.core c.call.new.self c.index-calls-number.result c.in-Ok-call.ensures.state c.loop-number.invariant.config;
+      config = after-call c.args.core.state c.loop-number.core.state c.call.new.self.state c.index-calls-number.result c.in-Ok-call.ensures.state c.loop-number.invariant.config;
     }
 
 pub returns-in_default-push-clause-wiped : goal.returns-in_default-push-clause-wiped
 returns-in_default-push-clause-wiped g c =
-    subst (λ (config : Configuration). IsWiped config c.for_memory-in_default-push.result.left) (after-call c.args.core c.loop-number.core c.call.new.self c.index-calls-number.result c.in-Ok-call.ensures.state c.loop-number.invariant.config) c.for_memory-in_default-push.ensures.wiped
+    subst (λ (config : Configuration). IsWiped config c.for_memory-in_default-push.result.left) (after-call c.args.core.state c.loop-number.core.state c.call.new.self.state c.index-calls-number.result c.in-Ok-call.ensures.state c.loop-number.invariant.config) c.for_memory-in_default-push.ensures.wiped
 
 pub returns-clause-replayed : goal.returns-clause-replayed
 returns-clause-replayed g c =
-    let replies = c.loop-number.invariant.replies ∙ ap (replies_from c.args.core) (take_all c.loop-number.number c.args.calls.now c.loop-number-test.false) in
-    let state = c.loop-number.invariant.state ∙ ap (state_after c.args.core) (take_all c.loop-number.number c.args.calls.now c.loop-number-test.false) in
-    record { replies = replies; state = state; blind = shows_nothing c.args.core c.loop-number.core c.args.calls.now c.loop-number.replies.items c.requires.lawful replies state }
+    let replies = c.loop-number.invariant.replies ∙ ap (replies_from c.args.core.state) (take_all c.loop-number.number c.args.calls.now c.loop-number-test.false) in
+    let state = c.loop-number.invariant.state ∙ ap (state_after c.args.core.state) (take_all c.loop-number.number c.args.calls.now c.loop-number-test.false) in
+    record { replies = replies; state = state; blind = shows_nothing c.args.core.state c.loop-number.core.state c.args.calls.now c.loop-number.replies.items c.requires.lawful replies state }

@@ -19,11 +19,11 @@ loop-place-preserved g c =
     let call : c.index-calls-number.result ≡ call_at (wave_calls c.args.calls.now c.args.members.now) at =
     c.index-calls-number.is ∙ any-default c.args.calls.now (get_or c.args.members.now at 0) c.index-calls-number.result Take (c.requires.members.within at low) ∙ sym (wave-call c.args.calls.now c.args.members.now at low) in
     record {
-      state = c.in_ok-reply.ensures.state ∙ ap (λ (s : State). (next s c.index-calls-number.result).1) c.loop-place.invariant.state ∙ ap (λ (x : Call). (next (state_at c.args.core.now (wave_calls c.args.calls.now c.args.members.now) at) x).1) call ∙ sym (state-one c.args.core.now (wave_calls c.args.calls.now c.args.members.now) at);
-      config = ap (λ (s : State). s.config) c.in_ok-reply.ensures.state ∙ (sized-next c.loop-place.core c.index-calls-number.result).config ∙ c.loop-place.invariant.config;
-      given = given-more c.args.core.now c.args.calls.now c.args.members.now c.requires.members c.loop-place.replies at c.in_ok-reply.reply low size
-          (c.in_ok-reply.ensures.reply ∙ ap (λ (s : State). (next s c.index-calls-number.result).0) c.loop-place.invariant.state ∙ ap (λ (x : Call). (next (state_at c.args.core.now (wave_calls c.args.calls.now c.args.members.now) at) x).0) call)
+      state = c.in_ok-reply.ensures.state ∙ ap (λ (s : State). (next s c.index-calls-number.result).1) c.loop-place.invariant.state ∙ ap (λ (x : Call). (next (state_at c.args.core.now.state (wave_calls c.args.calls.now c.args.members.now) at) x).1) call ∙ sym (state-one c.args.core.now.state (wave_calls c.args.calls.now c.args.members.now) at);
+      config = ap (λ (s : State). s.config) c.in_ok-reply.ensures.state ∙ (sized-next c.loop-place.core.state c.index-calls-number.result).config ∙ c.loop-place.invariant.config;
+      given = given-more c.args.core.now.state c.args.calls.now c.args.members.now c.requires.members c.loop-place.replies at c.in_ok-reply.reply low size
+          (c.in_ok-reply.ensures.reply ∙ ap (λ (s : State). (next s c.index-calls-number.result).0) c.loop-place.invariant.state ∙ ap (λ (x : Call). (next (state_at c.args.core.now.state (wave_calls c.args.calls.now c.args.members.now) at) x).0) call)
           c.loop-place.invariant.given;
-      kept = λ k none. given-kept c.args.core.now c.args.calls.now c.args.members.now c.requires.members c.loop-place.replies at c.in_ok-reply.reply low size k none ∙ c.loop-place.invariant.kept k none;
+      kept = λ k none. given-kept c.args.core.now.state c.args.calls.now c.args.members.now c.requires.members c.loop-place.replies at c.in_ok-reply.reply low size k none ∙ c.loop-place.invariant.kept k none;
       size = length-set c.loop-place.replies (get_or c.args.members.now at 0) c.in_ok-reply.reply ∙ c.loop-place.invariant.size;
     }

@@ -27,34 +27,34 @@ in-wave m calls footprints plan done members are is of =
 
 pub loop-done-init : goal.loop-done-init
 loop-done-init g c =
-    up-to-none c.args.core c.args.calls.now c.requires.lawful (wave_of c.args.prepared.plan) (longest c.args.core c.args.calls.now c.args.prepared.footprints c.args.prepared.plan c.requires.footprints c.requires.plan) c.args.prepared.replies.items c.requires.long
+    up-to-none c.args.core.state c.args.calls.now c.requires.lawful (wave_of c.args.prepared.plan) (longest c.args.core.state c.args.calls.now c.args.prepared.footprints c.args.prepared.plan c.requires.footprints c.requires.plan) c.args.prepared.replies.items c.requires.long
 
 pub take_wave-requires-clause-wave : goal.take_wave-requires-clause-wave
 take_wave-requires-clause-wave g c κs within =
-    let are = in-wave c.args.core c.args.calls.now c.args.prepared.footprints c.args.prepared.plan c.loop-done.done c.calls_in.result.now c.requires.footprints c.requires.plan c.calls_in.ensures.members in
-    wave-next c.args.core c.args.calls.now c.requires.lawful (wave_of c.args.prepared.plan) (longest c.args.core c.args.calls.now c.args.prepared.footprints c.args.prepared.plan c.requires.footprints c.requires.plan) (footprint_of c.args.prepared.footprints) (λ k r low. c.requires.footprints.touches k r low)
-    c.loop-done.done c.loop-done.store c.loop-done.replies.items c.loop-done.invariant c.calls_in.result.now are
+    let are = in-wave c.args.core.state c.args.calls.now c.args.prepared.footprints c.args.prepared.plan c.loop-done.done c.calls_in.result.now c.requires.footprints c.requires.plan c.calls_in.ensures.members in
+    wave-next c.args.core.state c.args.calls.now c.requires.lawful (wave_of c.args.prepared.plan) (longest c.args.core.state c.args.calls.now c.args.prepared.footprints c.args.prepared.plan c.requires.footprints c.requires.plan) (footprint_of c.args.prepared.footprints) (λ k r low. c.requires.footprints.touches k r low)
+    c.loop-done.done c.loop-done.store.state c.loop-done.replies.items c.loop-done.invariant c.calls_in.result.now are
 
 pub returns-in_err-store-clause-wiped : goal.returns-in_err-store-clause-wiped
 returns-in_err-store-clause-wiped g c =
     let made = err_from_is_err_and c.from_residual.result c.from_residual.ensures.1 in
-    let same = up-to-config c.args.core c.args.calls.now (wave_of c.args.prepared.plan) c.loop-done.done c.loop-done.store c.loop-done.replies.items c.loop-done.invariant in
+    let same = up-to-config c.args.core.state c.args.calls.now (wave_of c.args.prepared.plan) c.loop-done.done c.loop-done.store.state c.loop-done.replies.items c.loop-done.invariant in
     rw (made.1, made.2) (subst (λ (config : Configuration). IsWiped config c.in_err-store.field-0.0.left) same c.in_err-store.ensures.wiped)
 
 pub loop-done-preserved : goal.loop-done-preserved
 loop-done-preserved g c =
     let replied = rw c.deref_mut.ensures.value at c.in_ok-store.ensures.replies in
-    let are = in-wave c.args.core c.args.calls.now c.args.prepared.footprints c.args.prepared.plan c.loop-done.done c.calls_in.result.now c.requires.footprints c.requires.plan c.calls_in.ensures.members in
+    let are = in-wave c.args.core.state c.args.calls.now c.args.prepared.footprints c.args.prepared.plan c.loop-done.done c.calls_in.result.now c.requires.footprints c.requires.plan c.calls_in.ensures.members in
     let one : c.loop-done.done + 1 ≡ suc c.loop-done.done = omega arith in
     let size : c.loop-done.replies.len ≡ length c.take_wave.new.replies = search rules in
     rw (one, written-whole c.take_wave.new.replies c.loop-done.replies.items c.loop-done.replies.len size)
-    (up-to-next c.args.core c.args.calls.now c.requires.lawful (wave_of c.args.prepared.plan) (longest c.args.core c.args.calls.now c.args.prepared.footprints c.args.prepared.plan c.requires.footprints c.requires.plan) (footprint_of c.args.prepared.footprints) (λ k r low. c.requires.footprints.touches k r low)
-    c.loop-done.done c.loop-done.store c.loop-done.replies.items c.loop-done.invariant c.calls_in.result.now are c.in_ok-store.store c.take_wave.new.replies replied c.in_ok-store.ensures.state)
+    (up-to-next c.args.core.state c.args.calls.now c.requires.lawful (wave_of c.args.prepared.plan) (longest c.args.core.state c.args.calls.now c.args.prepared.footprints c.args.prepared.plan c.requires.footprints c.requires.plan) (footprint_of c.args.prepared.footprints) (λ k r low. c.requires.footprints.touches k r low)
+    c.loop-done.done c.loop-done.store.state c.loop-done.replies.items c.loop-done.invariant c.calls_in.result.now are c.in_ok-store.store.state c.take_wave.new.replies replied c.in_ok-store.ensures.state)
 
 pub returns-clause-replayed : goal.returns-clause-replayed
 returns-clause-replayed g c =
     let all : highest c.args.prepared.plan ≤ c.loop-done.done = search rules in
     let end =
-    up-to-all c.args.core c.args.calls.now c.requires.lawful (wave_of c.args.prepared.plan) (longest c.args.core c.args.calls.now c.args.prepared.footprints c.args.prepared.plan c.requires.footprints c.requires.plan) c.loop-done.done c.loop-done.store c.loop-done.replies.items
+    up-to-all c.args.core.state c.args.calls.now c.requires.lawful (wave_of c.args.prepared.plan) (longest c.args.core.state c.args.calls.now c.args.prepared.footprints c.args.prepared.plan c.requires.footprints c.requires.plan) c.loop-done.done c.loop-done.store.state c.loop-done.replies.items
     (λ k low. let last = at_most c.args.prepared.plan k in omega (arith, last, all)) c.loop-done.invariant in
-    record { replies = end.0; state = end.1; blind = shows_nothing c.args.core c.loop-done.store c.args.calls.now c.loop-done.replies.items c.requires.lawful end.0 end.1 }
+    record { replies = end.0; state = end.1; blind = shows_nothing c.args.core.state c.loop-done.store.state c.args.calls.now c.loop-done.replies.items c.requires.lawful end.0 end.1 }

@@ -8,12 +8,12 @@ use Rattle.kc_snapshot.proofs.digesting.frame_digests_alone.Goals as goal
 
 pub loop-number-preserved : goal.loop-number-preserved
 loop-number-preserved c =
-    let n = in_form c.args.form c.args.core.now in
+    let n = in_form c.args.form c.args.core.now.state in
     more (λ f. sha256 (frame_at n f).bytes) c.loop-number.number c.loop-number.number c.loop-number.digests.items _ _ c.loop-number.invariant c.in_ok-push.ensures.items (c.page_digest.ensures ∙ ap sha256 c.bytes_in-page.ensures) refl
 
 pub returns : goal.returns
 returns c =
-    let m = c.args.core.now in
+    let m = c.args.core.now.state in
     let end = c.frames-number-end.ensures.value in
     let same = ap (λ x. x.frames) c.config-2.ensures.value in
     let long = c.config-2.ensures.lawful.frames in

@@ -6,4 +6,4 @@ use Rattle.kc_snapshot.specs.Form.{in_form}
 use Rattle.kc_snapshot.proofs.digesting.frame_digests_alone.Given as goal
 
 abbrev pub invariant-loop-number : goal.invariant-loop-number
-invariant-loop-number l = l.digests.items ≡ map (λ f. sha256 (frame_at (in_form l.form l.core) f).bytes) (range_with_len 0 l.number)
+invariant-loop-number l = l.digests.items ≡ map (λ f. sha256 (frame_at (in_form l.form l.core.state) f).bytes) (range_with_len 0 l.number)

@@ -10,7 +10,7 @@ use Rattle.kc_snapshot.proofs.dumping.dump_with.Goals as goal
 
 pub new-requires : goal.new-requires
 new-requires c =
-    let m = c.args.core.now in
+    let m = c.args.core.now.state in
     let form = c.args.digests.now.form in
     let lawful = c.config-config.ensures.lawful in
     let config = c.config-config.ensures.value in
@@ -22,7 +22,7 @@ new-requires c =
 
 pub returns-clause-dump : goal.returns-clause-dump
 returns-clause-dump c =
-    let m = c.args.core.now in
+    let m = c.args.core.now.state in
     let form = c.args.digests.now.form in
     let lawful = c.config-config.ensures.lawful in
     let config = c.config-config.ensures.value in
@@ -33,4 +33,4 @@ returns-clause-dump c =
     c.new.ensures ∙ rw (version, core, leaves, c.free_ends.ensures, slots, c.in_ok-frames.ensures) (sym (dump_in form m))
 
 pub returns-clause-sound : goal.returns-clause-sound
-returns-clause-sound c = subst IsSound (sym (returns-clause-dump c)) (sound-drawn (in_form c.args.digests.now.form c.args.core.now) (lawful_in c.args.digests.now.form c.args.core.now c.config-config.ensures.lawful))
+returns-clause-sound c = subst IsSound (sym (returns-clause-dump c)) (sound-drawn (in_form c.args.digests.now.form c.args.core.now.state) (lawful_in c.args.digests.now.form c.args.core.now.state c.config-config.ensures.lawful))

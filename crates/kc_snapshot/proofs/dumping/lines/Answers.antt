@@ -10,7 +10,7 @@ use Rattle.kc_snapshot.proofs.dumping.lines.Goals as goal
 
 pub loop-number-preserved : goal.loop-number-preserved
 loop-number-preserved c =
-    let m = c.args.core.now in
+    let m = c.args.core.now.state in
     let form = c.args.digests.now.form in
     let told = in_form form m in
     let n = c.loop-number.number in

@@ -3,4 +3,4 @@ use Rattle.kc_snapshot.specs.Dumping.{slot_dumps}
 use Rattle.kc_snapshot.proofs.dumping.slots.Given as goal
 
 abbrev pub invariant-loop-vm : goal.invariant-loop-vm
-invariant-loop-vm l = l.slots.items ≡ slot_dumps l.core l.vm
+invariant-loop-vm l = l.slots.items ≡ slot_dumps l.core.state l.vm

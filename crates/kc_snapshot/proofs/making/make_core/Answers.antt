@@ -1,6 +1,7 @@
 use Rattle.std.proofs.Common.{◌≡◌, List, length, ap, subst, ◌∙◌, arith}
 use Rattle.std.proofs.lemmas.List.FromFn.{length-map-range_with_len}
 use Rattle.kc_dump.specs.Dump.{Dumped}
+use Rattle.kc_core.specs.KCore.{SeenCore}
 use Rattle.kc_snapshot.specs.Told.{Told, told_of}
 use Rattle.kc_snapshot.specs.Making.{AreVmsTold}
 use Rattle.kc_snapshot.proofs.Assembled.{core-assembled, told-assembled}
@@ -32,6 +33,6 @@ returns c =
     let count = c.in_ok-vms.ensures.count ∙ ap (λ (t : Told). length t.dump.slots) told in
     let each = subst (λ (t : Told). AreVmsTold t.dump t.rest.slots vms (length t.dump.slots)) told (rw c.as_slice.ensures.value at c.in_ok-vms.ensures.each) in
     let dump = c.into_parts-pages.ensures.dump in
-    ap told_of c.from_parts.ensures
+    ap (λ (core : SeenCore). told_of core.state) c.from_parts.ensures
     ∙ told-assembled c.args.told c.requires.sized c.requires.judged vms count each c.args.config c.frames.result.now _ _ c.free.result.now c.in_ok-parts.parts
     c.requires.config (c.frames.ensures.value ∙ ap (λ (d : Dumped). d.frames) dump) c.into_parts-pages.ensures.pages c.make_pages-pages.ensures (c.free.ensures ∙ ap (λ (d : Dumped). d.free) dump) c.in_ok-parts.ensures

@@ -4,6 +4,7 @@ use Rattle.std.proofs.lemmas.Bool.{not-true}
 use Rattle.hex.specs.Hex.{encode_lower}
 use Rattle.kc_model.specs.State.{overwritten}
 use Rattle.kc_model.specs.Lawful.{IsPage}
+use Rattle.kc_page.specs.PageBytes.{Content}
 use Rattle.kc_state_text.specs.StateText.{is_zero}
 use Rattle.kc_state_text.proofs.PageWords.{long-refused, digits-refused, zeros-refused, written-whole, zero-tested}
 use Rattle.kc_state_text.proofs.pages.decode_page.Goals as goal
@@ -23,10 +24,10 @@ pub returns-clause-spelled : goal.returns-clause-spelled
 returns-clause-spelled c h =
     let digits = c.decode_into.new.bytes in
     let page : IsPage digits = record { whole = c.decode_into.auto.bytes ∙ c.requires.whole; each_byte = c.decode_into.ensures.each_byte } in
-    let same : c.write.new.self ≡ digits = c.write.ensures ∙ ap (λ old. overwritten old 0 digits) c.requires.zero ∙ written-whole digits page in
+    let same : c.write.new.self.bytes ≡ digits = ap (λ (page : Content). page.bytes) c.in_ok-write.ensures.ok ∙ ap (λ old. overwritten old 0 digits) c.requires.zero ∙ written-whole digits page in
     record {
       page = subst IsPage (sym same) page;
-      some = zero-tested c.write.new.self c.is_zero.result (ap (λ (bytes : List ℕ). length bytes) same ∙ page.whole) c.is_zero.ensures ∙ not-true c.is_zero.result h;
+      some = zero-tested c.write.new.self.bytes c.is_zero.result (ap (λ (bytes : List ℕ). length bytes) same ∙ page.whole) c.is_zero.ensures ∙ not-true c.is_zero.result h;
       whole = c.decode_into.ensures.spelled c.if-not-decode_into.false ∙ ap encode_lower (sym same);
     }
 
@@ -34,6 +35,6 @@ pub returns-clause-refused : goal.returns-clause-refused
 returns-clause-refused c h other =
     let digits = c.decode_into.new.bytes in
     let page : IsPage digits = record { whole = c.decode_into.auto.bytes ∙ c.requires.whole; each_byte = c.decode_into.ensures.each_byte } in
-    let same : c.write.new.self ≡ digits = c.write.ensures ∙ ap (λ old. overwritten old 0 digits) c.requires.zero ∙ written-whole digits page in
+    let same : c.write.new.self.bytes ≡ digits = ap (λ (page : Content). page.bytes) c.in_ok-write.ensures.ok ∙ ap (λ old. overwritten old 0 digits) c.requires.zero ∙ written-whole digits page in
     zeros-refused c.args.word.now digits (c.decode_into.ensures.spelled c.if-not-decode_into.false) page
-    (ap is_zero (sym same) ∙ zero-tested c.write.new.self c.is_zero.result (ap (λ (bytes : List ℕ). length bytes) same ∙ page.whole) c.is_zero.ensures ∙ not-false c.is_zero.result h) other
+    (ap is_zero (sym same) ∙ zero-tested c.write.new.self.bytes c.is_zero.result (ap (λ (bytes : List ℕ). length bytes) same ∙ page.whole) c.is_zero.ensures ∙ not-false c.is_zero.result h) other

@@ -6,9 +6,9 @@ use Rattle.kc_state_text.proofs.whole.hash_pieces.Given as goal
 
 abbrev pub invariant-pieces : goal.invariant-pieces
 invariant-pieces l = record {
-  held : (bytes : List ℕ) → Holds256 l.fn.hasher bytes → (seen : List ℕ) × Holds256 l.hasher (bytes ++ seen) × (seen ++ to_come l.core l.pieces ≡ to_come l.core l.fn.pieces);
+  held : (bytes : List ℕ) → Holds256 l.fn.hasher bytes → (seen : List ℕ) × Holds256 l.hasher (bytes ++ seen) × (seen ++ to_come l.core.state l.pieces ≡ to_come l.core.state l.fn.pieces);
   room : longest_page_line ≤ vec_capacity l.piece;
 }
 
 abbrev pub decreases-pieces : goal.decreases-pieces
-decreases-pieces l = length (to_come l.core l.pieces)
+decreases-pieces l = length (to_come l.core.state l.pieces)

@@ -5,9 +5,9 @@ use Rattle.kc_state_text.proofs.whole.push_pieces.Given as goal
 
 abbrev pub invariant-pieces : goal.invariant-pieces
 invariant-pieces l = record {
-  given : l.text.items ++ to_come l.core l.pieces ≡ l.fn.text.items ++ to_come l.core l.fn.pieces;
+  given : l.text.items ++ to_come l.core.state l.pieces ≡ l.fn.text.items ++ to_come l.core.state l.fn.pieces;
   room : longest_page_line ≤ vec_capacity l.piece;
 }
 
 abbrev pub decreases-pieces : goal.decreases-pieces
-decreases-pieces l = length (to_come l.core l.pieces)
+decreases-pieces l = length (to_come l.core.state l.pieces)

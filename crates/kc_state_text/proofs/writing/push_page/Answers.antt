@@ -7,7 +7,7 @@ use Rattle.kc_state_text.proofs.writing.push_page.Goals as goal
 
 pub returns-clause-items : goal.returns-clause-items
 returns-clause-items c =
-    let page = c.args.page.now in
+    let page = c.args.page.now.bytes in
     elim c.if-is_zero.branch [
       | then-is_zero w ↦
           let blank : is_zero page ≡ true = zero-blank page (c.is_zero.ensures.0 w.if-is_zero.true) in

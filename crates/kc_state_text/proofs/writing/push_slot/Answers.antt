@@ -9,7 +9,7 @@ use Rattle.kc_state_text.proofs.writing.push_slot.Goals as goal
 
 pub returns : goal.returns
 returns c =
-    let slot = slot_at c.args.core.now c.args.vm in
+    let slot = slot_at c.args.core.now.state c.args.vm in
     let images : c.unwrap.result.now ≡ slot.images = rw c.unwrap.ensures at c.images.ensures.value in
     on-map c.push_short-2.result (slot-written (slot_rest slot) c.args.text.now.items c.push_short.new.text.items c.push_vcpus.new.text.items c.push_images.new.text.items c.push_short-2.new.text.items
     c.in_ok-push_short.ensures c.in_ok-push_vcpus.ensures

@@ -10,4 +10,4 @@ returns c =
     let all = c.config.ensures.lawful.slots in
     let count = c.slots-vm-end.ensures.value ∙ ap slot_count c.config.ensures.value in
     let past = c.loop-vm-test.false in
-    all-written slot_line slot_rest c.args.core.now.slots c.loop-vm.vm c.args.text.now.items c.loop-vm.text.items (omega (arith, all, count, past)) c.loop-vm.invariant
+    all-written slot_line slot_rest c.args.core.now.state.slots c.loop-vm.vm c.args.text.now.items c.loop-vm.text.items (omega (arith, all, count, past)) c.loop-vm.invariant

@@ -6,4 +6,4 @@ use Rattle.kc_state_text.specs.StateText.{slot_line}
 use Rattle.kc_state_text.proofs.writing.push_slots.Given as goal
 
 abbrev pub invariant-loop-vm : goal.invariant-loop-vm
-invariant-loop-vm l = l.text.items ≡ l.initial.text.items ++ flat_map (λ (slot : Slot). slot_line (slot_rest slot)) (take l.vm l.core.slots)
+invariant-loop-vm l = l.text.items ≡ l.initial.text.items ++ flat_map (λ (slot : Slot). slot_line (slot_rest slot)) (take l.vm l.core.state.slots)

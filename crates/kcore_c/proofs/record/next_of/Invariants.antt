@@ -4,4 +4,4 @@ use Rattle.kcore_c.proofs.record.next_of.Given as goal
 
 -- none of the frames so far has this owner
 abbrev pub invariant-loop-frame : goal.invariant-loop-frame
-invariant-loop-frame l = (g : ℕ) → l.from ≤ g → g < l.frame → is_of l.core l.owner l.vm g ≡ false
+invariant-loop-frame l = (g : ℕ) → l.from ≤ g → g < l.frame → is_of l.core.state l.owner l.vm g ≡ false

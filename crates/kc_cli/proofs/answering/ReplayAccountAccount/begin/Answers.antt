@@ -17,7 +17,7 @@ returns-in_err-core-clause-texts g c =
 pub returns-clause-ok : goal.returns-clause-ok
 returns-clause-ok g c =
     let start = c.in_ok-core.field-0 in (
-      start.core,
-      subst (λ (e : Expected). IfSome (g.C.Source.left c.args.start.now) (λ text. BeginsIn c.args.order.origin text start.core e)) (sym c.new-3.ensures.first) c.in_ok-core.ensures.ok,
-      none_replayed c.args.order _ start.core (c.new-3.ensures.next ∙ sym c.new-3.ensures.first) c.in_ok-core.ensures.lawful c.new-3.ensures.none c.new.ensures.items c.new-2.ensures.items (ap (λ (r : Replaying). r.state) c.in-Ok.ensures.start) (ap (λ (r : Replaying). r.workers) c.in-Ok.ensures.start),
+      start.core.state,
+      subst (λ (e : Expected). IfSome (g.C.Source.left c.args.start.now) (λ text. BeginsIn c.args.order.origin text start.core.state e)) (sym c.new-3.ensures.first) c.in_ok-core.ensures.ok,
+      none_replayed c.args.order _ start.core.state (c.new-3.ensures.next ∙ sym c.new-3.ensures.first) c.in_ok-core.ensures.lawful c.new-3.ensures.none c.new.ensures.items c.new-2.ensures.items (ap (λ (r : Replaying). r.state) c.in-Ok.ensures.start) (ap (λ (r : Replaying). r.workers) c.in-Ok.ensures.start),
     )

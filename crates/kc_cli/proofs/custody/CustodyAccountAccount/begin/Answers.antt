@@ -11,7 +11,7 @@ returns-in_err-begun-clause-texts g c =
 
 pub returns-clause-ok : goal.returns-clause-ok
 returns-clause-ok g c = (
-  c.in_ok-begun.begun.core,
-  begins_there c.args.order _ c.in_ok-begun.begun.core _ c.in_ok-begun.begun.expected c.new-2.ensures.first c.in_ok-begun.ensures.ok (rw c.names_start-is_named.ensures at c.in_ok-begun.ensures.digest),
+  c.in_ok-begun.begun.core.state,
+  begins_there c.args.order _ c.in_ok-begun.begun.core.state _ c.in_ok-begun.begun.expected c.new-2.ensures.first c.in_ok-begun.ensures.ok (rw c.names_start-is_named.ensures at c.in_ok-begun.ensures.digest),
   none_told c.args.order _ (c.new-2.ensures.next ∙ sym c.new-2.ensures.first) c.in_ok-begun.ensures.lawful refl c.new-2.ensures.none c.in-Ok.ensures,
 )

@@ -5,6 +5,7 @@ use Rattle.kc_model.specs.Custody.{first_line}
 use Rattle.kc_model.proofs.States.Sizes.{config-after}
 use Rattle.kc_remarks.specs.Remarks.{notes}
 use Rattle.kc_remarks.proofs.Ordered.{told_in_order}
+use Rattle.kc_core.specs.KCore.{SeenCore}
 use Rattle.kc_cli.specs.Custody.{joined}
 use Rattle.kc_cli.proofs.Ledgers.{changes_within, kept_in_order}
 use Rattle.kc_cli.proofs.Sources.{sink_err}
@@ -24,7 +25,7 @@ pub give_told-requires-clause-changes : goal.give_told-requires-clause-changes
 give_told-requires-clause-changes g c =
     let h = c.requires.told.3 in
     let calls = joined h.volumes in
-    let same = c.told_of-told.ensures.config ∙ ap config_of c.into_parts-config.ensures.state ∙ ap config_of c.wipe.ensures ∙ ap config_of h.kept.left ∙ config-after c.requires.told.1 calls in
+    let same = c.told_of-told.ensures.config ∙ ap (λ (core : SeenCore). core.state.config) c.into_parts-config.ensures.state ∙ ap config_of c.wipe.ensures.state ∙ ap config_of h.kept.left ∙ config-after c.requires.told.1 calls in
     rw (same, c.told_of-told.ensures.ledger) (changes_within c.requires.told.1.config.frames _ (kept_is_within c.requires.told.0.form c.requires.told.1 calls _ h.kept.ledger))
 
 pub give_told-requires-clause-order : goal.give_told-requires-clause-order
@@ -50,7 +51,7 @@ returns-in-Ok-clause-ok g c = λ order m start sources h began.
     c.told_of-told.result
     _ _ h
     record {
-      config = c.told_of-told.ensures.config ∙ ap config_of c.into_parts-config.ensures.state ∙ ap config_of c.wipe.ensures ∙ ap config_of h.kept.left ∙ config-after m (joined h.volumes);
+      config = c.told_of-told.ensures.config ∙ ap (λ (core : SeenCore). core.state.config) c.into_parts-config.ensures.state ∙ ap config_of c.wipe.ensures.state ∙ ap config_of h.kept.left ∙ config-after m (joined h.volumes);
       heading = c.told_of-told.ensures.heading;
       listed_are = c.told_of-told.ensures.volumes;
       count = omega (arith, line, calls);
@@ -68,7 +69,7 @@ returns-in-Err-clause-sink g c = λ order m start sources h began.
     c.told_of-told.result
     _ _ h
     record {
-      config = c.told_of-told.ensures.config ∙ ap config_of c.into_parts-config.ensures.state ∙ ap config_of c.wipe.ensures ∙ ap config_of h.kept.left ∙ config-after m (joined h.volumes);
+      config = c.told_of-told.ensures.config ∙ ap (λ (core : SeenCore). core.state.config) c.into_parts-config.ensures.state ∙ ap config_of c.wipe.ensures.state ∙ ap config_of h.kept.left ∙ config-after m (joined h.volumes);
       heading = c.told_of-told.ensures.heading;
       listed_are = c.told_of-told.ensures.volumes;
       count = omega (arith, line, calls);

@@ -18,7 +18,7 @@ loop-stream-init g c = record {
     omega arith,
     omega arith,
     rw c.new-stream.ensures.header (none_witnessed _ c.args.is_named),
-    λ form start before is h. subst (λ (calls : List Call). HasKept form start calls c.args.core.now c.args.self.now) (sym (append-nil before)) h,
+    λ form start before is h. subst (λ (calls : List Call). HasKept form start calls c.args.core.now.state c.args.self.now) (sym (append-nil before)) h,
   );
   few = search rules;
   mark = c.requires.trace;
@@ -69,12 +69,12 @@ loop-stream-preserved g c =
         omega (arith, long, at),
         omega (arith, long, few, same, noted),
         rw c.header.ensures at seen,
-        λ form start first is h. kept_after form start first before.1 calls c.loop-stream.core _ c.loop-stream.self _ is (before.6 form start first is h) ((rw c.deref-in-loop-stream.ensures.value at c.in-Ok.ensures.kept) form start)
+        λ form start first is h. kept_after form start first before.1 calls c.loop-stream.core.state _ c.loop-stream.self _ is (before.6 form start first is h) ((rw c.deref-in-loop-stream.ensures.value at c.in-Ok.ensures.kept) form start)
             (rw c.deref-in-loop-stream.ensures.value at c.in-Ok.ensures.state) (rw c.deref-in-loop-stream.ensures.value at c.in-Ok.ensures.denied) (omega (arith, same, noted)) (rw c.deref-in-loop-stream.ensures.value at c.in-Ok.ensures.counted) (omega arith) short,
       );
       few = c.in_ok-part.ensures.few;
       mark = c.in_ok-part.ensures.mark;
-      config = ap (λ (m : State). m.config) (rw c.deref-in-loop-stream.ensures.value at c.in-Ok.ensures.state) ∙ config-after c.loop-stream.core c.in_ok-part.part.calls.items ∙ c.loop-stream.invariant.config;
+      config = ap (λ (m : State). m.config) (rw c.deref-in-loop-stream.ensures.value at c.in-Ok.ensures.state) ∙ config-after c.loop-stream.core.state c.in_ok-part.part.calls.items ∙ c.loop-stream.invariant.config;
     }
 
 pub returns-in-Ok-finish-clause-ok : goal.returns-in-Ok-finish-clause-ok
@@ -96,9 +96,9 @@ returns-in-Ok-finish-clause-ok g c =
       omega (arith, long, at),
       subst (λ (needed : Bool). IsDigested needed c.args.is_named volume c.digest_of.result) c.is_needed-is_needed.ensures
           (digest_needed c.is_needed-is_needed.result c.args.is_named _ volume _ (c.digest_of.ensures c.args.is_named volume) (rw (c.header.ensures, c.in-Ok-finish.ensures.header) at seen)),
-      λ form start first is h. kept_after form start first before.1 calls c.loop-stream.core _ c.loop-stream.self _ is (before.6 form start first is h) ((rw c.deref-in-loop-stream.ensures.value at c.in-Ok.ensures.kept) form start)
+      λ form start first is h. kept_after form start first before.1 calls c.loop-stream.core.state _ c.loop-stream.self _ is (before.6 form start first is h) ((rw c.deref-in-loop-stream.ensures.value at c.in-Ok.ensures.kept) form start)
           (rw c.deref-in-loop-stream.ensures.value at c.in-Ok.ensures.state) (rw c.deref-in-loop-stream.ensures.value at c.in-Ok.ensures.denied) (omega (arith, same, noted)) (rw c.deref-in-loop-stream.ensures.value at c.in-Ok.ensures.counted) (omega arith) short,
     )
 
 pub returns-in-Ok-finish-clause-config : goal.returns-in-Ok-finish-clause-config
-returns-in-Ok-finish-clause-config g c = ap (λ (m : State). m.config) (rw c.deref-in-loop-stream.ensures.value at c.in-Ok.ensures.state) ∙ config-after c.loop-stream.core c.in_ok-part.part.calls.items ∙ c.loop-stream.invariant.config
+returns-in-Ok-finish-clause-config g c = ap (λ (m : State). m.config) (rw c.deref-in-loop-stream.ensures.value at c.in-Ok.ensures.state) ∙ config-after c.loop-stream.core.state c.in_ok-part.part.calls.items ∙ c.loop-stream.invariant.config

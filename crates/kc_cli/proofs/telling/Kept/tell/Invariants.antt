@@ -14,10 +14,10 @@ abbrev pub invariant-loop-stream : goal.invariant-loop-stream
 invariant-loop-stream g l = record {
   read : (bytes : List ℕ) × (calls : List Call) × HasRead l.stream bytes calls (g.T.Source.left l.fn.trace) (g.T.Source.left l.trace)
       × (l.self.line ≡ l.fn.self.line + length calls) × (l.self.denials.total ≤ l.fn.self.denials.total + length calls) × MayHaveWitnessed l.is_needed l.is_named l.stream.reader.progress.header l.witness calls
-      × ((form : CustodyForm) (start : State) (before : List Call) → IsLawful start → HasKept form start before l.fn.core l.fn.self → HasKept form start (before ++ calls) l.core l.self);
+      × ((form : CustodyForm) (start : State) (before : List Call) → IsLawful start → HasKept form start before l.fn.core.state l.fn.self → HasKept form start (before ++ calls) l.core.state l.self);
   few : l.stream.total ≤ byte_limit;
   mark : g.T.Source.failed l.trace ≡ false;
-  config : l.core.config ≡ l.fn.core.config;
+  config : l.core.state.config ≡ l.fn.core.state.config;
 }
 
 abbrev pub decreases-loop-stream : goal.decreases-loop-stream

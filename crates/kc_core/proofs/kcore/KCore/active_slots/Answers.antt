@@ -20,7 +20,7 @@ slots-preserved c =
     let long = before.long in
     let low = c.slots-test.true in
     record {
-      so_far = marked-more c.slots.marks c.slots.vm c.is_active.result (λ v. is_active (slot_at c.args.self.now v).phase) (omega (arith, low, long)) before.so_far c.is_active.ensures.value;
+      so_far = marked-more c.slots.marks c.slots.vm c.is_active.result (λ v. is_active (slot_at c.args.self.now.state v).phase) (omega (arith, low, long)) before.so_far c.is_active.ensures.value;
       past = unmarked-past c.slots.marks c.slots.vm c.is_active.result before.past;
       long = rw length-set long;
       lawful = λ some. c.is_active.ensures.lawful;
@@ -30,8 +30,8 @@ pub returns : goal.returns
 returns c = λ v.
     (let before = c.slots.invariant in
     let all = c.slots-test.false in
-    let few = few-slots c.args.self.now.config in
+    let few = few-slots c.args.self.now.state.config in
     elim (cases_lt v c.slots.vm) [
       | inl low ↦ before.so_far v low
-      | inr high ↦ before.past v high ∙ sym (inactive-past c.args.self.now v (before.lawful (omega (arith, all))) (omega (arith, high, all, few)))
+      | inr high ↦ before.past v high ∙ sym (inactive-past c.args.self.now.state v (before.lawful (omega (arith, all))) (omega (arith, high, all, few)))
     ])

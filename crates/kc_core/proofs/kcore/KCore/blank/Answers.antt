@@ -21,8 +21,8 @@ invariant_of-self c =
     let active = rw (← c.self.view_is) at c.active_slots-active.ensures in
     subst (λ (pages : List Page). IsCore c.self.inside.config (record h { pages = pages })) (sym whole) (core-blank c.self.inside.config h marks active c.self.invariant)
 
-pub returns : goal.returns
-returns c =
+pub returns-clause-state : goal.returns-clause-state
+returns-clause-state c =
     let h = c.self.inside.parts in
     let marks = c.active_slots-active.result in
     let blanked : c.blank_each.new.pages ≡ map (blank_page marks) h.pages = c.blank_each.ensures ∙ ap (map (blank_page marks)) c.pages_mut.ensures.value in

@@ -8,5 +8,5 @@ use Rattle.kc_core.proofs.kcore.KCore.entries.Goals as goal
 
 pub returns-in-None : goal.returns-in-None
 returns-in-None c =
-    let past = slot-past c.args.self.now c.args.vm c.try_slot.ensures.lawful.slots (past_none c.args.vm _ c.in-None.ensures.exists.1) in
+    let past = slot-past c.args.self.now.state c.args.vm c.try_slot.ensures.lawful.slots (past_none c.args.vm _ c.in-None.ensures.exists.1) in
     c.new.ensures.items ∙ sym (ap (λ (slot : Slot). finite.entries slot.mapped) past ∙ empty-entries)

@@ -5,8 +5,9 @@ use Rattle.kc_core.proofs.kcore.KCore.run.Given as goal
 
 abbrev pub invariant-loop-done : goal.invariant-loop-done
 invariant-loop-done l = record {
-  replies : l.replies.items ≡ replies_from l.fn.self (take l.done l.calls);
-  state : l.self ≡ state_after l.fn.self (take l.done l.calls);
+  replies : l.replies.items ≡ replies_from l.fn.self.state (take l.done l.calls);
+  state : l.self.state ≡ state_after l.fn.self.state (take l.done l.calls);
+  reserved : l.self.is_reserved ≡ l.fn.self.is_reserved;
   count : vec_len l.replies ≡ l.done;
   room : length l.calls ≤ vec_capacity l.replies;
 }

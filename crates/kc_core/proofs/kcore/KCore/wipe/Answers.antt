@@ -19,8 +19,8 @@ invariant_of-self g c =
     let whole : refilled h.pages c.scrub_all.new.pages ≡ map scrubbed_page h.pages = ap (refilled h.pages) scrubbed ∙ refilled-same h.pages (map scrubbed_page h.pages) (length-map h.pages scrubbed_page) in
     subst (λ (pages : List Page). IsCore c.self.inside.config (record h { pages = pages })) (sym whole) (core-clean c.self.inside.config h c.self.invariant)
 
-pub returns : goal.returns
-returns g c =
+pub returns-clause-state : goal.returns-clause-state
+returns-clause-state g c =
     let h = c.self.inside.parts in
     let scrubbed : c.scrub_all.new.pages ≡ map scrubbed_page h.pages = c.scrub_all.ensures ∙ ap (map scrubbed_page) c.pages_mut.ensures.value in
     let whole : refilled h.pages c.scrub_all.new.pages ≡ map scrubbed_page h.pages = ap (refilled h.pages) scrubbed ∙ refilled-same h.pages (map scrubbed_page h.pages) (length-map h.pages scrubbed_page) in

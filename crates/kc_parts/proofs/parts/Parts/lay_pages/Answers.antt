@@ -3,7 +3,7 @@ use Rattle.kc_parts.specs.Parts.{page_at}
 use Rattle.kc_parts.specs.Cuts.{either}
 use Rattle.kc_parts.proofs.Filled.{cells, page_at-cells}
 use Rattle.kc_parts.proofs.SlotMoves.{either-none}
-use Rattle.kc_parts.proofs.Putting.{IsLast, front-held, last-blank, last-empty, put-last, cells-end}
+use Rattle.kc_parts.proofs.Putting.{IsLast, front-held, last-empty, put-last, cells-end}
 use Rattle.kc_parts.proofs.parts.Parts.lay_pages.Goals as goal
 
 pub loop-number-init : goal.loop-number-init
@@ -14,6 +14,7 @@ loop-number-init c =
       places = refl;
       vms = refl;
       free = refl;
+      reserved = refl;
       fits = λ f page e. c.requires.fits f page (page_at-cells c.args.numbers.items c.args.filled.items c.args.pages.items f held.flags held.pages ∙ e);
       joined = λ f. refl;
     }
@@ -23,7 +24,7 @@ lay_back-requires c =
     let l = c.loop-number in
     let last : IsLast l.numbers.items c.pop.new.self.items l.filled.items c.pop-in-Some.new.self.items l.pages.items c.pop-in-Some-2.new.self.items c.in-Some.number c.in-Some-Some.flag c.in-Some-Some.page =
     record { held = l.invariant.held; numbers = c.in-Some.ensures.items; filled = c.in-Some-Some.ensures.items; pages = c.in-Some-Some.ensures'.items } in
-    record { empty = last-empty last l.self l.invariant.fits; blank = last-blank last }
+    last-empty last l.self l.invariant.fits
 
 pub loop-number-preserved : goal.loop-number-preserved
 loop-number-preserved c =
@@ -37,6 +38,7 @@ loop-number-preserved c =
       places = c.lay_back.ensures.numbers ∙ was.places;
       vms = c.lay_back.ensures.vms ∙ was.vms;
       free = c.lay_back.ensures.free ∙ was.free;
+      reserved = c.lay_back.ensures.reserved ∙ was.reserved;
       fits = step.fits;
       joined = λ f. step.joined f ∙ was.joined f;
     }
@@ -50,6 +52,7 @@ returns c =
       numbers = was.places;
       vms = was.vms;
       free = was.free;
+      reserved = was.reserved;
       pages = λ f.
           sym (either-none (page_at l.self f))
           ∙ ap (either (page_at l.self f)) (sym (cells-end l.numbers.items (cells l.filled.items l.pages.items) f (omega (arith, c.in_default.ensures.cases.0, l.numbers.ok.0))))

@@ -14,6 +14,7 @@ invariant-loop-number l = record {
   places : l.self.numbers ≡ l.initial.self.numbers;
   vms : l.self.vms ≡ l.initial.self.vms;
   free : l.self.free ≡ l.initial.self.free;
+  reserved : l.self.is_reserved ≡ l.initial.self.is_reserved;
   fits : (f : ℕ) (page : Page) → cell_in l.numbers.items (cells l.filled.items l.pages.items) f ≡ Some page → IsEmptyPlace l.self f;
   joined : (f : ℕ) → either (page_at l.self f) (cell_in l.numbers.items (cells l.filled.items l.pages.items) f)
       ≡ either (page_at l.initial.self f) (cell_in l.initial.numbers.items (cells l.initial.filled.items l.initial.pages.items) f);

@@ -14,4 +14,4 @@ returns-clause-rest c =
     let p = c.self.inside in
     let low = place-here p.numbers.items p.filled.items p.pages.items c.args.number (rw (← c.self.view_is) at c.requires.here) in
     let is = c.place_of-at.ensures ∙ ap (λ ns. place_of ns c.args.number) c.as_slice.ensures.value in
-    rw (← c.self.view_is) (write-place p.numbers.items p.filled.items p.pages.items p.vms p.free c.args.number c.place_of-at.result false c.swap.new.x c.self.invariant is low)
+    rw (← c.self.view_is) (write-place p.numbers.items p.filled.items p.pages.items p.vms p.free p.is_reserved c.args.number c.place_of-at.result false c.swap.new.x c.self.invariant is low)

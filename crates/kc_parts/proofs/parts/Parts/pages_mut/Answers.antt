@@ -9,7 +9,7 @@ use Rattle.kc_parts.proofs.parts.Parts.pages_mut.Goals as goal
 pub invariant_of-self-lent : goal.invariant_of-self-lent
 invariant_of-self-lent c = λ w.
     let p = c.self.inside in
-    let h : Held = record { numbers = p.numbers.items; filled = p.filled.items; pages = p.pages.items; vms = p.vms; free = p.free } in
+    let h : Held = record { numbers = p.numbers.items; filled = p.filled.items; pages = p.pages.items; vms = p.vms; free = p.free; is_reserved = p.is_reserved } in
     held-refilled h p.pages.len w c.self.invariant (rw (← c.self.view_is) at c.requires) p.pages.ok.0
 
 pub returns : goal.returns
@@ -21,7 +21,7 @@ returns c =
         refl,
         λ w.
             rw (← c.self.view_is)
-            (ap (λ (n : ℕ). record { numbers = p.numbers.items; filled = p.filled.items; pages = take n (w ++ drop (length w) p.pages.items); vms = p.vms; free = p.free }) p.pages.ok.0),
+            (ap (λ (n : ℕ). record { numbers = p.numbers.items; filled = p.filled.items; pages = take n (w ++ drop (length w) p.pages.items); vms = p.vms; free = p.free; is_reserved = p.is_reserved }) p.pages.ok.0),
       ),
       record {
         writes_back = tt;

@@ -1,4 +1,5 @@
-use Rattle.std.proofs.Common.{get_or, ◌∙◌}
+use Rattle.std.proofs.Common.{get_or, ap, ◌∙◌}
+use Rattle.kc_parts.specs.Parts.{Held}
 use Rattle.kc_parts.proofs.Taking.{pages-here, same-pages, held-taken, split-end, taken-full}
 use Rattle.kc_parts.proofs.Cells.{cell-none}
 use Rattle.kc_parts.proofs.Splits.{split_fits}
@@ -10,9 +11,9 @@ lift_slots-requires c = λ v. rw c.in_ok-vms.ensures (cell-none _ _ v)
 pub lift_pages-requires-clause-here : goal.lift_pages-requires-clause-here
 lift_pages-requires-clause-here c = λ i low.
     let ns = c.in_ok-numbers.numbers.items in
-    let start = c.blank_pages.new.self in
+    let start = c.args.self.now in
     let same = same-pages start c.lift_slots.new.self c.lift_free-free.new.self _ c.lift_slots.ensures.rest c.lift_free-free.ensures.rest in
-    let here = pages-here start c.args.wanted.now ns (rw (← c.in_ok-pages.ensures.kept) at c.requires) c.in_ok-numbers.ensures.members i (rw c.as_slice.ensures.value at low) in
+    let here = pages-here start c.args.wanted.now ns c.requires c.in_ok-numbers.ensures.members i (rw c.as_slice.ensures.value at low) in
     rw (c.as_slice.ensures.value, same (get_or ns i 0)) here
 
 pub invariant_of-result : goal.invariant_of-result
@@ -25,11 +26,10 @@ pub returns-clause-ok : goal.returns-clause-ok
 returns-clause-ok c =
     let numbers = c.in_ok-numbers.numbers in
     let value = c.as_slice.ensures.value in
-    rw (← c.in_ok-pages.ensures.kept)
-    (split-end c.args.wanted.now numbers.items c.in_ok-filled.filled.items c.lift_pages.new.pages.items c.in_ok-vms.vms c.lift_slots.new.vms c.lift_free-free.result
-    c.blank_pages.new.self c.lift_slots.new.self c.lift_free-free.new.self c.lift_pages.new.self c.wants_free.result c.len.result
+    split-end c.args.wanted.now numbers.items c.in_ok-filled.filled.items c.lift_pages.new.pages.items c.in_ok-vms.vms c.lift_slots.new.vms c.lift_free-free.result
+    c.args.self.now c.lift_slots.new.self c.lift_free-free.new.self c.lift_pages.new.self c.wants_free.result c.self.inside.is_reserved c.len.result
     c.in_ok-numbers.ensures (c.in_ok-filled.ensures.items_if_clones_equal (λ y h. h)) (c.len.ensures ∙ numbers.ok.0) (rw value at c.lift_pages.ensures.taken) (rw value at c.lift_pages.ensures.rest)
-    (rw c.in_ok-vms.ensures c.in_ok-slots.ensures) (λ v. rw c.in_ok-vms.ensures (cell-none _ _ v)) c.lift_slots.ensures.moved c.lift_slots.ensures.rest c.lift_free-free.ensures.ends c.lift_free-free.ensures.rest c.wants_free.ensures)
+    (rw c.in_ok-vms.ensures c.in_ok-slots.ensures) (λ v. rw c.in_ok-vms.ensures (cell-none _ _ v)) c.lift_slots.ensures.moved c.lift_slots.ensures.rest c.lift_free-free.ensures.ends c.lift_free-free.ensures.rest c.wants_free.ensures (ap (λ (h : Held). h.is_reserved) c.self.view_is)
 
 pub returns-clause-full : goal.returns-clause-full
 returns-clause-full c = taken-full c.args.wanted.now c.args.self.now c.lift_pages.new.self _ c.requires (returns-clause-ok c) c.in_ok-numbers.ensures.members

@@ -21,5 +21,5 @@ pub returns : goal.returns
 returns c =
     let p = c.self.inside in
     rw (← c.self.view_is)
-    (ap (λ (ps : List Page). record { numbers = p.numbers.items; filled = p.filled.items; pages = ps; vms = p.vms; free = p.free })
+    (ap (λ (ps : List Page). record { numbers = p.numbers.items; filled = p.filled.items; pages = ps; vms = p.vms; free = p.free; is_reserved = p.is_reserved })
     (written-back p.pages.items c.scrub_each.new.pages p.pages.len p.pages.ok.0 (c.scrub_each.ensures ∙ ap (map scrubbed_page) c.as_mut_slice.ensures.value)))

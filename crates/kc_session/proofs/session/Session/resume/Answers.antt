@@ -4,7 +4,7 @@ use Rattle.kc_session.proofs.Begun.{may_begin, memory_of_any}
 use Rattle.kc_session.proofs.session.Session.resume.Goals as goal
 
 pub of-requires-clause-header : goal.of-requires-clause-header
-of-requires-clause-header c = may_begin c.in_ok-read.read.position c.in_ok-read.read.core c.in_ok-read.ensures.position c.in_ok-read.ensures.core
+of-requires-clause-header c = may_begin c.in_ok-read.read.position c.in_ok-read.read.core.state c.in_ok-read.ensures.position c.in_ok-read.ensures.core
 
 pub returns-in-Ok-clause-resumed : goal.returns-in-Ok-clause-resumed
 returns-in-Ok-clause-resumed c =
@@ -12,4 +12,4 @@ returns-in-Ok-clause-resumed c =
     (c.in_ok-read.read.position, c.in_ok-read.ensures.position, c.in_ok-read.ensures.state, c.in_ok-read.ensures.core, refl)
 
 pub returns-in-Err-clause-refused : goal.returns-in-Err-clause-refused
-returns-in-Err-clause-refused c = memory_of_any c.args.text.now c.in_ok-read.read.position c.in_ok-read.read.core c.in_ok-read.ensures.position c.in_ok-read.ensures.state
+returns-in-Err-clause-refused c = memory_of_any c.args.text.now c.in_ok-read.read.position c.in_ok-read.read.core.state c.in_ok-read.ensures.position c.in_ok-read.ensures.state

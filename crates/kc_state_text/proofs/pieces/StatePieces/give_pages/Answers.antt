@@ -7,7 +7,7 @@ use Rattle.kc_state_text.proofs.pieces.StatePieces.give_pages.Goals as goal
 
 pub pages-preserved : goal.pages-preserved
 pages-preserved c =
-    let m = c.args.core.now in
+    let m = c.args.core.now.state in
     let form = c.pages.self-inside.form in
     let here = long_in form m in
     let low : c.pages.self-inside.page < length (in_form form m).frames = omega (arith, here, c.config.ensures.lawful.frames, c.pages.invariant.page) in
@@ -22,7 +22,7 @@ pages-preserved c =
 
 pub returns-then-self-count-clause-given : goal.returns-then-self-count-clause-given
 returns-then-self-count-clause-given c =
-    let m = c.args.core.now in
+    let m = c.args.core.now.state in
     let form = c.pages.self-inside.form in
     let here = long_in form m in
     let low : c.pages.self-inside.page < length (in_form form m).frames = omega (arith, here, c.config.ensures.lawful.frames, c.pages.invariant.page) in

@@ -6,13 +6,13 @@ use Rattle.kc_state_text.proofs.pieces.StatePieces.give_pages.Given as goal
 
 abbrev pub invariant-pages : goal.invariant-pages
 invariant-pages l = record {
-  given : l.piece.items ++ to_come l.core (record { form = l.self-inside.form; front = l.self-inside.front; page = l.self-inside.page; dump = l.self-inside.dump }) ≡ l.initial.piece.items ++ to_come l.core (record { form = l.initial.self-inside.form; front = l.initial.self-inside.front; page = l.initial.self-inside.page; dump = l.initial.self-inside.dump });
+  given : l.piece.items ++ to_come l.core.state (record { form = l.self-inside.form; front = l.self-inside.front; page = l.self-inside.page; dump = l.self-inside.dump }) ≡ l.initial.piece.items ++ to_come l.core.state (record { form = l.initial.self-inside.form; front = l.initial.self-inside.front; page = l.initial.self-inside.page; dump = l.initial.self-inside.dump });
   room : vec_len l.piece + longest_page_line ≤ vec_capacity l.piece;
   capacity : vec_capacity l.initial.piece ≤ vec_capacity l.piece;
   front : l.self-inside.front ≡ [];
-  zero : l.self-inside.zero ≡ zero_page;
-  page : l.self-inside.page < l.core.config.frames;
+  zero : l.self-inside.zero.bytes ≡ zero_page;
+  page : l.self-inside.page < l.core.state.config.frames;
 }
 
 abbrev pub decreases-pages : goal.decreases-pages
-decreases-pages l = l.core.config.frames - l.self-inside.page
+decreases-pages l = l.core.state.config.frames - l.self-inside.page

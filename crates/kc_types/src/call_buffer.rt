@@ -1,20 +1,20 @@
-//! The buffer of a reply, made before its call is answered.
-ghost use Rattle.std.specs.Prelude.{◌≡◌, ◌<◌, ◌≤◌, length, IfOk, IsOk};
+//! The buffer of a call, made before the call is answered.
+ghost use Rattle.std.specs.Prelude.{◌≡◌, ◌<◌, ◌≤◌, [], length, IfOk, IsOk, vec_capacity};
 ghost use Rattle.kc_types.specs.Limits.{page_size};
-ghost use Rattle.kc_types.specs.ReplyBytes.{bytes_in, readable, most_reply_bytes};
+ghost use Rattle.kc_types.specs.ReplyBytes.{bytes_in, readable, most_reply_bytes, most_bytes};
 
 use crate::{Call, Data, Memory, PAGE_SIZE, Reply, SHORT_SIZE};
 use std::alloc::Global;
 use std::marker::Model;
 
-/// The buffer of one reply, seen as the number of bytes it has room for. Every buffer has room for 20 bytes, which
-/// need no memory.
+/// The buffer of one call: for the bytes of its reply, or for those of a page that it is the first to write. It is seen as
+/// the number of bytes it has room for. Every buffer has room for 20 bytes of a reply, which need no memory.
 #[derive(Debug, Drop)]
-pub struct ReplyBuffer {
+pub struct CallBuffer {
     reserved: Vec<u8>,
 }
 
-impl Model for ReplyBuffer {
+impl Model for CallBuffer {
     ghost use Rattle.std.specs.Prelude.{◌≡◌, ℕ, [], max, vec_capacity};
     ghost use Rattle.kc_types.specs.Bytes.{short_size};
 
@@ -25,25 +25,25 @@ impl Model for ReplyBuffer {
     ghost invariant = { λ s. s.reserved.items ≡ [] };
 }
 
-impl ReplyBuffer {
+impl CallBuffer {
     /// Makes a buffer for no bytes, which takes no memory.
-    pub fn none(alloc: Global) -> ReplyBuffer {
-        ReplyBuffer {
+    pub fn none(alloc: Global) -> CallBuffer {
+        CallBuffer {
             reserved: Vec::new(alloc),
         }
     }
 
     /// Grows the buffer to `len` bytes if it has room for fewer; `Memory` if memory runs out.
-    pub fn at_least(self, len: usize) -> Result<ReplyBuffer, Memory>
+    pub fn at_least(self, len: usize) -> Result<CallBuffer, Memory>
         // No clause can rule out that memory runs out: tests make reads.
         ensures enough { IfOk result (λ buffer. len ≤ buffer) }
         ensures none { len ≤ self → IsOk result }
     {
-        let ReplyBuffer { mut reserved } = self;
+        let CallBuffer { mut reserved } = self;
         if len > SHORT_SIZE {
             reserved.reserve_exact(len)?;
         }
-        Ok(ReplyBuffer { reserved })
+        Ok(CallBuffer { reserved })
     }
 
     /// Puts these 1 to 4,096 bytes into the buffer, which takes no memory.
@@ -56,9 +56,21 @@ impl ReplyBuffer {
         if bytes.len() <= SHORT_SIZE {
             return Data::short(bytes);
         }
-        let ReplyBuffer { mut reserved } = self;
+        let CallBuffer { mut reserved } = self;
         reserved.extend_from_slice(bytes).unwrap();
         Data::try_new(reserved).unwrap()
+    }
+
+    /// Gives the buffer up for memory with room for a page, empty; `Memory` if it has room for fewer bytes and memory runs
+    /// out.
+    pub fn into_room(self) -> Result<Vec<u8>, Memory>
+        // No clause can rule out that memory runs out: tests make writes.
+        ensures empty { IfOk result (λ room. room.items ≡ []) }
+        ensures enough { IfOk result (λ room. page_size ≤ vec_capacity room) }
+        ensures none { page_size ≤ self → IsOk result }
+    {
+        let CallBuffer { reserved } = self.at_least(PAGE_SIZE as usize)?;
+        Ok(reserved)
     }
 }
 
@@ -72,15 +84,29 @@ fn readable(len: u32) -> usize
 impl Call {
     /// Makes a buffer for the bytes of the call's reply, before the call is answered; `Memory` if memory cannot be
     /// had, which only happens for reads.
-    pub fn reply_buffer(&self, alloc: Global) -> Result<ReplyBuffer, Memory>
+    pub fn reply_buffer(&self, alloc: Global) -> Result<CallBuffer, Memory>
         ensures enough { IfOk result (λ buffer. most_reply_bytes self.now ≤ buffer) }
         ensures none { most_reply_bytes self.now ≡ 0 → IsOk result }
     {
         match self {
             Call::HostRead { len, .. } | Call::GuestRead { len, .. } => {
-                ReplyBuffer::none(alloc).at_least(readable(*len))
+                CallBuffer::none(alloc).at_least(readable(*len))
             },
-            _ => Ok(ReplyBuffer::none(alloc)),
+            _ => Ok(CallBuffer::none(alloc)),
+        }
+    }
+
+    /// Makes a buffer for all bytes for which the call may need memory, before the call is answered; `Memory` if memory
+    /// runs out, which only happens for reads and writes.
+    pub fn buffer(&self, alloc: Global) -> Result<CallBuffer, Memory>
+        ensures enough { IfOk result (λ buffer. most_bytes self.now ≤ buffer) }
+        ensures none { most_bytes self.now ≡ 0 → IsOk result }
+    {
+        match self {
+            Call::HostWrite { .. } | Call::GuestWrite { .. } => {
+                CallBuffer::none(alloc).at_least(PAGE_SIZE as usize)
+            },
+            _ => self.reply_buffer(alloc),
         }
     }
 }
@@ -88,7 +114,7 @@ impl Call {
 impl Reply {
     /// Makes two equal replies, which share their bytes. If the memory that sharing needs cannot be allocated, the bytes are
     /// copied into `buffer`, which was made before, so that memory cannot run out.
-    pub fn share(self, alloc: Global, buffer: ReplyBuffer) -> (Reply, Reply)
+    pub fn share(self, alloc: Global, buffer: CallBuffer) -> (Reply, Reply)
         requires { bytes_in self ≤ buffer }
         ensures reply { result.0 ≡ self }
         ensures other { result.1 ≡ self }
