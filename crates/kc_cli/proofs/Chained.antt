@@ -8,6 +8,7 @@ use Rattle.kc_types.specs.Configuration.{Configuration}
 use Rattle.kc_types.specs.Limits.{call_limit}
 use Rattle.kc_types.specs.declared.call.Call.{Call}
 use Rattle.kc_types.specs.declared.reply.Reply.{Reply}
+use Rattle.kc_core.specs.KCore.{SeenCore}
 use Rattle.kc_model.specs.State.{State}
 use Rattle.kc_model.specs.Lawful.{IsLawful}
 use Rattle.kc_model.specs.Next.{replies_from, state_after}
@@ -68,10 +69,10 @@ config_left order account m core sources h is =
 
 -- and so it is after calls that were fed
 pub config_fed : (order : LinesOrder) (account : ReplayAccount) (m : State) (sources : List (Option (List ℕ))) (turned fed : Replaying) (calls : List Call) (given : List Reply) → HasReplayed order account m sources → turned.state ≡ account.replayer.state → IsFed turned fed calls given
-    → (lent : Option (Bor State)) {r : Bor State} → lent ≡ Some r → option_map (λ (it : Bor State). it.now) lent ≡ fed.state → r.now.config ≡ m.config
+    → (lent : Option (Bor SeenCore)) {r : Bor SeenCore} → lent ≡ Some r → option_map (λ (it : Bor SeenCore). it.now.state) lent ≡ fed.state → r.now.state.config ≡ m.config
 config_fed order account m sources turned fed calls given h state is lent {r} some held =
-    let left : fed.state ≡ Some r.now = sym held ∙ ap (option_map (λ (it : Bor State). it.now)) some in
-    left_config (state_after m (joined h.of.volumes)) r.now turned fed calls given (state ∙ h.of.left) left is ∙ config-after m (joined h.of.volumes)
+    let left : fed.state ≡ Some r.now.state = sym held ∙ ap (option_map (λ (it : Bor SeenCore). it.now.state)) some in
+    left_config (state_after m (joined h.of.volumes)) r.now.state turned fed calls given (state ∙ h.of.left) left is ∙ config-after m (joined h.of.volumes)
 
 -- as many calls are kept as there are replies
 pub few_kept : (kept calls : List Call) (given : List Reply) (a b : Replaying) → kept ≡ calls → IsFed a b calls given → length given ≤ call_limit → length kept ≤ call_limit
