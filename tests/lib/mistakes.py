@@ -27,7 +27,7 @@ class Mistake:
 
 MISTAKES = (
     Mistake("commands", "docs/OPERATE.md", '    {"findings":0,', '    {"findings":2,'),
-    Mistake("commands", "docs/AUDIT.md", "    3 0 1 7 0\n", ""),
+    Mistake("commands", "docs/AUDIT.md", "    [24,3,7,true]\n", ""),
     Mistake("commands", "docs/kcore.1", "data aa\n", "data aa\ndone\n"),
     Mistake("commands", "docs/kcore.1", "state2 trace2", "state1 trace2"),
     Mistake("contracts", "crates/kc_core/src/dispatch.rt", "ensures reply {", "ensures answered {"),
