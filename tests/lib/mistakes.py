@@ -66,7 +66,7 @@ MISTAKES = (
     Mistake("calls", "tests/lib/calls.py", "grantr {v} {c} {g} {n}", "grantr {v} {c} {g}"),
     Mistake("calls", "tests/lib/rules.py", "def revoker(", "def revoke_range("),
     Mistake("calls", "docs/ADDING.md", "`src/movable.rt`", "`src`"),
-    Mistake("calls", "docs/RULES.md", "| `revoker v c g n` |", "| `revoker v c g` |"),
+    Mistake("calls", "docs/RULES.md", "`revoker v c g n` |", "`revoker v c g` |"),
     Mistake("calls", "docs/TEXTS.md", "`grantr`, `revoker` | each", "`grantr` | each"),
     Mistake("refusals", "docs/RULES.md", "| 22 | `tables-full` |", "| 22 | `table-full` |"),
     Mistake("refusals", "docs/OPERATE.md", "| `tables-full` |", "| `tables` |"),
