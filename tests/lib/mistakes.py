@@ -90,6 +90,7 @@ MISTAKES = (
     Mistake("tests", "tests/progress", "", "tests/awaited"),
     Mistake("tests", "crates/kc_html/src/lib.rt", "//!", "//"),
     Mistake("lengths", "docs/MAP.md", "present", "present " * 400),
+    Mistake("lengths", "docs/OPERATE.md", "frames", "frames " * 400),
     Mistake("lengths", "docs/CONTRACTS.md", "| `kc_page`, `PageBytes`", f"| {'pages ' * 60}`kc_page`, `PageBytes`"),
     Mistake("words", "docs/MAP.md", "is held until", "stands until"),
     Mistake("words", "docs/TOUR.md", "a frame", "also a frame, " * 9),
