@@ -27,7 +27,7 @@ class Mistake:
 
 MISTAKES = (
     Mistake("commands", "docs/OPERATE.md", '    {"findings":0,', '    {"findings":2,'),
-    Mistake("commands", "docs/AUDIT.md", "    3 0 1 7 0\n", ""),
+    Mistake("commands", "docs/AUDIT.md", "    [24,3,7,true]\n", ""),
     Mistake("commands", "docs/kcore.1", "data aa\n", "data aa\ndone\n"),
     Mistake("commands", "docs/kcore.1", "state2 trace2", "state1 trace2"),
     Mistake("contracts", "crates/kc_core/src/dispatch.rt", "ensures reply {", "ensures answered {"),
@@ -66,7 +66,7 @@ MISTAKES = (
     Mistake("calls", "tests/lib/calls.py", "grantr {v} {c} {g} {n}", "grantr {v} {c} {g}"),
     Mistake("calls", "tests/lib/rules.py", "def revoker(", "def revoke_range("),
     Mistake("calls", "docs/ADDING.md", "`src/movable.rt`", "`src`"),
-    Mistake("calls", "docs/RULES.md", "| `revoker v c g n` |", "| `revoker v c g` |"),
+    Mistake("calls", "docs/RULES.md", "`revoker v c g n` |", "`revoker v c g` |"),
     Mistake("calls", "docs/TEXTS.md", "`grantr`, `revoker` | each", "`grantr` | each"),
     Mistake("refusals", "docs/RULES.md", "| 22 | `tables-full` |", "| 22 | `table-full` |"),
     Mistake("refusals", "docs/OPERATE.md", "| `tables-full` |", "| `tables` |"),
@@ -90,6 +90,7 @@ MISTAKES = (
     Mistake("tests", "tests/progress", "", "tests/awaited"),
     Mistake("tests", "crates/kc_html/src/lib.rt", "//!", "//"),
     Mistake("lengths", "docs/MAP.md", "present", "present " * 400),
+    Mistake("lengths", "docs/OPERATE.md", "frames", "frames " * 400),
     Mistake("lengths", "docs/CONTRACTS.md", "| `kc_page`, `PageBytes`", f"| {'pages ' * 60}`kc_page`, `PageBytes`"),
     Mistake("words", "docs/MAP.md", "is held until", "stands until"),
     Mistake("words", "docs/TOUR.md", "a frame", "also a frame, " * 9),
