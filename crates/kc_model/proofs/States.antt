@@ -1,4 +1,3 @@
-pub mod Approvals
 pub mod ZeroPage
 pub mod Runs
 pub mod Frames

@@ -280,19 +280,15 @@ pub record IsBegun (begun : Begun) : Type 0 where
 numbered : (number : ℕ) (v : Version) → version_numbered number ≡ Some v → number ≡ version_number v
 numbered number v e = elim (chosen (number == 1) (Some version.One) _ (Some v) e) [
   | inl h ↦ let same : version.One ≡ v = cc in eqb-true _ _ h.0 ∙ ap version_number same
-  | inr h ↦ elim (chosen (number == 2) (Some version.Two) _ (Some v) h.1) [
+  | inr h ↦ elim (chosen (number == 2) (Some version.Two) None (Some v) h.1) [
     | inl g ↦ let same : version.Two ≡ v = cc in eqb-true _ _ g.0 ∙ ap version_number same
-    | inr g ↦ elim (chosen (number == 3) (Some version.Three) None (Some v) g.1) [
-      | inl i ↦ let same : version.Three ≡ v = cc in eqb-true _ _ i.0 ∙ ap version_number same
-      | inr i ↦ absurd cc
-    ]
+    | inr g ↦ absurd cc
   ]
 ]
 
 numbered_again : (v : Version) → version_numbered (version_number v) ≡ Some v
 numbered_again version.One = refl
 numbered_again version.Two = refl
-numbered_again version.Three = refl
 
 begun_is : (config : Configuration) (awaited : ℕ) (begun : Begun) → begun_if config awaited ≡ Some begun → (begun ≡ record { config = config; awaited = awaited }) × IsConfiguration config
 begun_is config awaited begun e = by_fault (fault_of config) refl e
@@ -376,10 +372,9 @@ numbers_are_words : (numbers : List ℕ) → AllByRecursion IsWord numbers → l
 numbers_are_words [] each = refl
 numbers_are_words (number ∷ numbers) each = rw (decimal_is_word number each.0) (numbers_are_words numbers each.1)
 
-few_versions : (v : Version) → version_number v ≤ 3
+few_versions : (v : Version) → version_number v ≤ 2
 few_versions version.One = omega arith
 few_versions version.Two = omega arith
-few_versions version.Three = omega arith
 
 numbers_fit : (config : Configuration) (awaited : ℕ) → IsConfiguration config → awaited ≤ digest_limit → AllByRecursion IsWord (machine_numbers config awaited)
 unfolding slot_count
