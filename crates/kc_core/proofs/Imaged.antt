@@ -1,18 +1,19 @@
 -- The images of a slot that is here, as the state has them.
-use Rattle.std.proofs.Common.{ℕ, zero, suc, ◌≡◌, ◌<◌, ◌+◌, ◌-◌, ◌%◌, true, false, is_some, All, List, [], ◌∷◌, length, get_or, take, Option, Some, None, refl, sym, ap, subst, ◌∙◌, arith}
+use Rattle.std.proofs.Common.{ℕ, zero, suc, ◌≡◌, ◌<◌, ◌+◌, ◌-◌, ◌%◌, Bool, true, false, is_some, All, List, [], ◌∷◌, length, get_or, take, Option, Some, None, refl, sym, ap, subst, ◌∙◌, arith}
 use Rattle.std.specs.Ordering.{nat_cmp}
 use Rattle.std.specs.FinMap as map
 use Rattle.sha2.specs.Sha256.{sha256}
 use Rattle.kc_types.specs.declared.custody.MeasuredImage.{MeasuredImage}
 use Rattle.kc_model.proofs.Local.VerifyLocal.{pages-same}
-use Rattle.kc_types.specs.Configuration.{Configuration, slot_count}
+use Rattle.kc_types.specs.Configuration.{Configuration, slot_count, measures_launch}
 use Rattle.kc_types.specs.declared.call.Call.TheVariants.{Verify}
 use Rattle.kc_types.specs.declared.resource.Resource.TheVariants as resource
 use Rattle.kc_model.specs.State.{State, Image, Slot, slot_at, mapped_at, frame_at, with_frame}
 use Rattle.kc_model.specs.Refusals.{refusal, backing, pages_of, is_short}
-use Rattle.kc_model.specs.Effects.{bytes_at, image_bytes, trimmed, all_trimmed, first_failing, is_approved}
+use Rattle.kc_model.specs.Effects.{bytes_at, image_bytes, trimmed, all_trimmed, first_failing, is_approved, launch_digest, is_launch_approved, unapproved}
 use Rattle.kc_model.specs.Custody.{measured_image, measured_images}
 use Rattle.kc_model.proofs.Lawful.Verifies.{verify-served, backing-of}
+use Rattle.kc_model.proofs.States.Approvals.{rejected_by}
 use Rattle.kc_model.proofs.States.Slots.{none-at}
 use Rattle.kc_model.proofs.Local.Needs.{not_short}
 use Rattle.kc_page.specs.declared.page.Page.{Page}
@@ -48,9 +49,22 @@ image-seen config h v vm image low linked at here =
     ap (take image.len) (pages-same (bytes_under h (map.get vm.slot.mapped)) (bytes_at (state_of config h) v) image.base (pages_of image.len) (λ g from below. bytes-seen config h v vm g low linked at (here.pages g from below)))
 
 -- the first image that is not approved, by the digests that were measured
-pub unapproved-seen : (config : Configuration) (h : Held) (v : ℕ) → first_failing (λ (image : MeasuredImage). is_approved_digest config image.digest) (measured_images (state_of config h) v) ≡ first_failing (is_approved (state_of config h) v) (slot_at (state_of config h) v).images
+unapproved-seen : (config : Configuration) (h : Held) (v : ℕ) → first_failing (λ (image : MeasuredImage). is_approved_digest config image.digest) (measured_images (state_of config h) v) ≡ first_failing (is_approved (state_of config h) v) (slot_at (state_of config h) v).images
 unapproved-seen config h v =
     fails-map (is_approved (state_of config h) v) (λ (image : MeasuredImage). is_approved_digest config image.digest) (measured_image (state_of config h) v) (slot_at (state_of config h) v).images (λ i d low. refl)
+
+-- the image for which a boot is rejected, if each image is approved, and if the boot is as a whole
+pub unapproved-each : (config : Configuration) (h : Held) (v : ℕ) → measures_launch config.version ≡ false
+    → first_failing (λ (image : MeasuredImage). is_approved_digest config image.digest) (measured_images (state_of config h) v) ≡ unapproved (state_of config h) v
+unapproved-each config h v each =
+    unapproved-seen config h v
+    ∙ sym (ap (λ whole. rejected_by whole (is_launch_approved (state_of config h) v) (first_failing (is_approved (state_of config h) v) (slot_at (state_of config h) v).images)) each)
+
+pub unapproved-whole : (config : Configuration) (h : Held) (v : ℕ) (approves : Bool) → measures_launch config.version ≡ true → approves ≡ is_approved_digest config (launch_digest (state_of config h) v)
+    → rejected_by true approves None ≡ unapproved (state_of config h) v
+unapproved-whole config h v approves whole is =
+    ap (λ launch. rejected_by true launch None) is
+    ∙ sym (ap (λ whole. rejected_by whole (is_launch_approved (state_of config h) v) (first_failing (is_approved (state_of config h) v) (slot_at (state_of config h) v).images)) whole)
 
 -- the images of a slot that is here, through its table
 pub image-through : (h : Held) (v : ℕ) (vm : VmSlot) (table : Table) (image : Image) → vm_at h v ≡ Some vm → table ≡ slot_table vm → IsImageHere h (mapped_in (vm_at h v)) image → IsImageHere h (map.get table.mapped) image

@@ -1,5 +1,5 @@
 //! Verifying a VM: its boot images are measured, and it becomes active or dead.
-ghost use Rattle.std.specs.Prelude.{◌≡◌, ◌+◌, ◌<◌, ◌≤◌, ◌↔◌, ◌||◌, ◌==◌, [], All, IsTrue, IfOk, IsSome, MatchResult, Some, None, true, is_some, length, map};
+ghost use Rattle.std.specs.Prelude.{ℕ, List, ◌++◌, ◌≡◌, ◌+◌, ◌<◌, ◌≤◌, ◌↔◌, ◌||◌, ◌==◌, [], All, IsTrue, IfOk, IsSome, MatchResult, Some, None, true, is_some, length, map};
 ghost use Rattle.std.specs.List.{list_any};
 ghost use Rattle.std.specs.FinMap as finite;
 ghost use Rattle.sha2.specs.Sha256.{sha256};
@@ -10,9 +10,10 @@ ghost use Rattle.kc_types.specs.declared.reply.Reply.TheVariants.{Refused};
 ghost use Rattle.kc_types.specs.Refusals.{Answers};
 ghost use Rattle.kc_model.specs.State.{slot_at};
 ghost use Rattle.kc_model.specs.Refusals.{refusal, backing, pages_of, is_short};
-ghost use Rattle.kc_model.specs.Effects.{effect, first_failing, trimmed, all_trimmed};
+ghost use Rattle.kc_model.specs.Effects.{effect, first_failing, launch_digest, unapproved, trimmed, all_trimmed};
 ghost use Rattle.kc_model.specs.Custody.{measured_images, images_by};
 ghost use Rattle.kc_types.specs.declared.custody.MeasuredImage.{MeasuredImage};
+ghost use Rattle.kc_vms.specs.Measure.{WasFed};
 ghost use Rattle.kc_parts.specs.Parts.{vm_at};
 ghost use Rattle.kc_parts.specs.States.{state_of, IsLinked};
 ghost use Rattle.kc_core.specs.Applying.{IsAble, IsAnswer, KeepsPlaces, reply_of};
@@ -99,18 +100,47 @@ fn digests_of_four(parts: &Parts, table: &Stage2, images: &[Image]) -> [[u8; 32]
     measure.finish(pages_of_four(parts, table, images, last), used as usize)
 }
 
-/// The digest of an image's bytes, computed page by page.
+/// Feeds a measure the bytes of an image, page by page.
+fn feed_image(parts: &Parts, table: &Stage2, image: &Image, measure: &mut Measure)
+    requires measurable { IsMeasurable image.now }
+    requires here { IsImageHere parts.now (finite.get table.now.mapped) image.now }
+    ensures { (fed : List ℕ) → WasFed measure.old fed
+        → WasFed measure.new (fed ++ bytes_of_image parts.now (finite.get table.now.mapped) image.now) }
+{
+    let mut left = image.len;
+    for gfn in image.base..image.base + pages_of(image.len) {
+        let used = left.min(PAGE_SIZE);
+        measure.page(&page_under(parts, table, gfn).bytes, used as usize);
+        left -= used;
+    }
+}
+
+/// The digest of an image's bytes.
 fn digest_of(parts: &Parts, table: &Stage2, image: &Image) -> [u8; 32]
     requires measurable { IsMeasurable image.now }
     requires here { IsImageHere parts.now (finite.get table.now.mapped) image.now }
     ensures { result ≡ sha256 (bytes_of_image parts.now (finite.get table.now.mapped) image.now) }
 {
     let mut measure = Measure::new();
-    let mut left = image.len;
-    for gfn in image.base..image.base + pages_of(image.len) {
-        let used = left.min(PAGE_SIZE);
-        measure.page(&page_under(parts, table, gfn).bytes, used as usize);
-        left -= used;
+    feed_image(parts, table, image, &mut measure);
+    measure.finish()
+}
+
+/// The launch measurement of what a slot boots: of each image, in order, where it is, how long it is, and its bytes.
+fn launch_digest(parts: &Parts, config: &Config, vm: VmId) -> [u8; 32]
+    requires low { vm < slot_count config.now }
+    requires linked { IsLinked config.now parts.now }
+    requires slot { IsSome (vm_at parts.now vm) }
+    requires here { All (IsImageHere parts.now (mapped_in (vm_at parts.now vm))) (slot_at (state_of config.now parts.now) vm).images }
+    ensures { result ≡ launch_digest (state_of config.now parts.now) vm }
+{
+    let slot = parts.slot(vm);
+    let images = slot.images();
+    let mut measure = Measure::new();
+    for image in images {
+        measure.number(image.base);
+        measure.number(image.len);
+        feed_image(parts, slot.table(), image, &mut measure);
     }
     measure.finish()
 }
@@ -169,6 +199,27 @@ fn first_unapproved(config: &Config, images: &[MeasuredImage]) -> Option<u32>
         }
     }
     None
+}
+
+/// The number of the image for which a slot's boot is rejected, if it is: in version 3 that of the first, for all.
+fn unapproved(parts: &Parts, config: &Config, vm: VmId, images: &[MeasuredImage]) -> Option<u32>
+    requires low { vm < slot_count config.now }
+    requires linked { IsLinked config.now parts.now }
+    requires slot { IsSome (vm_at parts.now vm) }
+    requires here { All (IsImageHere parts.now (mapped_in (vm_at parts.now vm))) (slot_at (state_of config.now parts.now) vm).images }
+    requires images { images.now ≡ measured_images (state_of config.now parts.now) vm }
+    requires few { length images.now ≤ image_limit }
+    ensures { result ≡ unapproved (state_of config.now parts.now) vm }
+{
+    if !config.version().measures_launch() {
+        return first_unapproved(config, images);
+    }
+    let digest = launch_digest(parts, config, vm);
+    if Approved::new(config.approved()).is_approved(&digest) {
+        None
+    } else {
+        Some(0)
+    }
 }
 
 /// Zeroes the bytes past an image's end in its last page.
@@ -272,8 +323,8 @@ impl Verified {
     }
 }
 
-/// Measures the images of a slot, which is booting and has all their pages: it becomes active if all are approved, and
-/// dead if one is not. This is a function of its own, since it needs more of the slot than one value that the function
+/// Measures the images of a slot, which is booting and has all their pages: it becomes active if its boot is approved,
+/// and dead if it is not. This is a function of its own, since it needs more of the slot than one value that the function
 /// that judges the call could return: that no condition for a refusal holds.
 fn measure_slot(parts: &mut Parts, config: &Config, vm: VmId) -> Verified
     requires served { refusal (state_of config.now parts.old) (Verify vm) ≡ None }
@@ -285,7 +336,7 @@ fn measure_slot(parts: &mut Parts, config: &Config, vm: VmId) -> Verified
     ensures places { KeepsPlaces parts.old parts.new }
 {
     let images = measured_images(parts, config, vm);
-    if let Some(image) = first_unapproved(config, images.as_slice()) {
+    if let Some(image) = unapproved(parts, config, vm, images.as_slice()) {
         parts.slot_mut(vm).kill();
         return Verified {
             reply: Reply::Rejected(image),
@@ -300,7 +351,7 @@ fn measure_slot(parts: &mut Parts, config: &Config, vm: VmId) -> Verified
     }
 }
 
-/// Verifies a slot: it becomes active if all its images are approved, and dead if one is not.
+/// Verifies a slot: it becomes active if what it boots is approved, and dead if it is not.
 #[inline(never)]
 pub fn verify(parts: &mut Parts, config: &Config, vm: u32) -> Result<Verified, Refusal>
     requires { IsAble config.now parts.old (Verify vm) }

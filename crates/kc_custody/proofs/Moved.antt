@@ -14,7 +14,7 @@ use Rattle.kc_types.specs.declared.call.Call.TheVariants.{Take, Give, HostFault,
 use Rattle.kc_model.specs.State.{State, Frame, Image, slot_at, mapped_at, with_frame, untouched}
 use Rattle.kc_model.specs.Links.{first_of}
 use Rattle.kc_model.specs.Refusals.{refusal, conditions, backing, first_of_these, guest_range}
-use Rattle.kc_model.specs.Effects.{effect, host_takes, guest_read, guest_written, verified, all_trimmed, trimmed, first_failing, is_approved, changed_each, frames_under, granted, revoked, scrubbed}
+use Rattle.kc_model.specs.Effects.{effect, host_takes, guest_read, guest_written, verified, all_trimmed, trimmed, unapproved, changed_each, frames_under, granted, revoked, scrubbed}
 use Rattle.kc_model.specs.Next.{next, unless_refused}
 use Rattle.kc_model.specs.Resources.{is_in}
 use Rattle.kc_model.proofs.Refusals.Served.{none-of}
@@ -118,7 +118,7 @@ stays-effect m (RegisterVm w) f served absent = refl
 stays-effect m (RegisterVcpu w c) f served absent = refl
 stays-effect m (SetBoot w base len) f served absent = refl
 stays-effect m (Remap w i g) f served absent = other m g _ f absent
-stays-effect m (Verify w) f served absent = verifies m w (first_failing (is_approved m w) (slot_at m w).images) f
+stays-effect m (Verify w) f served absent = verifies m w (unapproved m w) f
 stays-effect m (Map w c g) f served absent = other m g _ f absent
 stays-effect m (GuestRead w c g off len) f served absent = reads m w c g off len (mapped_at m w g) f
 stays-effect m (GuestWrite w c g off bytes) f served absent = writes m w c g off bytes (mapped_at m w g) f

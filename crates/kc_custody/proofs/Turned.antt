@@ -14,7 +14,7 @@ use Rattle.kc_types.specs.declared.custody.PhaseChange.{PhaseChange}
 use Rattle.kc_model.specs.State.{State, Slot, slot_at, with_slot, no_slot, empty_slot}
 use Rattle.kc_model.specs.Lawful.{IsLawful}
 use Rattle.kc_model.specs.Refusals.{refusal, next_gfn, pending}
-use Rattle.kc_model.specs.Effects.{effect, host_takes, hand, guest_read, guest_written, verified, all_trimmed, first_failing, is_approved}
+use Rattle.kc_model.specs.Effects.{effect, host_takes, hand, guest_read, guest_written, verified, all_trimmed, unapproved}
 use Rattle.kc_model.specs.Next.{next, unless_refused}
 use Rattle.kc_model.specs.Resources.{is_in}
 use Rattle.kc_model.specs.Custody.{same_phase, has_turned, phase_change, phase_changes_by, images_for, measured_images, images_unless, images_by}
@@ -68,7 +68,7 @@ stays-effect m (RegisterVm w) v absent = other m w _ v absent
 stays-effect m (RegisterVcpu w c) v absent = kept m w _ v refl
 stays-effect m (SetBoot w base len) v absent = kept m w _ v refl
 stays-effect m (Remap w i f) v absent = kept (hand m w (next_gfn m w i) f) w _ v refl ∙ kept m w _ v refl
-stays-effect m (Verify w) v absent = verifies m w (first_failing (is_approved m w) (slot_at m w).images) v absent
+stays-effect m (Verify w) v absent = verifies m w (unapproved m w) v absent
 stays-effect m (Map w c f) v absent = kept (hand m w (pending m w c) f) w _ v refl ∙ kept m w _ v refl
 stays-effect m (GuestRead w c g off len) v absent = reads m w c g off len _ v
 stays-effect m (GuestWrite w c g off bytes) v absent = writes m w c g off bytes _ v
@@ -134,7 +134,7 @@ fit-effect m (RegisterVm w) v images is served none turns =
 fit-effect m (Verify w) v images is served measures turns =
     let same : w ≡ v = cc in
     subst (λ k. images ≡ images_for (phase_of (effect m (Verify w)).1 k) (measured_images m k)) same
-    (measures ∙ ap (λ refused. images_unless refused (measured_images m w)) served ∙ measured m w (first_failing (is_approved m w) (slot_at m w).images) is (verify-served m w served).0 (measured_images m w))
+    (measures ∙ ap (λ refused. images_unless refused (measured_images m w)) served ∙ measured m w (unapproved m w) is (verify-served m w served).0 (measured_images m w))
 fit-effect m (Clear w) v images is served none turns =
     let same : w ≡ v = cc in
     subst (λ k. images ≡ images_for (phase_of (effect m (Clear w)).1 k) (measured_images m k)) same

@@ -9,9 +9,9 @@ use Rattle.kc_types.specs.declared.link.Ends.{Ends}
 use Rattle.kc_types.specs.declared.slot.Phase.{Phase}
 use Rattle.kc_types.specs.declared.slot.Phase.TheVariants.{Empty}
 use Rattle.kc_types.specs.Limits.{byte_limit, frame_limit}
-use Rattle.kc_types.specs.Configuration.{slots_of}
+use Rattle.kc_types.specs.Configuration.{slots_of, has_dump}
 use Rattle.kc_types.specs.declared.version.Version.{Version}
-use Rattle.kc_types.specs.declared.version.Version.TheVariants.{One, Two}
+use Rattle.kc_types.specs.declared.version.Version.TheVariants.{One, Two, Three}
 use Rattle.kc_dump.specs.declared.line.FrameLine.{FrameLine}
 use Rattle.kc_dump.specs.Dump.{Dumped, SlotDump, empty_dump, no_ends, slot_dump_at}
 use Rattle.kc_dump_text.specs.declared.dump_line.DumpLine.{DumpLine}
@@ -127,8 +127,13 @@ follow v w m n few less (x ∷ xs) (y ∷ ys) r a b e =
 header-same : (v w : Version) (a b : List ℕ) → dump_header v ++ a ≡ dump_header w ++ b → (v ≡ w) × (a ≡ b)
 header-same One One a b e = (refl, append_cancel_left (dump_header One) a b e)
 header-same Two Two a b e = (refl, append_cancel_left (dump_header Two) a b e)
+header-same Three Three a b e = (refl, append_cancel_left (dump_header Three) a b e)
 header-same One Two a b e = (let digits : ◌≡◌ {A = ℕ} 49 50 = ap (λ (l : List ℕ). get_or l 11 0) e in absurd (omega (arith, digits)))
+header-same One Three a b e = (let digits : ◌≡◌ {A = ℕ} 49 51 = ap (λ (l : List ℕ). get_or l 11 0) e in absurd (omega (arith, digits)))
 header-same Two One a b e = (let digits : ◌≡◌ {A = ℕ} 50 49 = ap (λ (l : List ℕ). get_or l 11 0) e in absurd (omega (arith, digits)))
+header-same Two Three a b e = (let digits : ◌≡◌ {A = ℕ} 50 51 = ap (λ (l : List ℕ). get_or l 11 0) e in absurd (omega (arith, digits)))
+header-same Three One a b e = (let digits : ◌≡◌ {A = ℕ} 51 49 = ap (λ (l : List ℕ). get_or l 11 0) e in absurd (omega (arith, digits)))
+header-same Three Two a b e = (let digits : ◌≡◌ {A = ℕ} 51 50 = ap (λ (l : List ℕ). get_or l 11 0) e in absurd (omega (arith, digits)))
 
 starts : (r : List ℕ) (zs : List DumpLine) → r ≡ flat_map spell zs → Starts r zs
 starts r [] e = e
@@ -143,7 +148,7 @@ not-stopped version text rest d fault is e s =
 
 -- the text of a dump is never refused
 pub not-refused : (text : List ℕ) (d : Dumped) (fault : DumpFault) → length text ≤ byte_limit → IsDumpText text d → IsRefusedDump text fault → fault ≡ Memory
-not-refused text d NoHeader short is r = absurd (r d.version (flat_map spell (dump_lines d)) is.whole)
+not-refused text d NoHeader short is r = absurd (r d.version (flat_map spell (dump_lines d)) is.has is.whole)
 not-refused text d Memory short is r = refl
 not-refused text d (BadLine n) short is r = absurd (not-stopped r.0 text r.1 d (BadLine n) is r.2 r.3)
 not-refused text d (Frame f) short is r = absurd (not-stopped r.0 text r.1 d (Frame f) is r.2 r.3)
@@ -161,8 +166,8 @@ one-dump text d e short is other =
 
 -- ---- after the header
 
-pub whole-text : (version : Version) (text rest : List ℕ) (d : Dumped) → text ≡ dump_header version ++ rest → IsTextOf version rest d → IsDumpText text d
-whole-text version text rest d e w = record { whole = e ∙ ap (λ (l : List ℕ). dump_header version ++ l) w.whole ∙ ap (λ v. dump_header v ++ flat_map spell (dump_lines d)) (sym w.same); range = w.range }
+pub whole-text : (version : Version) (text rest : List ℕ) (d : Dumped) → has_dump version ≡ true → text ≡ dump_header version ++ rest → IsTextOf version rest d → IsDumpText text d
+whole-text version text rest d has e w = record { whole = e ∙ ap (λ (l : List ℕ). dump_header version ++ l) w.whole ∙ ap (λ v. dump_header v ++ flat_map spell (dump_lines d)) (sym w.same); range = w.range; has = subst (λ v. has_dump v ≡ true) (sym w.same) has }
 
 refused : (version : Version) (text rest : List ℕ) (fault : DumpFault) → text ≡ dump_header version ++ rest → IsStuck version rest fault → IsRefusedDump text fault
 refused version text rest NoHeader e h = absurd h
@@ -171,9 +176,9 @@ refused version text rest (BadLine n) e h = (version, rest, e, h)
 refused version text rest (Frame f) e h = (version, rest, e, h)
 
 -- what is read after the header is what is read of the whole
-pub read-found : (version : Version) (text rest : List ℕ) (result : Result Dumped DumpFault) → text ≡ dump_header version ++ rest → MatchResult result (λ d. IsTextOf version rest d) (λ fault. IsStuck version rest fault) → MatchResult result (λ d. IsDumpText text d) (λ fault. IsRefusedDump text fault)
-read-found version text rest (Ok d) e h = whole-text version text rest d e h
-read-found version text rest (Err fault) e h = refused version text rest fault e h
+pub read-found : (version : Version) (text rest : List ℕ) (result : Result Dumped DumpFault) → has_dump version ≡ true → text ≡ dump_header version ++ rest → MatchResult result (λ d. IsTextOf version rest d) (λ fault. IsStuck version rest fault) → MatchResult result (λ d. IsDumpText text d) (λ fault. IsRefusedDump text fault)
+read-found version text rest (Ok d) has e h = whole-text version text rest d has e h
+read-found version text rest (Err fault) has e h = refused version text rest fault e h
 
 pub read-only : (text : List ℕ) (result : Result Dumped DumpFault) (d : Dumped) → length text ≤ byte_limit → MatchResult result (λ d. IsDumpText text d) (λ fault. IsRefusedDump text fault) → IsDumpText text d → MatchResult result (λ read. read ≡ d) (λ fault. fault ≡ Memory)
 read-only text (Ok e) d short h is = one-dump text e d short h is

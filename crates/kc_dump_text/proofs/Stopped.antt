@@ -7,7 +7,7 @@ use Rattle.std.proofs.lemmas.List.{append-nil, nil_from_length}
 use Rattle.kc_types.specs.Limits.{frame_limit}
 use Rattle.kc_types.specs.Configuration.{slots_of}
 use Rattle.kc_types.specs.declared.version.Version.{Version}
-use Rattle.kc_types.specs.declared.version.Version.TheVariants.{One, Two}
+use Rattle.kc_types.specs.declared.version.Version.TheVariants.{One, Two, Three}
 use Rattle.kc_types.specs.declared.link.Ends.{Ends}
 use Rattle.kc_types.specs.declared.slot.Phase.TheVariants.{Empty}
 use Rattle.kc_dump.specs.declared.line.FrameLine.{FrameLine}
@@ -102,6 +102,7 @@ module _ (version : Version) (text : List ℕ) where
   smallest : (v : Version) → is_size v (SizeOf 1 0 1) ≡ true
   smallest One = refl
   smallest Two = refl
+  smallest Three = refl
 
   pub no-size : HasNone (is_size version) text → DumpStopsFor version text (BadLine 2)
   no-size none =

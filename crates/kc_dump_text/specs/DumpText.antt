@@ -4,7 +4,7 @@ use Rattle.std.specs.Fmt.{decimal}
 use Rattle.std.specs.List.{flat_map}
 use Rattle.hex.specs.Hex.{encode_lower}
 use Rattle.kc_types.specs.declared.version.Version.{Version}
-use Rattle.kc_types.specs.declared.version.Version.TheVariants.{One, Two}
+use Rattle.kc_types.specs.declared.version.Version.TheVariants.{One, Two, Three}
 use Rattle.kc_types.specs.declared.link.Ends.{Ends}
 use Rattle.kc_types.specs.declared.owner.Owner.{Owner}
 use Rattle.kc_types.specs.declared.owner.Owner.TheVariants.{Core, Host, Free, Vm}
@@ -52,10 +52,11 @@ owner_word (Vm v) = decimal v
 abbrev pub ends_words : Ends → List (List ℕ)
 ends_words ends = or_dash ends.head ∷ or_dash ends.tail ∷ decimal ends.count ∷ []
 
--- the first line of each dump, with its newline
+-- the first line of each dump, with its newline; no dump of version 3 is read
 abbrev pub dump_header : Version → List ℕ
 dump_header One = codes "kcore-dump 1" ++ 10 ∷ []
 dump_header Two = codes "kcore-dump 2" ++ 10 ∷ []
+dump_header Three = codes "kcore-dump 3" ++ 10 ∷ []
 
 -- the words of a frame's line after its share
 abbrev pub frame_rest : FrameLine → List (List ℕ)

@@ -1,6 +1,7 @@
 -- Why a text is not a dump.
 use Rattle.std.specs.Prelude.{ℕ, ◌≡◌, ◌<◌, ◌+◌, ◌⊎◌, true, List, [], ◌∷◌, ◌++◌, length}
 use Rattle.std.specs.List.{flat_map}
+use Rattle.kc_types.specs.Configuration.{has_dump}
 use Rattle.kc_types.specs.declared.version.Version.{Version}
 use Rattle.kc_dump.specs.declared.line.FrameLine.{FrameLine}
 use Rattle.kc_dump.specs.Dump.{Dumped}
@@ -54,7 +55,7 @@ pub record DumpStopsFor (version : Version) (text : List ℕ) (fault : DumpFault
 
 -- the text is not a dump, and this is the first reason
 abbrev pub IsRefusedDump : List ℕ → DumpFault → Type 0
-IsRefusedDump text NoHeader = (version : Version) (rest : List ℕ) → text ≡ dump_header version ++ rest → ⊥
+IsRefusedDump text NoHeader = (version : Version) (rest : List ℕ) → has_dump version ≡ true → text ≡ dump_header version ++ rest → ⊥
 IsRefusedDump text Memory = Unit {0}
 IsRefusedDump text (BadLine n) = (version : Version) × (rest : List ℕ) × (text ≡ dump_header version ++ rest) × DumpStopsFor version rest (BadLine n)
 IsRefusedDump text (Frame f) = (version : Version) × (rest : List ℕ) × (text ≡ dump_header version ++ rest) × DumpStopsFor version rest (Frame f)

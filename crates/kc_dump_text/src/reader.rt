@@ -2,7 +2,7 @@
 ghost use Rattle.std.specs.Prelude.{ℕ, List, ◌≡◌, ◌<◌, ◌≤◌, ◌+◌, ◌==◌, ◌&&◌, ◌⊎◌, ◌++◌, [], true, false, length, MatchOption, MatchResult};
 ghost use Rattle.std.specs.List.{flat_map};
 ghost use Rattle.kc_types.specs.Limits.{byte_limit};
-ghost use Rattle.kc_types.specs.Configuration.{slots_of};
+ghost use Rattle.kc_types.specs.Configuration.{slots_of, has_dump};
 ghost use Rattle.kc_types.specs.declared.version.Version.{Version};
 ghost use Rattle.kc_dump.specs.Dump.{Dumped};
 ghost use Rattle.kc_dump_text.specs.declared.fault.DumpFault.TheVariants.{Memory};
@@ -109,7 +109,8 @@ fn read_after_header(alloc: Global, version: Version, text: &[u8]) -> Result<Dum
 
 /// The version of the dump and what is after its header, if the text begins with one.
 fn after_header(text: &[u8]) -> Option<(Version, &[u8])>
-    ensures { MatchOption result ((version : Version) (rest : List ℕ) → text.now ≡ dump_header version ++ rest → ⊥) (λ cut. text.now ≡ dump_header cut.0 ++ cut.1.now) }
+    ensures { MatchOption result ((version : Version) (rest : List ℕ) → has_dump version ≡ true → text.now ≡ dump_header version ++ rest → ⊥)
+        (λ cut. (has_dump cut.0 ≡ true) × (text.now ≡ dump_header cut.0 ++ cut.1.now)) }
 {
     if text.len() < 13 {
         return None;

@@ -1,6 +1,7 @@
 //! A dump as text.
-ghost use Rattle.std.specs.Prelude.{◌≡◌, ◌≤◌, ◌+◌, ◌++◌, ℕ, length, slice_index_or, IfOk, OnOk};
+ghost use Rattle.std.specs.Prelude.{◌≡◌, ◌≤◌, ◌+◌, ◌++◌, ℕ, true, length, slice_index_or, IfOk, OnOk};
 ghost use Rattle.std.specs.List.{flat_map};
+ghost use Rattle.kc_types.specs.Configuration.{has_dump};
 ghost use Rattle.kc_types.specs.Limits.{byte_limit, frame_limit, slot_limit};
 ghost use Rattle.kc_dump.specs.Dump.{empty_dump};
 ghost use Rattle.kc_dump.specs.Ranges.{IsDump};
@@ -106,6 +107,7 @@ fn push_header(text: &mut Vec<u8>, version: Version) -> Result<(), Memory>
     match version {
         Version::One => push_bytes(text, b"kcore-dump 1\n"),
         Version::Two => push_bytes(text, b"kcore-dump 2\n"),
+        Version::Three => push_bytes(text, b"kcore-dump 3\n"),
     }
     Ok(())
 }
@@ -126,11 +128,11 @@ fn text_of(alloc: Global, dump: &Dump) -> Result<Vec<u8>, Memory>
     Ok(text)
 }
 
-/// Writes the one text of a dump, which is read as that dump. `Memory` if memory runs out.
+/// Writes the one text of a dump, which is read as that dump if it is of version 1 or 2. `Memory` if memory runs out.
 pub fn write_dump(alloc: Global, dump: &Dump) -> Result<Vec<u8>, Memory>
     // No clause can rule out that memory runs out: a test writes dumps.
     ensures text { IfOk result (λ text. text.items ≡ dump_text dump.now) }
-    ensures read { IfOk result (λ text. IsDumpText text.items dump.now) }
+    ensures read { IfOk result (λ text. has_dump dump.now.version ≡ true → IsDumpText text.items dump.now) }
 {
     let text = text_of(alloc, dump)?;
     Ok(text)

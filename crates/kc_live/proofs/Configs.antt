@@ -7,7 +7,7 @@ use Rattle.kc_types.specs.Configuration.{Configuration}
 use denote.Enum.Bare.{sameb}
 use Rattle.kc_types.specs.contracts.version.Version.{the_type}
 use Rattle.kc_types.specs.declared.version.Version.{Version}
-use Rattle.kc_types.specs.declared.version.Version.TheVariants.{One, Two}
+use Rattle.kc_types.specs.declared.version.Version.TheVariants.{One, Two, Three}
 
 same_lists : (xs ys : List (List ℕ)) → pointwise (pointwise nat_eq) xs ys ≡ true → xs ≡ ys
 same_lists [] [] h = refl
@@ -28,12 +28,18 @@ lists_themselves (x ∷ xs) = rw (text_itself x, lists_themselves xs) refl
 version_itself : (version : Version) → sameb the_type version version ≡ true
 version_itself One = refl
 version_itself Two = refl
+version_itself Three = refl
 
 version_is : (a b : Version) → sameb the_type a b ≡ true → a ≡ b
 version_is One One h = refl
 version_is One Two h = absurd (false≢true h)
+version_is One Three h = absurd (false≢true h)
 version_is Two One h = absurd (false≢true h)
 version_is Two Two h = refl
+version_is Two Three h = absurd (false≢true h)
+version_is Three One h = absurd (false≢true h)
+version_is Three Two h = absurd (false≢true h)
+version_is Three Three h = refl
 
 abbrev same : Configuration → Configuration → Bool
 same a b = sameb the_type a.version b.version && (eqb a.frames b.frames && (eqb a.core b.core && (eqb a.host b.host && (eqb a.leaves b.leaves && pointwise (pointwise nat_eq) a.approved b.approved))))

@@ -1,3 +1,4 @@
+pub mod Approvals
 pub mod ZeroPage
 pub mod Runs
 pub mod Frames

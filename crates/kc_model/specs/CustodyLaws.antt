@@ -1,7 +1,7 @@
 -- What the changes of a trace say about the calls between them.
-use Rattle.std.specs.Prelude.{ℕ, ◌≡◌, ◌<◌, ◌≤◌, ◌+◌, ◌⊎◌, Bool, false, ◌&&◌, ◌==◌, List, [], ◌∷◌, length, All, Contains}
+use Rattle.std.specs.Prelude.{ℕ, ◌≡◌, ◌<◌, ◌≤◌, ◌+◌, ◌⊎◌, Bool, true, false, ◌&&◌, ◌==◌, List, [], ◌∷◌, length, All, Contains}
 use Rattle.std.specs.List.{list_any}
-use Rattle.kc_types.specs.Configuration.{slot_count}
+use Rattle.kc_types.specs.Configuration.{slot_count, measures_launch}
 use Rattle.kc_types.specs.declared.call.Call.{Call}
 use Rattle.kc_types.specs.declared.call.Call.TheVariants.{HostRead, HostWrite, Verify, GuestWrite}
 use Rattle.kc_types.specs.declared.reply.Reply.{Reply}
@@ -13,6 +13,7 @@ use Rattle.kc_types.specs.declared.custody.PhaseChange.{PhaseChange}
 use Rattle.kc_types.specs.declared.custody.Change.{Change}
 use Rattle.kc_types.specs.declared.custody.Change.TheVariants as change
 use Rattle.kc_model.specs.State.{State, frame_at, slot_at}
+use Rattle.kc_model.specs.Effects.{launch_digest}
 use Rattle.kc_model.specs.Footprints.{state_at, call_at, reply_at}
 use Rattle.kc_model.specs.Safety.{IsActive}
 use Rattle.kc_model.specs.Custody.{custody, custody_at, has_moved, has_turned, same_phase, images_for, measured_images, first_line}
@@ -115,11 +116,13 @@ abbrev pub TellsFrames : State → List Call → Type 0
 TellsFrames m calls = All (IsFrameTold m calls) (custody m calls)
 
 -- a change of a slot gives its phase after the call on its line, and its images as they were before it if they were
--- measured; if the phase is active, the configuration approves the digest of each of them
+-- measured; if the phase is active, the configuration approves the digest of each of them, or in version 3 the launch
+-- measurement
 pub record TellsPhase (m : State) (calls : List Call) (told : PhaseChange) : Type 0 where
   pub phase : (k : ℕ) → told.line ≡ first_line + k → (slot_at (state_at m calls (k + 1)) told.vm).phase ≡ told.phase
   pub images : (k : ℕ) → told.line ≡ first_line + k → images_for told.phase (measured_images (state_at m calls k) told.vm) ≡ told.images
-  pub approved : told.phase ≡ Active → All (λ image. Contains m.config.approved image.digest) told.images
+  pub approved : measures_launch m.config.version ≡ false → told.phase ≡ Active → All (λ image. Contains m.config.approved image.digest) told.images
+  pub launch : measures_launch m.config.version ≡ true → (k : ℕ) → told.line ≡ first_line + k → told.phase ≡ Active → Contains m.config.approved (launch_digest (state_at m calls k) told.vm)
 
 abbrev pub IsPhaseTold : State → List Call → Change → Type 0
 IsPhaseTold m calls (change.Frame told) = Unit {0}

@@ -1,10 +1,12 @@
 -- What each call that is not refused answers, and the state that it leaves.
 use Rattle.std.specs.Prelude.{ℕ, ◌+◌, ◌-◌, ◌/◌, ◌%◌, Bool, true, false, not, ◌==◌, List, [], ◌∷◌, ◌++◌, length, take, filter, replicate, slice_set, slice_index_or, slice_range, if◌then◌else◌, Option, Some, None}
-use Rattle.std.specs.List.{list_any, flat_map, range_with_len}
+use Rattle.std.specs.Int.{w64, to_le_bytes}
+use Rattle.std.specs.List.{list_any, list_all, flat_map, range_with_len}
 use Rattle.std.specs.Option.{option_map}
 use Rattle.std.specs.Ordering.{nat_cmp}
 use Rattle.std.specs.FinMap as map
 use Rattle.sha2.specs.Sha256.{sha256}
+use Rattle.kc_types.specs.Configuration.{measures_launch}
 use Rattle.kc_types.specs.Limits.{page_size, leaf_entries}
 use Rattle.kc_types.specs.declared.call.Call.{Call}
 use Rattle.kc_types.specs.declared.call.Call.TheVariants.{Take, Give, HostFault, HostRead, HostWrite, RegisterVm, RegisterVcpu, SetBoot, Remap, Verify, Map, GuestRead, GuestWrite, Grant, Revoke, GrantRange, RevokeRange, Drop, Clear}
@@ -74,6 +76,28 @@ same_bytes _ _ = false
 
 abbrev pub is_approved : State → ℕ → Image → Bool
 is_approved m v image = list_any (λ digest. same_bytes digest (sha256 (image_bytes m v image))) m.config.approved
+
+-- what is measured of an image, if a boot is measured as a whole: its first guest frame and its length in bytes, each
+-- as eight bytes with the lowest first, and its bytes
+abbrev pub launch_part : State → ℕ → Image → List ℕ
+launch_part m v image = to_le_bytes w64 image.base ++ (to_le_bytes w64 image.len ++ image_bytes m v image)
+
+-- the launch measurement of a boot: the digest of what is measured of all its images, in order
+abbrev pub launch_digest : State → ℕ → List ℕ
+launch_digest m v = sha256 (flat_map (launch_part m v) (slot_at m v).images)
+
+abbrev pub is_launch_approved : State → ℕ → Bool
+is_launch_approved m v = list_any (λ digest. same_bytes digest (launch_digest m v)) m.config.approved
+
+-- whether what a slot boots is approved: in version 3 as a whole, in versions 1 and 2 image by image
+abbrev pub is_boot_approved : State → ℕ → Bool
+is_boot_approved m v = if measures_launch m.config.version then is_launch_approved m v else list_all (is_approved m v) (slot_at m v).images
+
+-- the image for which a boot is rejected: the first that is not approved, and in version 3 the first of all
+abbrev pub unapproved : State → ℕ → Option ℕ
+unapproved m v =
+    if measures_launch m.config.version then (if is_launch_approved m v then None else Some 0)
+    else first_failing (is_approved m v) (slot_at m v).images
 
 -- the frame at the last page of an image, with zero bytes past the image's end
 abbrev pub trimmed : State → ℕ → Image → State
@@ -158,7 +182,7 @@ effect m (SetBoot v base len) = (reply.Image (length (slot_at m v).images), with
 effect m (Remap v i f) =
     let handed = hand m v (next_gfn m v i) f in
     (reply.Done, with_slot handed v (record (slot_at handed v) { images = slice_set (slot_at m v).images i (record (image_at m v i) { pages = (image_at m v i).pages + 1 }) }))
-effect m (Verify v) = verified m v (first_failing (is_approved m v) (slot_at m v).images)
+effect m (Verify v) = verified m v (unapproved m v)
 effect m (Map v c f) = (reply.Done, with_fault (hand m v (pending m v c) f) v c None)
 effect m (GuestRead v c g off len) = guest_read m v c g off len (mapped_at m v g)
 effect m (GuestWrite v c g off bytes) = guest_written m v c g off bytes (mapped_at m v g)

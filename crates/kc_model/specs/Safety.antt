@@ -1,6 +1,5 @@
 -- What holds at each step of every trace.
 use Rattle.std.specs.Prelude.{ℕ, ◌≡◌, ◌<◌, ◌⊎◌, ◌==◌, Bool, true, false, List, [], ◌∷◌}
-use Rattle.std.specs.List.{list_all}
 use Rattle.kc_types.specs.declared.call.Call.{Call}
 use Rattle.kc_types.specs.declared.call.Call.TheVariants.{HostRead, HostWrite, Verify, GuestWrite, Drop, Clear}
 use Rattle.kc_types.specs.declared.reply.Reply.{Reply}
@@ -8,7 +7,7 @@ use Rattle.kc_types.specs.declared.reply.Reply.TheVariants as reply
 use Rattle.kc_types.specs.declared.owner.Owner.TheVariants.{Host, Free, Vm}
 use Rattle.kc_types.specs.declared.slot.Phase.TheVariants.{Active}
 use Rattle.kc_model.specs.State.{State, Frame, frame_at, slot_at}
-use Rattle.kc_model.specs.Effects.{is_approved}
+use Rattle.kc_model.specs.Effects.{is_boot_approved}
 use Rattle.kc_model.specs.Next.{next, state_after}
 use Rattle.kc_model.specs.Lawful.{ListsOnce}
 use Rattle.kc_types.specs.Configuration.{slot_count}
@@ -49,9 +48,9 @@ KeepsPrivateBytes old call answer new = (v f : ℕ) → (frame_at old f).owner �
 abbrev pub IsActive : State → ℕ → Type 0
 IsActive m v = (slot_at m v).phase ≡ Active
 
--- the call is a `verify` of the slot that found each image approved
+-- the call is a `verify` of the slot that found its boot approved
 abbrev pub Measures : ℕ → State → Call → Reply → Type 0
-Measures v m (Verify w) reply.Done = (w ≡ v) × (list_all (is_approved m v) (slot_at m v).images ≡ true)
+Measures v m (Verify w) reply.Done = (w ≡ v) × (is_boot_approved m v ≡ true)
 Measures v m _ _ = ⊥
 
 abbrev pub Clears : ℕ → Call → Reply → Type 0

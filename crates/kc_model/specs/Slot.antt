@@ -26,7 +26,7 @@ Slot = SlotOf (List ℕ)
 abbrev pub absent_vcpu : Vcpu
 absent_vcpu = record { registered = false; fault = None }
 
--- what is read if there is no slot
+-- the slot that is read if there is none
 abbrev pub no_slot : Slot
 no_slot = record { phase = Empty; vcpus = []; images = []; frames = []; mapped = map.empty; leaves = [] }
 

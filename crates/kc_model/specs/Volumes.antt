@@ -1,6 +1,7 @@
 -- A long run in volumes, each of which begins in the state that the one before it leaves. Outside the core a state is
 -- known by its text.
-use Rattle.std.specs.Prelude.{ℕ, ◌≡◌, ◌<◌, ◌≤◌, List, [], ◌∷◌, ◌++◌, length, All}
+use Rattle.std.specs.Prelude.{ℕ, true, ◌≡◌, ◌<◌, ◌≤◌, List, [], ◌∷◌, ◌++◌, length, All}
+use Rattle.kc_types.specs.Configuration.{has_dump}
 use Rattle.kc_types.specs.declared.call.Call.{Call}
 use Rattle.kc_types.specs.declared.reply.Reply.{Reply}
 use Rattle.kc_types.specs.Limits.{byte_limit}
@@ -18,9 +19,9 @@ pub record IsCoreState (m : State) : Type 0 where
   pub lawful : IsLawful m
   pub digests : All IsDigest m.config.approved
 
--- no text of at most a gigabyte is the text of two states
+-- no text of at most a gigabyte is the text of two states, the one of a version that has texts of states
 abbrev pub TellsApart : (State → List ℕ) → Type 0
-TellsApart spelled = (m n : State) → IsCoreState m → IsCoreState n → length (spelled m) ≤ byte_limit → spelled m ≡ spelled n → m ≡ n
+TellsApart spelled = (m n : State) → has_dump m.config.version ≡ true → IsCoreState m → IsCoreState n → length (spelled m) ≤ byte_limit → spelled m ≡ spelled n → m ≡ n
 
 -- calls in order, with their replies, and the text of the state after them
 pub record Volume : Type 0 where

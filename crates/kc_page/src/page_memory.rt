@@ -31,7 +31,7 @@ impl Model for PageMemory {
 impl PageMemory {
     /// No memory.
     pub(crate) fn none(alloc: Global) -> PageMemory
-        ensures { result.bytes ≡ [] }
+        ensures { result ≡ record { bytes = []; has_room = false } }
     {
         PageMemory {
             bytes: Vec::new(alloc),
@@ -78,7 +78,7 @@ impl PageMemory {
     /// Gives the memory back, which is fresh or zero, and leaves none.
     pub(crate) fn give_back(&mut self)
         requires { filled_from self.old.bytes ≡ zero_page }
-        ensures { self.new.bytes ≡ [] }
+        ensures { self.new ≡ record { bytes = []; has_room = false } }
     {
         let none = PageMemory::none(*self.bytes.allocator());
         replace(self, none).end();

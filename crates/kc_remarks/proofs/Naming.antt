@@ -9,7 +9,7 @@ use Rattle.kc_types.specs.declared.refusal.Refusal.TheVariants.{NoFree}
 use Rattle.kc_types.specs.declared.reply.Reply.TheVariants as reply
 use Rattle.kc_model.specs.State.{State, slot_at, mapped_at}
 use Rattle.kc_model.specs.Refusals.{when, or_else, first_of_these, conditions, refusal}
-use Rattle.kc_model.specs.Effects.{Outcome, host_takes, verified, guest_read, guest_written, first_failing, is_approved, effect}
+use Rattle.kc_model.specs.Effects.{Outcome, host_takes, verified, guest_read, guest_written, unapproved, effect}
 use Rattle.kc_model.specs.Next.{unless_refused, next, replies_from}
 use Rattle.kc_remarks.specs.Denials.{is_no_free, is_to_take, is_to_naming, is_naming}
 use Rattle.kc_remarks.proofs.Counts.{one_if, first}
@@ -73,7 +73,7 @@ of-write m v c g off bytes (Some f) = refl
 
 of-effect : (m : State) (call : Call) → is_naming call ≡ true → is_to_take (effect m call).0 ≡ false
 of-effect m Take h = absurd cc
-of-effect m (Verify v) h = of-verify m v (first_failing (is_approved m v) (slot_at m v).images)
+of-effect m (Verify v) h = of-verify m v (unapproved m v)
 of-effect m (GuestRead v c g off len) h = of-read m v c g off len (mapped_at m v g)
 of-effect m (GuestWrite v c g off bytes) h = of-write m v c g off bytes (mapped_at m v g)
 of-effect m _ h = refl

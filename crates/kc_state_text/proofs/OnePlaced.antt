@@ -1,6 +1,7 @@
 -- A text is that of at most one state and position, and a text that is refused is not a state's.
-use Rattle.std.proofs.Common.{ℕ, ◌≡◌, ◌≤◌, inl, inr, List, ◌++◌, length, drop, Option, Some, None, refl, sym, ap, ◌∙◌, arith}
+use Rattle.std.proofs.Common.{ℕ, true, ◌≡◌, ◌≤◌, inl, inr, List, ◌++◌, length, drop, Option, Some, None, refl, sym, ap, ◌∙◌, arith}
 use Rattle.std.specs.Prelude.{IfSome}
+use Rattle.kc_types.specs.Configuration.{has_dump}
 use Rattle.kc_types.specs.Limits.{byte_limit}
 use Rattle.kc_model.specs.State.{State}
 use Rattle.kc_model.specs.Lawful.{IsLawful}
@@ -26,11 +27,11 @@ has-header p m is = record { whole = placed-after p (after_first m); is = is }
 text-short : (p : Option Position) (m : State) → IfSome p IsPosition → length (placed_state_text p m) ≤ byte_limit → length (state_text m) ≤ byte_limit
 text-short p m is short = let less : length (state_text m) ≤ length (placed_state_text p m) = first-short (placed_state_text p m) (after_first m) p (has-header p m is) in omega (arith, less, short)
 
-pub one-placed : ((m n : State) → IsLawful m → IsLawful n → told_of m ≡ told_of n → m ≡ n) → (p q : Option Position) (m n : State) → IfSome p IsPosition → IfSome q IsPosition → IsCoreState m → IsCoreState n
+pub one-placed : ((m n : State) → IsLawful m → IsLawful n → told_of m ≡ told_of n → m ≡ n) → (p q : Option Position) (m n : State) → IfSome p IsPosition → IfSome q IsPosition → has_dump m.config.version ≡ true → IsCoreState m → IsCoreState n
     → length (placed_state_text p m) ≤ byte_limit → placed_state_text p m ≡ placed_state_text q n → (p ≡ q) × (m ≡ n)
-one-placed one p q m n is-p is-q is-m is-n short e =
+one-placed one p q m n is-p is-q has is-m is-n short e =
     let both = headers-same p q (after_first m) (after_first n) is-p is-q (sym (placed-after p (after_first m)) ∙ e ∙ placed-after q (after_first n)) in
-    (both.0, one-text one m n is-m is-n (text-short p m is-p short) (ap (λ (l : List ℕ). state_header ++ l) both.1))
+    (both.0, one-text one m n has is-m is-n (text-short p m is-p short) (ap (λ (l : List ℕ). state_header ++ l) both.1))
 
 no-header : (text : List ℕ) (fault : StateFault) (p : Option Position) (rest : List ℕ) → LacksHeader text fault → HasHeader text p rest → ⊥
 no-header text NoHeader None rest lacks has = lacks.0 rest has.whole
@@ -48,11 +49,11 @@ memory-after : (p : Option Position) → fault_after p Memory ≡ Memory
 memory-after None = refl
 memory-after (Some p) = refl
 
-pub not-placed : Refuses → (text : List ℕ) (fault : StateFault) → (fault ≡ Memory → ⊥) → IsRefusedPlaced text fault → (p : Option Position) (m : State) → IfSome p IsPosition → IsCoreState m → length text ≤ byte_limit
+pub not-placed : Refuses → (text : List ℕ) (fault : StateFault) → (fault ≡ Memory → ⊥) → IsRefusedPlaced text fault → (p : Option Position) (m : State) → IfSome p IsPosition → has_dump m.config.version ≡ true → IsCoreState m → length text ≤ byte_limit
     → text ≡ placed_state_text p m → ⊥
-not-placed refuses text fault other (inl lacks) p m is-p is short e = no-header text fault p (after_first m) lacks (record { whole = e ∙ placed-after p (after_first m); is = is-p })
-not-placed refuses text fault other (inr r) p m is-p is short e =
+not-placed refuses text fault other (inl lacks) p m is-p has is short e = no-header text fault p (after_first m) lacks (record { whole = e ∙ placed-after p (after_first m); is = is-p })
+not-placed refuses text fault other (inr r) p m is-p has is short e =
     let both = headers-same r.position p r.rest (after_first m) r.header.is is-p (sym r.header.whole ∙ e ∙ placed-after p (after_first m)) in
     let less = first-short text r.rest r.position r.header in
-    no-state refuses (state_header ++ r.rest) r.why (λ same. other (r.same ∙ ap (fault_after r.position) same ∙ memory-after r.position)) r.refused m is (omega (arith, less, short))
+    no-state refuses (state_header ++ r.rest) r.why (λ same. other (r.same ∙ ap (fault_after r.position) same ∙ memory-after r.position)) r.refused m has is (omega (arith, less, short))
     (ap (λ (l : List ℕ). state_header ++ l) both.1)

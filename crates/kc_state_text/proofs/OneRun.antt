@@ -1,6 +1,6 @@
 -- Volumes from boot on are one run of one thread.
-use Rattle.std.proofs.Common.{List, All, refl}
-use Rattle.kc_types.specs.Configuration.{Configuration, IsConfiguration}
+use Rattle.std.proofs.Common.{List, All, true, refl, ◌≡◌}
+use Rattle.kc_types.specs.Configuration.{Configuration, IsConfiguration, has_dump}
 use Rattle.kc_model.specs.Boot.{boot}
 use Rattle.kc_model.specs.Next.{state_after}
 use Rattle.kc_model.proofs.Lawful.AtBoot.{lawful-boot}
@@ -11,10 +11,10 @@ use Rattle.kc_state_text.specs.StateText.{state_text}
 use Rattle.kc_state_text.specs.Runs.{IsOneRun}
 use Rattle.kc_state_text.proofs.Chained.{chained}
 
-pub one-run : TellsApart state_text → (config : Configuration) (volumes : List Volume) → IsConfiguration config → All IsDigest config.approved → AreReplayedFrom state_text (state_text (boot config)) volumes → IsOneRun config volumes
-one-run apart config volumes is digests each =
+pub one-run : TellsApart state_text → (config : Configuration) (volumes : List Volume) → has_dump config.version ≡ true → IsConfiguration config → All IsDigest config.approved → AreReplayedFrom state_text (state_text (boot config)) volumes → IsOneRun config volumes
+one-run apart config volumes has is digests each =
     let lawful = lawful-boot config is in
-    let both = chained state_text apart (boot config) (state_text (boot config)) volumes (record { lawful = lawful; digests = digests }) refl each in
+    let both = chained state_text apart (boot config) (state_text (boot config)) volumes has (record { lawful = lawful; digests = digests }) refl each in
     record {
       replies = both.0;
       text = both.1;

@@ -4,7 +4,9 @@ use Rattle.std.specs.Prelude.{codes}
 use Rattle.std.specs.List.{flat_map}
 use Rattle.std.proofs.lemmas.List.{length-map, get_or_default}
 use Rattle.std.proofs.lemmas.List.Elements.{All-map}
-use Rattle.kc_types.specs.Limits.{byte_limit}
+use Rattle.kc_types.specs.Configuration.{Configuration, slot_count, has_dump}
+use Rattle.kc_types.specs.Limits.{byte_limit, slot_limit}
+use Rattle.kc_types.proofs.Ranges.{same-version, few-frames as few_frames, few-slots as few_slots}
 use Rattle.kc_types.specs.declared.owner.Owner.TheVariants.{Core}
 use Rattle.kc_model.specs.State.{State, Frame, Slot, Vcpu, slot_at, untouched, no_slot, absent_vcpu}
 use Rattle.kc_model.specs.Lawful.{IsLawful, IsPage, IsLawfulSlot}
@@ -24,10 +26,10 @@ use Rattle.kc_state_text.specs.declared.sizes.Sizes as numbers
 use Rattle.kc_state_text.specs.declared.fault.StateFault.{StateFault}
 use Rattle.kc_state_text.specs.declared.fault.StateFault.TheVariants.{NoHeader, BadLine, Missing, Sizes, Found, Slot as BadSlot, Frame as BadFrame, Memory}
 use Rattle.kc_model.specs.Volumes.{IsDigest, IsCoreState}
-use Rattle.kc_state_text.specs.StateText.{Front, state_header, sizes_words, sizes_line, approved_words, approved_line, slot_words, slot_line, page_words, page_line, front_text, front_of, state_text}
+use Rattle.kc_state_text.specs.StateText.{Front, state_header, sizes_words, sizes_line, approved_words, approved_line, slot_words, slot_line, page_words, page_line, front_text, front_of, sizes_of, state_text}
 use Rattle.kc_state_text.specs.Refused.{AreSizes, IsVcpuWord, IsSlotLine, IsFront, IsWholeFront, LacksLine, StopsBefore, StopsWithin, IsDumpFault, IsTextOf, TellsNone, IsRefusedState}
 use Rattle.kc_state_text.proofs.Limits.{few-frames, few-slots, vcpus-of, few-gfns, few-images, few-bytes}
-use Rattle.kc_state_text.proofs.Spelled.{sizes-are-words, sizes-same, approved-are-words, approved-same, slot-are-words, slot-same, page-are-words, page-same}
+use Rattle.kc_state_text.proofs.Spelled.{AreNumbers, numbers-are-words, numbers-same, sizes-are-words, sizes-same, approved-are-words, approved-same, slot-are-words, slot-same, page-are-words, page-same}
 use Rattle.kc_state_text.proofs.Followed.{first-same, lines-same, lines-go-on}
 
 cancel : (a b c : List ℕ) → a ++ b ≡ a ++ c → b ≡ c
@@ -102,16 +104,16 @@ front-goes-on f g c d x y w e lacks = by_kind lacks
 
 -- ---- the front of a state
 
-module _ (m : State) (is : IsCoreState m) where
+module _ (m : State) (is : IsCoreState m) (has : has_dump m.config.version ≡ true) where
   slot-fits : (slot : Slot) → IsLawfulSlot m.config slot → IsSlotLine (slot_rest slot)
   slot-fits slot l = record {
-    vcpus = l.vcpus ∙ vcpus-of m.config.version;
-    each_vcpu = λ k d lt. (let here = l.each_vcpu k in let same = get_or_default slot.vcpus k d absent_vcpu lt in subst IsVcpuWord (sym same) (record { absent = vcpu-absent (get_or slot.vcpus k absent_vcpu) here.registered; gfn = λ g at. (let low = here.gfn g at in omega (arith, low, few-gfns m.config.version)) }));
-    few_images = let few = l.few_images in omega (arith, few, few-images m.config.version);
+    vcpus = l.vcpus ∙ vcpus-of m.config.version has;
+    each_vcpu = λ k d lt. (let here = l.each_vcpu k in let same = get_or_default slot.vcpus k d absent_vcpu lt in subst IsVcpuWord (sym same) (record { absent = vcpu-absent (get_or slot.vcpus k absent_vcpu) here.registered; gfn = λ g at. (let low = here.gfn g at in omega (arith, low, few-gfns m.config.version has)) }));
+    few_images = let few = l.few_images in omega (arith, few, few-images m.config.version has);
     each_image = λ k d lt. (let image = l.each_image k d lt in let within = image.within in let small = image.small in let pages = image.pages in record {
-      base = omega (arith, within, few-gfns m.config.version);
-      len = omega (arith, small, few-bytes m.config.version);
-      pages = omega (arith, pages, within, few-gfns m.config.version);
+      base = omega (arith, within, few-gfns m.config.version has);
+      len = omega (arith, small, few-bytes m.config.version has);
+      pages = omega (arith, pages, within, few-gfns m.config.version has);
     });
   }
     where
@@ -134,9 +136,9 @@ module _ (m : State) (is : IsCoreState m) where
   front-is : IsFront state-front
   front-is = record {
     sizes = record {
-      slots = (let a = length-map m.slots slot_rest in let b = is.lawful.slots in let c = few-slots m.config in omega (arith, a, b, c));
-      frames = (let a = length-map m.frames (λ (frame : Frame). frame.bytes) in let b = is.lawful.frames in let c = few-frames m.config is.lawful.config in omega (arith, a, b, c));
-      host = (let a = few-frames m.config is.lawful.config in let b = is.lawful.config.within in omega (arith, a, b));
+      slots = (let a = length-map m.slots slot_rest in let b = is.lawful.slots in let c = few-slots m.config has in omega (arith, a, b, c));
+      frames = (let a = length-map m.frames (λ (frame : Frame). frame.bytes) in let b = is.lawful.frames in let c = few-frames m.config is.lawful.config has in omega (arith, a, b, c));
+      host = (let a = few-frames m.config is.lawful.config has in let b = is.lawful.config.within in omega (arith, a, b));
       approved = is.lawful.config.few_digests;
     };
     approved = is.digests;
@@ -148,7 +150,7 @@ module _ (m : State) (is : IsCoreState m) where
   front-whole = record { approved = refl; slots = refl; pages = refl }
 
   dumped : IsDumpText (dump_text (dump_of m)) (dump_of m)
-  dumped = record { whole = refl; range = dump-in-range m is.lawful }
+  dumped = record { whole = refl; range = dump-in-range m is.lawful; has = has }
 
   dump-short : length (state_text m) ≤ byte_limit → length (dump_text (dump_of m)) ≤ byte_limit
   dump-short short = let a = length-append (front_text state-front) (dump_text (dump_of m)) in omega (arith, short, a)
@@ -191,22 +193,49 @@ module _ (m : State) (is : IsCoreState m) where
       let both = fronts-same s.front state-front s.rest (dump_text (dump_of m)) s.begins.front front-is s.whole front-whole (sym s.begins.whole ∙ e) in
       by-dump s.front s.rest fault both.1 short s.why
 
-pub one-text : ((m n : State) → IsLawful m → IsLawful n → told_of m ≡ told_of n → m ≡ n) → (m n : State) → IsCoreState m → IsCoreState n → length (state_text m) ≤ byte_limit → state_text m ≡ state_text n → m ≡ n
-one-text one m n is-m is-n short e = one m n is-m.lawful is-n.lawful (told-same m is-m (told_of n) (subst (λ text. IsTextOf text (told_of n)) (sym e) (tells-it n is-n)) short)
+slots-few : (config : Configuration) → slot_count config ≤ slot_limit
+unfolding slot_count
+slots-few config = few_slots config.version
+
+-- the sizes of a state of any version
+numbers-of : (m : State) → IsCoreState m → AreNumbers (sizes_of (rest_of m))
+numbers-of m is =
+    let few = few_frames m.config.version m.config.frames is.lawful.config.few_frames in
+    let within = is.lawful.config.within in
+    let digests = is.lawful.config.few_digests in
+    record {
+      slots = (let a = length-map m.slots slot_rest in let b = is.lawful.slots in let c = slots-few m.config in omega (arith, a, b, c));
+      frames = (let a = length-map m.frames (λ (frame : Frame). frame.bytes) in let b = is.lawful.frames in omega (arith, a, b, few));
+      host = omega (arith, few, within);
+      approved = omega (arith, digests);
+    }
+
+-- states of one text have one version, since they have as many slots
+version-told : (m n : State) → IsCoreState m → IsCoreState n → state_text m ≡ state_text n → m.config.version ≡ n.config.version
+version-told m n is-m is-n e =
+    let after = cancel state_header _ _ (sym (after-header (front_of (rest_of m)) (dump_text (dump_of m))) ∙ e ∙ after-header (front_of (rest_of n)) (dump_text (dump_of n))) in
+    let both = first-same AreNumbers (codes "config") sizes_words numbers-are-words numbers-same (sizes_of (rest_of m)) (sizes_of (rest_of n)) _ _ (numbers-of m is-m) (numbers-of n is-n) after in
+    let slots : length (map slot_rest m.slots) ≡ length (map slot_rest n.slots) = ap (λ (z : numbers.Sizes). z.slots) both.0 in
+    same-version m.config n.config (sym is-m.lawful.slots ∙ sym (length-map m.slots slot_rest) ∙ slots ∙ length-map n.slots slot_rest ∙ is-n.lawful.slots)
+
+pub one-text : ((m n : State) → IsLawful m → IsLawful n → told_of m ≡ told_of n → m ≡ n) → (m n : State) → has_dump m.config.version ≡ true → IsCoreState m → IsCoreState n → length (state_text m) ≤ byte_limit → state_text m ≡ state_text n → m ≡ n
+one-text one m n has is-m is-n short e =
+    let has-n = subst (λ version. has_dump version ≡ true) (version-told m n is-m is-n e) has in
+    one m n is-m.lawful is-n.lawful (told-same m is-m has (told_of n) (subst (λ text. IsTextOf text (told_of n)) (sym e) (tells-it n is-n has-n)) short)
 
 abbrev pub Refuses : Type 0
 Refuses = (t : Told) (why : Unlawful) → (why ≡ unlawful.Memory → ⊥) → IsUnlawful t why → (m : State) → IsLawful m → told_of m ≡ t → ⊥
 
-not-told : Refuses → (m : State) → IsCoreState m → (text : List ℕ) (why : Unlawful) → text ≡ state_text m → length (state_text m) ≤ byte_limit → (why ≡ unlawful.Memory → ⊥) → TellsNone text why → ⊥
-not-told refuses m is text why e short other tells = refuses tells.0 why other tells.2 m is.lawful (told-same m is tells.0 (subst (λ text. IsTextOf text tells.0) e tells.1) short)
+not-told : Refuses → (m : State) → has_dump m.config.version ≡ true → IsCoreState m → (text : List ℕ) (why : Unlawful) → text ≡ state_text m → length (state_text m) ≤ byte_limit → (why ≡ unlawful.Memory → ⊥) → TellsNone text why → ⊥
+not-told refuses m has is text why e short other tells = refuses tells.0 why other tells.2 m is.lawful (told-same m is has tells.0 (subst (λ text. IsTextOf text tells.0) e tells.1) short)
 
-pub no-state : Refuses → (text : List ℕ) (fault : StateFault) → (fault ≡ Memory → ⊥) → IsRefusedState text fault → (m : State) → IsCoreState m → length text ≤ byte_limit → text ≡ state_text m → ⊥
-no-state refuses text NoHeader other r m is short e = r _ (e ∙ after-header (front_of (rest_of m)) (dump_text (dump_of m)))
-no-state refuses text (BadLine n) other (inl r) m is short e = not-before m is text n e r
-no-state refuses text (BadLine n) other (inr r) m is short e = not-within m is text (BadLine n) e (subst (λ (l : List ℕ). length l ≤ byte_limit) e short) r
-no-state refuses text (Missing f) other r m is short e = not-within m is text (Missing f) e (subst (λ (l : List ℕ). length l ≤ byte_limit) e short) r
-no-state refuses text Sizes other r m is short e = not-told refuses m is text unlawful.Sizes e (subst (λ (l : List ℕ). length l ≤ byte_limit) e short) (λ same. absurd cc) r
-no-state refuses text (Found finding) other r m is short e = not-told refuses m is text (unlawful.Found finding) e (subst (λ (l : List ℕ). length l ≤ byte_limit) e short) (λ same. absurd cc) r
-no-state refuses text (BadSlot v) other r m is short e = not-told refuses m is text (unlawful.Slot v) e (subst (λ (l : List ℕ). length l ≤ byte_limit) e short) (λ same. absurd cc) r
-no-state refuses text (BadFrame f) other r m is short e = not-told refuses m is text (unlawful.Frame f) e (subst (λ (l : List ℕ). length l ≤ byte_limit) e short) (λ same. absurd cc) r
-no-state refuses text Memory other r m is short e = other refl
+pub no-state : Refuses → (text : List ℕ) (fault : StateFault) → (fault ≡ Memory → ⊥) → IsRefusedState text fault → (m : State) → has_dump m.config.version ≡ true → IsCoreState m → length text ≤ byte_limit → text ≡ state_text m → ⊥
+no-state refuses text NoHeader other r m has is short e = r _ (e ∙ after-header (front_of (rest_of m)) (dump_text (dump_of m)))
+no-state refuses text (BadLine n) other (inl r) m has is short e = not-before m is has text n e r
+no-state refuses text (BadLine n) other (inr r) m has is short e = not-within m is has text (BadLine n) e (subst (λ (l : List ℕ). length l ≤ byte_limit) e short) r
+no-state refuses text (Missing f) other r m has is short e = not-within m is has text (Missing f) e (subst (λ (l : List ℕ). length l ≤ byte_limit) e short) r
+no-state refuses text Sizes other r m has is short e = not-told refuses m has is text unlawful.Sizes e (subst (λ (l : List ℕ). length l ≤ byte_limit) e short) (λ same. absurd cc) r
+no-state refuses text (Found finding) other r m has is short e = not-told refuses m has is text (unlawful.Found finding) e (subst (λ (l : List ℕ). length l ≤ byte_limit) e short) (λ same. absurd cc) r
+no-state refuses text (BadSlot v) other r m has is short e = not-told refuses m has is text (unlawful.Slot v) e (subst (λ (l : List ℕ). length l ≤ byte_limit) e short) (λ same. absurd cc) r
+no-state refuses text (BadFrame f) other r m has is short e = not-told refuses m has is text (unlawful.Frame f) e (subst (λ (l : List ℕ). length l ≤ byte_limit) e short) (λ same. absurd cc) r
+no-state refuses text Memory other r m has is short e = other refl

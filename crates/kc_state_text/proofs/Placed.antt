@@ -6,7 +6,8 @@ use Rattle.kc_lines.specs.Lines.{IsOneLine}
 use Rattle.kc_trace.specs.declared.header.Position.{Position}
 use Rattle.kc_trace.specs.Header.{IsPosition, position_line}
 use Rattle.kc_trace.specs.HeadReading.{position_in, words_in}
-use Rattle.kc_trace.proofs.HeadWords.{position_spelled, position_again, position_fits}
+use Rattle.kc_trace.proofs.HeadWidths.{position_fits}
+use Rattle.kc_trace.proofs.HeadWords.{position_spelled, position_again}
 use Rattle.kc_state_text.specs.StateText.{state_header, second_header, volume_line, header_of, placed_text}
 use Rattle.kc_state_text.specs.Refused.{HasNone, HasHeader}
 use Rattle.kc_state_text.specs.Reading.{BeginsAs}

@@ -83,23 +83,39 @@ no-data-dash = refl
 
 -- ---- the sizes
 
-pub sizes-are-words : (sizes : Sizes) → AreSizes sizes → AreWords (codes "config" ∷ sizes_words sizes)
-sizes-are-words sizes is =
-    let slots = is.slots in let frames = is.frames in let host = is.host in let approved = is.approved in
-    rw (decimal_is_word sizes.slots (omega (arith, slots)), decimal_is_word sizes.frames (omega (arith, frames)), decimal_is_word sizes.host (omega (arith, host)), decimal_is_word sizes.approved (omega (arith, approved))) refl
+-- sizes of a machine of any version
+pub record AreNumbers (sizes : Sizes) : Type 0 where
+  pub slots : sizes.slots < 2 ^ 32
+  pub frames : sizes.frames < 2 ^ 32
+  pub host : sizes.host < 2 ^ 32
+  pub approved : sizes.approved < 2 ^ 32
 
-pub sizes-same : (a b : Sizes) → AreSizes a → AreSizes b → sizes_words a ≡ sizes_words b → a ≡ b
-sizes-same a b x y e =
+pub numbers-are-words : (sizes : Sizes) → AreNumbers sizes → AreWords (codes "config" ∷ sizes_words sizes)
+numbers-are-words sizes is = rw (decimal_is_word sizes.slots is.slots, decimal_is_word sizes.frames is.frames, decimal_is_word sizes.host is.host, decimal_is_word sizes.approved is.approved) refl
+
+pub numbers-same : (a b : Sizes) → AreNumbers a → AreNumbers b → sizes_words a ≡ sizes_words b → a ≡ b
+numbers-same a b x y e =
     let slots : decimal a.slots ≡ decimal b.slots = cc in
     let frames : decimal a.frames ≡ decimal b.frames = cc in
     let host : decimal a.host ≡ decimal b.host = cc in
     let approved : decimal a.approved ≡ decimal b.approved = cc in
     λ i. record {
-      slots = few-same second_slot_limit (omega arith) a.slots b.slots x.slots y.slots slots i;
-      frames = few-same second_frame_limit (omega arith) a.frames b.frames x.frames y.frames frames i;
-      host = few-same second_frame_limit (omega arith) a.host b.host x.host y.host host i;
-      approved = few-same digest_limit (omega arith) a.approved b.approved x.approved y.approved approved i;
+      slots = decimal-same a.slots b.slots x.slots y.slots slots i;
+      frames = decimal-same a.frames b.frames x.frames y.frames frames i;
+      host = decimal-same a.host b.host x.host y.host host i;
+      approved = decimal-same a.approved b.approved x.approved y.approved approved i;
     }
+
+few-numbers : (sizes : Sizes) → AreSizes sizes → AreNumbers sizes
+few-numbers sizes is =
+    let slots = is.slots in let frames = is.frames in let host = is.host in let approved = is.approved in
+    record { slots = omega (arith, slots); frames = omega (arith, frames); host = omega (arith, host); approved = omega (arith, approved) }
+
+pub sizes-are-words : (sizes : Sizes) → AreSizes sizes → AreWords (codes "config" ∷ sizes_words sizes)
+sizes-are-words sizes is = numbers-are-words sizes (few-numbers sizes is)
+
+pub sizes-same : (a b : Sizes) → AreSizes a → AreSizes b → sizes_words a ≡ sizes_words b → a ≡ b
+sizes-same a b x y e = numbers-same a b (few-numbers a x) (few-numbers b y) e
 
 -- ---- approved digests
 

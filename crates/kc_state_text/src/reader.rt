@@ -1,5 +1,6 @@
 //! Reading a state.
-ghost use Rattle.std.specs.Prelude.{ℕ, ◌≡◌, ◌≤◌, ◌<◌, ◌+◌, ◌^◌, ◌++◌, length, IfOk, IfErr, IfSome, MatchResult};
+ghost use Rattle.std.specs.Prelude.{ℕ, ◌≡◌, ◌≤◌, ◌<◌, ◌+◌, ◌^◌, ◌++◌, true, length, IfOk, IfErr, IfSome, MatchResult};
+ghost use Rattle.kc_types.specs.Configuration.{has_dump};
 ghost use Rattle.kc_types.specs.Limits.{byte_limit};
 ghost use Rattle.kc_dump_text.specs.declared.fault.DumpFault.TheVariants.{BadLine};
 ghost use Rattle.kc_trace.specs.Header.{IsPosition};
@@ -95,6 +96,7 @@ fn read_core(
     requires { length (state_header ++ rest.now) ≤ byte_limit }
     ensures state { IfOk result (λ core. state_header ++ rest.now ≡ state_text core.state) }
     ensures core { IfOk result (λ core. IsCoreState core.state) }
+    ensures version { IfOk result (λ core. has_dump core.state.config.version ≡ true) }
     ensures refused { IfErr result (IsRefusedState (state_header ++ rest.now)) }
 {
     let told = read_told(alloc, rest)?;
@@ -112,6 +114,7 @@ fn read_core_alone(alloc: Global, rest: &[u8]) -> Result<KCore, StateFault>
     requires { length (state_header ++ rest.now) ≤ byte_limit }
     ensures state { IfOk result (λ core. state_header ++ rest.now ≡ state_text core.state) }
     ensures core { IfOk result (λ core. IsCoreState core.state) }
+    ensures version { IfOk result (λ core. has_dump core.state.config.version ≡ true) }
     ensures refused { IfErr result (IsRefusedState (state_header ++ rest.now)) }
 {
     let told = read_told(alloc, rest)?;
@@ -162,6 +165,7 @@ pub fn read_state(
     ensures state { IfOk result (λ read. text.now ≡ placed_state_text read.position read.core.state) }
     ensures position { IfOk result (λ read. IfSome read.position IsPosition) }
     ensures core { IfOk result (λ read. IsCoreState read.core.state) }
+    ensures version { IfOk result (λ read. has_dump read.core.state.config.version ≡ true) }
     ensures refused { IfErr result (IsRefusedPlaced text.now) }
 {
     let (position, rest) = read_header(text)?;
@@ -177,6 +181,7 @@ pub fn read_state_alone(alloc: Global, text: &[u8]) -> Result<ReadState, StateFa
     ensures state { IfOk result (λ read. text.now ≡ placed_state_text read.position read.core.state) }
     ensures position { IfOk result (λ read. IfSome read.position IsPosition) }
     ensures core { IfOk result (λ read. IsCoreState read.core.state) }
+    ensures version { IfOk result (λ read. has_dump read.core.state.config.version ≡ true) }
     ensures refused { IfErr result (IsRefusedPlaced text.now) }
 {
     let (position, rest) = read_header(text)?;

@@ -5,7 +5,7 @@ use Rattle.kc_trace.specs.declared.header.Head.{Head}
 use Rattle.kc_trace.specs.declared.header.Header.TheVariants.{Three}
 use Rattle.kc_trace.specs.Header.{IsHead, trace_header}
 use Rattle.kc_trace.specs.Spelling.{longest_call}
-use Rattle.kc_trace.proofs.HeadWords.{head_width}
+use Rattle.kc_trace.proofs.HeadWidths.{head_width}
 use Rattle.kc_texts.specs.Headed.{HasHead, IsHeadOf}
 
 -- nothing comes before the bytes that are left

@@ -1,6 +1,6 @@
 -- Words and lines of a head have one spelling.
-use Rattle.std.proofs.Common.{ℕ, ◌≡◌, ◌≢◌, ◌≤◌, Bool, true, false, cond, List, [], ◌∷◌, ◌++◌, length, map, Option, Some, None, refl, sym, ap, subst, ◌∙◌, arith, inl, inr, append_assoc, append-nil, length-append}
-use Rattle.std.specs.Prelude.{◌==◌, ◌*◌, ◌+◌, ◌||◌, ◌&&◌, nat_le, nat_lt, is_none, option_map, codes, option_and_then}
+use Rattle.std.proofs.Common.{ℕ, ◌≡◌, ◌≢◌, ◌≤◌, Bool, true, false, cond, List, [], ◌∷◌, ◌++◌, length, map, Option, Some, None, refl, sym, ap, subst, ◌∙◌, arith, inl, inr, append_assoc, append-nil}
+use Rattle.std.specs.Prelude.{◌==◌, ◌+◌, ◌||◌, ◌&&◌, nat_le, nat_lt, is_none, option_map, codes, option_and_then}
 use Rattle.std.specs.Str.{bytes_eq}
 use Rattle.std.specs.List.{AllByRecursion, flat_map, join_with_byte, list_all}
 use Rattle.std.specs.Fmt.{decimal}
@@ -11,13 +11,12 @@ use Rattle.kc_trace.specs.declared.header.Head.{Head}
 use Rattle.kc_trace.specs.declared.header.Position.{Position}
 use Rattle.kc_trace.specs.declared.header.Position.TheVariants.{First, Later}
 use Rattle.kc_trace.specs.declared.header.Header.TheVariants.{Three}
-use Rattle.kc_trace.specs.Header.{Begun, IsHead, IsPosition, version_number, machine_numbers, machine_line, approved_line, position_words, redaction_words, last_line, position_line, head_lines, ended_lines, trace_header}
+use Rattle.kc_trace.specs.Header.{Begun, IsPosition, version_number, machine_numbers, machine_line, approved_line, position_words, redaction_words, last_line, position_line, head_lines, ended_lines}
 use Rattle.hex.specs.Hex.{encode_lower, lower_digits}
 use Rattle.hex.proofs.HexLemmas.{length-encode_with}
 use Rattle.kc_model.specs.Volumes.{IsDigest}
 use Rattle.kc_types.specs.Bytes.{IsData}
-use Rattle.kc_types.specs.Limits.{digest_limit, line_limit}
-use Rattle.kc_lines.specs.Lines.{IsOneLine}
+use Rattle.kc_types.specs.Limits.{digest_limit}
 use Rattle.kc_types.specs.Configuration.{Configuration, IsConfiguration, most_frames, most_leaves, slots_of, slot_count}
 use Rattle.kc_types.specs.ConfigFaults.{fault_of}
 use Rattle.kc_types.proofs.Ranges.{few-frames, few-slots, few-leaves}
@@ -28,9 +27,9 @@ use Rattle.kc_types.specs.declared.version.Version.TheVariants as version
 use Rattle.kc_model.specs.Ranged.{IsWord}
 use Rattle.kc_lines.specs.Words.{number_in, digest_in, at_end}
 use Rattle.kc_lines.proofs.Numbers.{number_of-decimal, number_is_decimal}
-use Rattle.std.proofs.lemmas.Fmt.{decimal_digit, length-decimal-le}
+use Rattle.std.proofs.lemmas.Fmt.{decimal_digit}
 use Rattle.kc_lines.proofs.Digests.{digest_again, digest_is}
-use Rattle.kc_lines.proofs.Words.{is_word, chosen, map_some, then_some, name_is, width, split_join, join_is_one_line, length-join, decimal_is_word, encoded_is_word}
+use Rattle.kc_lines.proofs.Words.{is_word, chosen, map_some, then_some, name_is, split_join, decimal_is_word, encoded_is_word}
 use Rattle.kc_trace.specs.HeadReading.{◌>>=◌, take_name, take_word, take_number, take_pair, take_digest, words_in, first_of, later_of, position_of, redaction_in, last_in, position_in, alone, approved_in, version_numbered, begun_if, machine_of, machine_by, machine_in}
 
 -- ---- a name and numbers
@@ -155,7 +154,7 @@ last_spelled line last e =
     subst (λ (l : Position × Bool). (line ≡ last_line l.0 l.1) × IsPosition l.0) position.2
     (line_is line (codes "volume" ∷ (position_words position.0 ++ redaction_words flag.0)) words, is.1)
 
-last_words_are : (position : Position) (flag : Bool) → IsPosition position → list_all is_word (codes "volume" ∷ (position_words position ++ redaction_words flag)) ≡ true
+pub last_words_are : (position : Position) (flag : Bool) → IsPosition position → list_all is_word (codes "volume" ∷ (position_words position ++ redaction_words flag)) ≡ true
 last_words_are First false is = refl
 last_words_are First true is = refl
 last_words_are (Later number after) false is = rw (decimal_is_word number is.1, encoded_is_word after (digest_is_data after is.2)) refl
@@ -220,7 +219,7 @@ approved_spelled line digest e =
     name_taken (codes "approved") (words_in line) name.0 name.1 ∙ ap (λ ws. codes "approved" ∷ ws) (is.0 ∙ ap (λ ws. encode_lower taken.0.0 ∷ ws) (none_left taken.0.1 end.0 end.1)) in
     (subst (λ (d : List ℕ). line ≡ join_with_byte 32 (codes "approved" ∷ encode_lower d ∷ [])) same (line_is line (codes "approved" ∷ encode_lower taken.0.0 ∷ []) words), subst IsDigest same is.1)
 
-approved_words_are : (digest : List ℕ) → IsDigest digest → list_all is_word (codes "approved" ∷ encode_lower digest ∷ []) ≡ true
+pub approved_words_are : (digest : List ℕ) → IsDigest digest → list_all is_word (codes "approved" ∷ encode_lower digest ∷ []) ≡ true
 approved_words_are digest is = rw (encoded_is_word digest (digest_is_data digest is)) refl
 
 approved_words_again : (digest : List ℕ) → IsDigest digest → approved_in (codes "approved" ∷ encode_lower digest ∷ []) ≡ Some digest
@@ -280,15 +279,19 @@ pub record IsBegun (begun : Begun) : Type 0 where
 numbered : (number : ℕ) (v : Version) → version_numbered number ≡ Some v → number ≡ version_number v
 numbered number v e = elim (chosen (number == 1) (Some version.One) _ (Some v) e) [
   | inl h ↦ let same : version.One ≡ v = cc in eqb-true _ _ h.0 ∙ ap version_number same
-  | inr h ↦ elim (chosen (number == 2) (Some version.Two) None (Some v) h.1) [
+  | inr h ↦ elim (chosen (number == 2) (Some version.Two) _ (Some v) h.1) [
     | inl g ↦ let same : version.Two ≡ v = cc in eqb-true _ _ g.0 ∙ ap version_number same
-    | inr g ↦ absurd cc
+    | inr g ↦ elim (chosen (number == 3) (Some version.Three) None (Some v) g.1) [
+      | inl i ↦ let same : version.Three ≡ v = cc in eqb-true _ _ i.0 ∙ ap version_number same
+      | inr i ↦ absurd cc
+    ]
   ]
 ]
 
 numbered_again : (v : Version) → version_numbered (version_number v) ≡ Some v
 numbered_again version.One = refl
 numbered_again version.Two = refl
+numbered_again version.Three = refl
 
 begun_is : (config : Configuration) (awaited : ℕ) (begun : Begun) → begun_if config awaited ≡ Some begun → (begun ≡ record { config = config; awaited = awaited }) × IsConfiguration config
 begun_is config awaited begun e = by_fault (fault_of config) refl e
@@ -372,11 +375,12 @@ numbers_are_words : (numbers : List ℕ) → AllByRecursion IsWord numbers → l
 numbers_are_words [] each = refl
 numbers_are_words (number ∷ numbers) each = rw (decimal_is_word number each.0) (numbers_are_words numbers each.1)
 
-few_versions : (v : Version) → version_number v ≤ 2
+few_versions : (v : Version) → version_number v ≤ 3
 few_versions version.One = omega arith
 few_versions version.Two = omega arith
+few_versions version.Three = omega arith
 
-numbers_fit : (config : Configuration) (awaited : ℕ) → IsConfiguration config → awaited ≤ digest_limit → AllByRecursion IsWord (machine_numbers config awaited)
+pub numbers_fit : (config : Configuration) (awaited : ℕ) → IsConfiguration config → awaited ≤ digest_limit → AllByRecursion IsWord (machine_numbers config awaited)
 unfolding slot_count
 numbers_fit config awaited is few =
     let frames = few-frames config.version config.frames is.few_frames in
@@ -420,94 +424,10 @@ machine_words_again config awaited is few =
       number_of-decimal awaited fits.1.1.1.1.1.1.0,
     ) (machine_by_again config awaited is few)
 
-machine_line_words : (config : Configuration) (awaited : ℕ) → IsConfiguration config → awaited ≤ digest_limit → list_all is_word (codes "config" ∷ map decimal (machine_numbers config awaited)) ≡ true
+pub machine_line_words : (config : Configuration) (awaited : ℕ) → IsConfiguration config → awaited ≤ digest_limit → list_all is_word (codes "config" ∷ map decimal (machine_numbers config awaited)) ≡ true
 machine_line_words config awaited is few = numbers_are_words (machine_numbers config awaited) (numbers_fit config awaited is few)
 
 pub machine_again : (config : Configuration) (awaited : ℕ) → IsConfiguration config → awaited ≤ digest_limit → machine_in (words_in (machine_line config awaited)) ≡ Some (record { config = emptied config; awaited = awaited })
 unfolding machine_line
 machine_again config awaited is few =
     ap machine_in (split_join (codes "config") (map decimal (machine_numbers config awaited)) (machine_line_words config awaited is few)) ∙ machine_words_again config awaited is few
-
--- ---- each line is one line, and no longer than that of a call
-
-width_of : (numbers : List ℕ) → AllByRecursion IsWord numbers → width (map decimal numbers) ≤ 11 * length numbers
-width_of [] each = omega arith
-width_of (number ∷ numbers) each = omega (arith, length-decimal-le 10 number (omega arith) (omega arith) (let fits = each.0 in omega (arith, fits)), width_of numbers each.1)
-
-abbrev pub Fits : List ℕ → Type 0
-Fits line = IsOneLine line × (length line ≤ line_limit)
-
-pub machine_fits : (config : Configuration) (awaited : ℕ) → IsConfiguration config → awaited ≤ digest_limit → Fits (machine_line config awaited)
-unfolding machine_line
-machine_fits config awaited is few =
-    (join_is_one_line (codes "config") (map decimal (machine_numbers config awaited)) (machine_line_words config awaited is few), omega (arith, length-join (codes "config") (map decimal (machine_numbers config awaited)), width_of (machine_numbers config awaited) (numbers_fit config awaited is few)))
-
-pub approved_fits : (digest : List ℕ) → IsDigest digest → Fits (approved_line digest)
-unfolding approved_line
-approved_fits digest is =
-    let long = is.long in
-    (join_is_one_line (codes "approved") (encode_lower digest ∷ []) (approved_words_are digest is), omega (arith, length-join (codes "approved") (encode_lower digest ∷ []), length-encode_with lower_digits digest, long))
-
-position_width : (position : Position) → IsPosition position → width (position_words position) ≤ 80
-position_width First is = omega arith
-position_width (Later number after) is =
-    let long = is.2.long in
-    let fits = is.1 in
-    omega (arith, length-decimal-le 10 number (omega arith) (omega arith) (omega (arith, fits)), length-encode_with lower_digits after, long)
-
-last_width : (position : Position) (flag : Bool) → IsPosition position → width (position_words position ++ redaction_words flag) ≤ 94
-last_width First false is = omega arith
-last_width First true is = omega arith
-last_width (Later number after) false is = let narrow = position_width (Later number after) is in omega (arith, narrow)
-last_width (Later number after) true is = let narrow = position_width (Later number after) is in omega (arith, narrow)
-
-pub last_fits : (position : Position) (flag : Bool) → IsPosition position → Fits (last_line position flag)
-unfolding last_line
-last_fits position flag is =
-    let words : List (List ℕ) = position_words position ++ redaction_words flag in
-    (join_is_one_line (codes "volume") words (last_words_are position flag is), omega (arith, length-join (codes "volume") words, last_width position flag is))
-
-pub position_fits : (position : Position) → IsPosition position → Fits (position_line position)
-position_fits position is = last_fits position false is
-
--- ---- how long a head is
-
-machine_width : (config : Configuration) (awaited : ℕ) → IsConfiguration config → awaited ≤ digest_limit → length (machine_line config awaited) ≤ 83
-unfolding machine_line
-machine_width config awaited is few = omega (arith, length-join (codes "config") (map decimal (machine_numbers config awaited)), width_of (machine_numbers config awaited) (numbers_fit config awaited is few))
-
-approved_width : (digest : List ℕ) → IsDigest digest → length (approved_line digest) ≡ 73
-unfolding approved_line
-approved_width digest is =
-    let long = is.long in
-    omega (arith, length-join (codes "approved") (encode_lower digest ∷ []), length-encode_with lower_digits digest, long)
-
-last_line_width : (position : Position) (flag : Bool) → IsPosition position → length (last_line position flag) ≤ 100
-unfolding last_line
-last_line_width position flag is = omega (arith, length-join (codes "volume") (position_words position ++ redaction_words flag), last_width position flag is)
-
-digests_width : (digests : List (List ℕ)) → AllByRecursion IsDigest digests → length (flat_map (λ digest. approved_line digest ++ 10 ∷ []) digests) ≡ 74 * length digests
-digests_width [] each = refl
-digests_width (digest ∷ digests) each = omega (arith, length-append (approved_line digest ++ 10 ∷ []) (flat_map (λ d. approved_line d ++ 10 ∷ []) digests), length-append (approved_line digest) (10 ∷ []), approved_width digest each.0, digests_width digests each.1)
-
--- a head is no longer than the longest line of a call
-pub head_width : (head : Head) → IsHead head → length (trace_header (Three head)) ≤ line_limit
-head_width head is =
-    let config = head.config in
-    let few = is.config.few_digests in
-    let machine : List ℕ = machine_line config (length config.approved) ++ 10 ∷ [] in
-    let digests : List ℕ = flat_map (λ digest. approved_line digest ++ 10 ∷ []) config.approved in
-    let last : List ℕ = last_line head.position head.is_host_redacted ++ 10 ∷ [] in
-    omega (
-      arith,
-      few,
-      length-append (codes "kcore-trace 3" ++ 10 ∷ []) (ended_lines (head_lines head)),
-      ap length (head_ended head),
-      length-append machine (digests ++ last),
-      length-append digests last,
-      length-append (machine_line config (length config.approved)) (10 ∷ []),
-      length-append (last_line head.position head.is_host_redacted) (10 ∷ []),
-      machine_width config (length config.approved) is.config few,
-      digests_width config.approved is.digests,
-      last_line_width head.position head.is_host_redacted is.position,
-    )

@@ -24,7 +24,8 @@ use Rattle.kc_trace.specs.HeadReading.{words_in, machine_in, approved_in, last_i
 use Rattle.kc_trace.specs.Machine.{◌>>=◌, Progress, start, kept, longer, next_of_line, may_begin, head_fault, after_header, feed, ended}
 use Rattle.kc_trace.specs.Trace.{GoesOnWith, StopsInHeader}
 use Rattle.kc_trace.proofs.Runs.{and_then_feed, front_nothing, feed_nothing, feed_begun, feed_ended}
-use Rattle.kc_trace.proofs.HeadWords.{IsBegun, Fits, emptied, machine_spelled, approved_spelled, last_spelled, machine_again, approved_again, last_again, machine_fits, approved_fits, last_fits}
+use Rattle.kc_trace.proofs.HeadWords.{IsBegun, emptied, machine_spelled, approved_spelled, last_spelled, machine_again, approved_again, last_again}
+use Rattle.kc_trace.proofs.HeadWidths.{Fits, machine_fits, approved_fits, last_fits}
 use Rattle.kc_trace.proofs.HeadStages.{lines_so_far, IsSoFar, line_next, goes_on, accepts, numbered_next, approving_is, many_lines}
 use Rattle.kc_trace.proofs.Outcomes.{at_line, outcome, finished, outcome-stuck, one_line_pushed}
 

@@ -1,5 +1,6 @@
 pub mod Newlines
 pub mod HeadWords
+pub mod HeadWidths
 pub mod HeadStages
 pub mod Outcomes
 pub mod Headers

@@ -58,7 +58,7 @@ words_in line = slice_split (λ b. b == 32) line
 -- ---- lines
 
 abbrev pub version_numbered : ℕ → Option Version
-version_numbered number = if number == 1 then Some version.One else if number == 2 then Some version.Two else None
+version_numbered number = if number == 1 then Some version.One else if number == 2 then Some version.Two else if number == 3 then Some version.Three else None
 
 -- the machine, if it is one
 abbrev pub begun_if : Configuration → ℕ → Option Begun

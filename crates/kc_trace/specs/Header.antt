@@ -16,6 +16,7 @@ use Rattle.kc_trace.specs.declared.header.Header.TheVariants.{One, Two, Three}
 abbrev pub version_number : Version → ℕ
 version_number version.One = 1
 version_number version.Two = 2
+version_number version.Three = 3
 
 -- the numbers of a machine for which this many digests are approved: the version of its rules, how many slots and
 -- frames it has, how many of the frames are the core's and the host's at boot, how many leaf tables a VM has, and how

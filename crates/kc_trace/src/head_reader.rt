@@ -45,6 +45,7 @@ fn version_numbered(number: u32) -> Option<Version>
     match number {
         1 => Some(Version::One),
         2 => Some(Version::Two),
+        3 => Some(Version::Three),
         _ => None,
     }
 }

@@ -15,6 +15,7 @@ fn version_number(version: Version) -> u32
     match version {
         Version::One => 1,
         Version::Two => 2,
+        Version::Three => 3,
     }
 }
 

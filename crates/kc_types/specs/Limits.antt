@@ -1,6 +1,6 @@
 -- The limits of `src/limits.rt`, under the names that definitions use.
 use Rattle.std.specs.Prelude.{ℕ}
-use Rattle.kc_types.specs.declared.limits.TheConstants.{PAGE_SIZE, LEAF_ENTRIES, FRAME_LIMIT, SLOT_LIMIT, VCPU_LIMIT, GFN_LIMIT, LEAF_LIMIT, IMAGE_LIMIT, FIRST_FRAME_LIMIT, SECOND_FRAME_LIMIT, FIRST_SLOT_LIMIT, SECOND_SLOT_LIMIT, FIRST_VCPU_LIMIT, FIRST_GFN_LIMIT, FIRST_LEAF_LIMIT, FIRST_IMAGE_LIMIT, FIRST_IMAGE_SIZE_LIMIT, DIGEST_LIMIT, SHARE_LIMIT, RANGE_LIMIT, CALL_LIMIT, WORKER_LIMIT, LINE_LIMIT, BYTE_LIMIT}
+use Rattle.kc_types.specs.declared.limits.TheConstants.{PAGE_SIZE, LEAF_ENTRIES, FRAME_LIMIT, SLOT_LIMIT, VCPU_LIMIT, GFN_LIMIT, LEAF_LIMIT, IMAGE_LIMIT, IMAGE_SIZE_LIMIT, FIRST_FRAME_LIMIT, SECOND_FRAME_LIMIT, FIRST_SLOT_LIMIT, SECOND_SLOT_LIMIT, FIRST_VCPU_LIMIT, FIRST_GFN_LIMIT, FIRST_LEAF_LIMIT, FIRST_IMAGE_LIMIT, FIRST_IMAGE_SIZE_LIMIT, DIGEST_LIMIT, SHARE_LIMIT, RANGE_LIMIT, CALL_LIMIT, WORKER_LIMIT, LINE_LIMIT, BYTE_LIMIT}
 
 abbrev pub page_size : ℕ
 page_size = PAGE_SIZE
@@ -8,7 +8,7 @@ page_size = PAGE_SIZE
 abbrev pub leaf_entries : ℕ
 leaf_entries = LEAF_ENTRIES
 
--- ---- the ranges of numbers, in every version
+-- ---- the ranges of numbers, in every version: they are the limits of version 3
 
 abbrev pub frame_limit : ℕ
 frame_limit = FRAME_LIMIT
@@ -28,7 +28,10 @@ leaf_limit = LEAF_LIMIT
 abbrev pub image_limit : ℕ
 image_limit = IMAGE_LIMIT
 
--- ---- the rules, by version: `Configuration` says which of them holds
+abbrev pub image_size_limit : ℕ
+image_size_limit = IMAGE_SIZE_LIMIT
+
+-- ---- the limits of versions 1 and 2: `Configuration` says which of them holds
 
 abbrev pub first_frame_limit : ℕ
 first_frame_limit = FIRST_FRAME_LIMIT

@@ -63,13 +63,13 @@ impl Model for Config {
 /// Why a configuration is refused: the first fault that applies.
 #[derive(Clone, Copy, Debug, PartialEq, Eq, Error)]
 pub enum ConfigFault {
-    /// The number of frames is 0 or above the version's limit: 8,192, or 65,536.
+    /// The number of frames is 0 or above the version's limit: 8,192, 65,536 or 268,435,456.
     #[error("frames")]
     Frames,
     /// The core's and the host's frames together are more than there are.
     #[error("core and host")]
     CoreHost,
-    /// The number of leaf tables is 0 or above 64.
+    /// The number of leaf tables is 0 or above the version's limit: 64, or 262,144 in version 3.
     #[error("leaves")]
     Leaves,
     /// More than 64 digests are approved.
@@ -93,7 +93,8 @@ impl Config {
         Config::with_version(Version::One, frames, core, host, leaves, approved)
     }
 
-    /// Makes a configuration of the given version: version 2 has up to 65,536 frames, and 64 slots.
+    /// Makes a configuration of the given version: version 2 has up to 65,536 frames, and 64 slots; version 3 up to
+    /// 268,435,456 frames, and 1,024 slots.
     pub fn with_version(
         version: Version,
         frames: u32,
@@ -133,7 +134,7 @@ impl Config {
         self.version
     }
 
-    /// The number of frames, 1 to 8,192 (in version 2, to 65,536).
+    /// The number of frames, 1 to 8,192 (in version 2, to 65,536, and in version 3, to 268,435,456).
     pub fn frames(&self) -> u32
         ensures value { result ≡ self.now.frames }
         ensures some { 0 < result }
@@ -159,7 +160,7 @@ impl Config {
         self.host
     }
 
-    /// The number of leaf tables of each VM, 1 to 64.
+    /// The number of leaf tables of each VM, 1 to 64 (in version 3, to 262,144).
     pub fn leaves(&self) -> u32
         ensures value { result ≡ self.now.leaves }
         ensures some { 0 < result }
@@ -168,7 +169,7 @@ impl Config {
         self.leaves
     }
 
-    /// The number of VM slots: 16 (in version 2, 64).
+    /// The number of VM slots: 16 (in version 2, 64, and in version 3, 1,024).
     #[tactic(auto, unfolding(crate::specs::Configuration::slot_count))]
     pub fn slots(&self) -> u32
         ensures value { result ≡ slot_count self.now }

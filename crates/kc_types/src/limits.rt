@@ -6,7 +6,7 @@ pub const PAGE_SIZE: u32 = 4_096;
 /// The number of entries of a leaf table.
 pub const LEAF_ENTRIES: usize = 512;
 
-// ---- the ranges of numbers, in every version
+// ---- the ranges of numbers, in every version: they are the limits of version 3
 
 /// Numbers of frames are below this.
 pub const FRAME_LIMIT: u32 = 268_435_456;
@@ -20,8 +20,10 @@ pub const GFN_LIMIT: u32 = 134_217_728;
 pub const LEAF_LIMIT: u32 = 262_144;
 /// Numbers of boot images are below this.
 pub const IMAGE_LIMIT: usize = 16;
+/// The most bytes of a boot image.
+pub const IMAGE_SIZE_LIMIT: u32 = 1_073_741_824;
 
-// ---- the rules, by version: `Version` says which of them holds
+// ---- the limits of versions 1 and 2: `Version` says which of them holds
 
 /// The most frames of a configuration of version 1.
 pub const FIRST_FRAME_LIMIT: u32 = 8_192;

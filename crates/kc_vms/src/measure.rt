@@ -1,12 +1,13 @@
-//! Measuring a boot image, page by page.
+//! Measuring a boot image, page by page, or a boot as a whole.
 ghost use Rattle.std.specs.Prelude.{◌≡◌, ℕ, ◌++◌, ◌≤◌, List, [], take, length};
+ghost use Rattle.std.specs.Int.{w64, to_le_bytes};
 ghost use Rattle.sha2.specs.Sha256.{sha256};
 ghost use Rattle.kc_types.specs.Limits.{page_size};
 
 use kc_page::PageBytes;
 use sha2::{Digest, Sha256};
 
-/// The SHA-256 digest (FIPS 180-4) of bytes that come page by page.
+/// The SHA-256 digest (FIPS 180-4) of numbers and pages.
 #[derive(Drop)]
 pub struct Measure {
     hasher: Sha256,
@@ -31,6 +32,13 @@ impl Measure {
         ensures whole { length bytes.now.bytes ≡ page_size }
     {
         self.hasher.update(&bytes.as_slice()[..used]);
+    }
+
+    /// Feeds a number, as eight bytes with the lowest first.
+    pub fn number(&mut self, number: u32)
+        ensures { (fed : List ℕ) → WasFed self.old fed → WasFed self.new (fed ++ to_le_bytes w64 number) }
+    {
+        self.hasher.update(&u64::from(number).to_le_bytes());
     }
 
     /// Returns the digest of all bytes that were fed, in the order in which they were fed.

@@ -12,7 +12,7 @@ use Rattle.kc_types.specs.declared.slot.Phase.{Phase}
 use Rattle.kc_types.specs.declared.slot.Phase.TheVariants.{Booting, Active, Dead}
 use Rattle.kc_model.specs.State.{State, Frame, Slot, Image, frame_at, slot_at, mapped_at, with_frame, with_slot, untouched, zero_page}
 use Rattle.kc_model.specs.Refusals.{refusal, is_active, backing, next_gfn, pending, conditions}
-use Rattle.kc_model.specs.Effects.{effect, host_takes, hand, guest_read, guest_written, written, cleared, dropped, trimmed, all_trimmed, verified, first_failing, is_approved, with_phase, with_each, granted, revoked}
+use Rattle.kc_model.specs.Effects.{effect, host_takes, hand, guest_read, guest_written, written, cleared, dropped, trimmed, all_trimmed, verified, unapproved, with_phase, with_each, granted, revoked}
 use Rattle.kc_model.specs.Next.{next, unless_refused}
 use Rattle.kc_model.specs.Lawful.{IsLawful, same_owner, is_vm}
 use Rattle.kc_model.specs.Blind.{Secret, is_secret, names_secret, is_running, grants_secret, IsPrivate}
@@ -153,7 +153,7 @@ private-effect s m (Remap w i f) is private grants served =
     let seen = remap-served m w i f served in
     let none = host-share m f is (rw is.frames seen.frame) seen.host in
     private-slot s (hand m w (next_gfn m w i) f) w _ (private-handed s m w (next_gfn m w i) f private none) refl
-private-effect s m (Verify w) is private grants served = private-verified s m w (first_failing (is_approved m w) (slot_at m w).images) is served private
+private-effect s m (Verify w) is private grants served = private-verified s m w (unapproved m w) is served private
 private-effect s m (Map w c f) is private grants served =
     let seen = map-served m w c f served in
     let none = host-share m f is (rw is.frames seen.frame) seen.host in

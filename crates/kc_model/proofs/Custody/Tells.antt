@@ -1,22 +1,22 @@
--- Each change is right: of a frame its custody, of a slot its phase, and that the images are approved if it became
--- active.
-use Rattle.std.proofs.Common.{ℕ, suc, ◌≡◌, ◌<◌, ◌+◌, true, List, [], ◌∷◌, length, map, filter, get_or, All, sym, ap, ap₂, subst, ◌∙◌, arith}
+-- Each change is right: of a frame its custody, of a slot its phase, and that its boot is approved if it became active.
+use Rattle.std.proofs.Common.{ℕ, suc, ◌≡◌, ◌<◌, ◌+◌, true, false, List, [], ◌∷◌, length, map, filter, get_or, All, sym, ap, ap₂, subst, ◌∙◌, arith}
 use Rattle.std.specs.Prelude.{Contains}
 use Rattle.std.specs.List.{range_with_len}
 use Rattle.std.proofs.lemmas.List.Elements.{All-nil, All-append, All-map, filter_passes}
-use Rattle.kc_types.specs.Configuration.{Configuration, slot_count}
+use Rattle.kc_types.specs.Configuration.{Configuration, slot_count, measures_launch}
 use Rattle.kc_types.specs.declared.call.Call.{Call}
 use Rattle.kc_types.specs.declared.custody.MeasuredImage.{MeasuredImage}
 use Rattle.kc_types.specs.declared.custody.Change.{Change}
 use Rattle.kc_types.specs.declared.custody.Change.TheVariants as change
 use Rattle.kc_model.specs.State.{State, slot_at}
 use Rattle.kc_model.specs.Next.{next}
+use Rattle.kc_model.specs.Effects.{launch_digest}
 use Rattle.kc_model.specs.Footprints.{state_at, call_at}
 use Rattle.kc_model.specs.Custody.{custody_at, has_moved, has_turned, frame_change, phase_change, frame_changes_by, phase_changes_by, changes_by, custody_from, images_for, measured_images, first_line}
 use Rattle.kc_model.specs.CustodyLaws.{TellsFrame, IsFrameTold, TellsFrames, TellsPhase, IsPhaseTold, TellsPhases}
 use Rattle.kc_model.proofs.States.Places.{state_at-rest}
 use Rattle.kc_model.proofs.Footprints.Reaches.{config-at}
-use Rattle.kc_model.proofs.Custody.Approved.{all_approved}
+use Rattle.kc_model.proofs.Custody.Approved.{all_approved, launch_approved}
 
 -- what holds of the changes by each call holds of the changes by all
 pub each-call : (P : Change → Type 0) (n : ℕ) (m : State) (calls : List Call) → ((k : ℕ) → k < length calls → All P (changes_by (n + k) (state_at m calls k) (state_at m calls (suc k)))) → All P (custody_from n m calls)
@@ -36,10 +36,17 @@ tells : (m : State) (calls : List Call) (k v : ℕ) → has_turned (state_at m c
 tells m calls k v turned = record {
   phase = λ n at. let same : n + 1 ≡ suc k = omega (arith, at) in ap (λ i. (slot_at (state_at m calls i) v).phase) same;
   images = λ n at. let same : n ≡ k = omega (arith, at) in ap (λ i. images_for (slot_at (state_at m calls (suc k)) v).phase (measured_images (state_at m calls i) v)) same;
-  approved = λ active.
+  approved = λ each active.
       let old = state_at m calls k in
-      let approved = subst (λ (config : Configuration). All (λ (image : MeasuredImage). Contains config.approved image.digest) (measured_images old v)) (config-at m calls k) (all_approved old (call_at calls k) v turned active) in
+      let each_old : measures_launch old.config.version ≡ false = rw (config-at m calls k) each in
+      let approved = subst (λ (config : Configuration). All (λ (image : MeasuredImage). Contains config.approved image.digest) (measured_images old v)) (config-at m calls k) (all_approved old (call_at calls k) v each_old turned active) in
       subst (λ phase. All (λ (image : MeasuredImage). Contains m.config.approved image.digest) (images_for phase (measured_images old v))) (sym active) approved;
+  launch = λ whole n at active.
+      let old = state_at m calls k in
+      let same : n ≡ k = omega (arith, at) in
+      let whole_old : measures_launch old.config.version ≡ true = rw (config-at m calls k) whole in
+      let approved = subst (λ (config : Configuration). Contains config.approved (launch_digest old v)) (config-at m calls k) (launch_approved old (call_at calls k) v whole_old turned active) in
+      subst (λ i. Contains m.config.approved (launch_digest (state_at m calls i) v)) (sym same) approved;
 }
 
 -- a change of a frame by the call

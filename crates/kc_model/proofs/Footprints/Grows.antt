@@ -8,7 +8,7 @@ use Rattle.kc_types.specs.declared.owner.Owner.{Owner}
 use Rattle.kc_types.specs.declared.owner.Owner.TheVariants.{Core, Host, Free, Vm}
 use Rattle.kc_model.specs.State.{State, Slot, Image, slot_at, mapped_at, no_slot, empty_slot}
 use Rattle.kc_model.specs.Refusals.{conditions, refusal, backing, pending, next_gfn}
-use Rattle.kc_model.specs.Effects.{effect, hand, host_takes, guest_read, guest_written, verified, all_trimmed, trimmed, first_failing, is_approved, without}
+use Rattle.kc_model.specs.Effects.{effect, hand, host_takes, guest_read, guest_written, verified, all_trimmed, trimmed, unapproved, without}
 use Rattle.kc_model.specs.Next.{next, unless_refused}
 use Rattle.kc_model.specs.Resources.{is_in, listed_in}
 use Rattle.kc_model.specs.Footprints.{gains}
@@ -161,7 +161,7 @@ grows-effect m (RegisterVm v) is served = kept m (RegisterVm v) (effect m (Regis
 grows-effect m (RegisterVcpu v c) is served = kept m (RegisterVcpu v c) (effect m (RegisterVcpu v c)).1 refl (λ w. kept-slot m v _ refl w)
 grows-effect m (SetBoot v base len) is served = kept m (SetBoot v base len) (effect m (SetBoot v base len)).1 refl (λ w. kept-slot m v _ refl w)
 grows-effect m (Remap v i f) is served = grows-remap m v i f served
-grows-effect m (Verify v) is served = grows-verified m v (first_failing (is_approved m v) (slot_at m v).images)
+grows-effect m (Verify v) is served = grows-verified m v (unapproved m v)
 grows-effect m (Map v c f) is served = grows-map m v c f served
 grows-effect m (GuestRead v c g off len) is served = grows-guest_read m v c g off len (mapped_at m v g)
 grows-effect m (GuestWrite v c g off bytes) is served = grows-guest_written m v c g off bytes (mapped_at m v g)

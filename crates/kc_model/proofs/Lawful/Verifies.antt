@@ -8,7 +8,7 @@ use Rattle.kc_types.specs.declared.call.Call.TheVariants.{Verify}
 use Rattle.kc_types.specs.declared.slot.Phase.TheVariants.{Booting, Active, Dead}
 use Rattle.kc_model.specs.State.{State, Slot, Image, frame_at, slot_at, mapped_at}
 use Rattle.kc_model.specs.Refusals.{refusal, backing, pages_of, is_short, conditions}
-use Rattle.kc_model.specs.Effects.{effect, trimmed, all_trimmed, verified, first_failing, is_approved}
+use Rattle.kc_model.specs.Effects.{effect, trimmed, all_trimmed, verified, unapproved}
 use Rattle.kc_model.specs.Lawful.{IsLawful, IsLawfulFrame, holds}
 use Rattle.kc_model.proofs.Refusals.Served.{when-none, none-of}
 use Rattle.kc_model.proofs.Refusals.Answered.{vm-in, was-booting}
@@ -97,4 +97,4 @@ verify-served m v served =
 pub lawful-verify : (m : State) (v : ℕ) → IsLawful m → refusal m (Verify v) ≡ None → IsLawful (effect m (Verify v)).1
 lawful-verify m v is served =
     let seen = verify-served m v served in
-    lawful-verified m v (first_failing (is_approved m v) (slot_at m v).images) is seen.0 seen.1 seen.2
+    lawful-verified m v (unapproved m v) is seen.0 seen.1 seen.2

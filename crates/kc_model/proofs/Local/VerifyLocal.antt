@@ -1,19 +1,19 @@
 -- Verifying a slot depends only on its images' pages.
-use Rattle.std.proofs.Common.{ℕ, zero, suc, ◌≡◌, ◌<◌, ◌≤◌, ◌+◌, ◌-◌, cond, Option, Some, None, List, [], ◌∷◌, refl, ap, ◌∙◌, arith, length-set}
+use Rattle.std.proofs.Common.{ℕ, zero, suc, ◌≡◌, ◌<◌, ◌≤◌, ◌+◌, ◌-◌, Option, Some, None, List, [], ◌∷◌, length, take, get_or, refl, sym, ap, subst, ◌∙◌, arith, length-set}
 use Rattle.std.specs.List.{flat_map, range_with_len}
-use Rattle.std.specs.Option.{option_map}
 use Rattle.std.specs.FinMap as map
 use Rattle.kc_types.specs.declared.call.Call.TheVariants.{Verify}
 use Rattle.kc_types.specs.declared.reply.Reply.TheVariants as reply
 use Rattle.kc_types.specs.declared.slot.Phase.TheVariants.{Active}
 use Rattle.kc_model.specs.State.{State, Frame, Slot, Image, frame_at, slot_at, mapped_at}
 use Rattle.kc_model.specs.Refusals.{refusal, backing, pages_of}
-use Rattle.kc_model.specs.Effects.{bytes_at, is_approved, first_failing, trimmed, all_trimmed, with_phase, verified}
+use Rattle.kc_model.specs.Effects.{bytes_at, image_bytes, unapproved, trimmed, all_trimmed, with_phase, verified}
 use Rattle.kc_model.specs.Resources.{Resources, merged}
 use Rattle.kc_model.specs.Local.{outcome_merged, IsLocal}
 use Rattle.kc_model.proofs.Local.Merges.{HasFrame, HasSlot, frame-merged, slot-merged, frames-set, slots-set}
 use Rattle.kc_model.proofs.Local.Locals.{local-next}
 use Rattle.kc_model.proofs.Lawful.Verifies.{slots-trimmed}
+use Rattle.kc_model.proofs.States.Approvals.{BootsAlike, unapproved-same}
 
 -- the frames of an image's pages are among the resources
 pub record HasImage (here : Resources) (m : State) (v : ℕ) (image : Image) : Type 0 where
@@ -34,14 +34,24 @@ bytes-merged here m rest v g has page =
     ap (λ (there : Slot). (frame_at (merged here m rest) (backing (map.get there.mapped g))).bytes) (slot-merged here m rest v has)
     ∙ ap (λ (there : Frame). there.bytes) (frame-merged here m rest (backing (mapped_at m v g)) page)
 
-approved-merged : (here : Resources) (m rest : State) (v : ℕ) (image : Image) → HasSlot here m v → HasImage here m v image → is_approved (merged here m rest) v image ≡ is_approved m v image
-approved-merged here m rest v image has pages = rw (pages-same (bytes_at (merged here m rest) v) (bytes_at m v) image.base (pages_of image.len) (λ g from below. bytes-merged here m rest v g has (pages.pages g from below))) refl
+has-at : (here : Resources) (m : State) (v : ℕ) (images : List Image) → HasImages here m v images → (i : ℕ) (d : Image) → i < length images → HasImage here m v (get_or images i d)
+has-at here m v [] each i d lt = absurd (omega (arith, lt))
+has-at here m v (image ∷ images) each zero d lt = each.0
+has-at here m v (image ∷ images) each (suc i) d lt = has-at here m v images each.1 i d (omega (arith, lt))
 
-first-merged : (here : Resources) (m rest : State) (v : ℕ) (images : List Image) → HasSlot here m v → HasImages here m v images → first_failing (is_approved (merged here m rest) v) images ≡ first_failing (is_approved m v) images
-first-merged here m rest v [] has each = refl
-first-merged here m rest v (image ∷ images) has each =
-    ap (λ fits. cond fits (option_map (λ place. place + 1) (first_failing (is_approved (merged here m rest) v) images)) (Some 0)) (approved-merged here m rest v image has each.0)
-    ∙ ap (λ later. cond (is_approved m v image) (option_map (λ place. place + 1) later) (Some 0)) (first-merged here m rest v images has each.1)
+boots-alike : (here : Resources) (m rest : State) (v : ℕ) → HasSlot here m v → HasImages here m v (slot_at m v).images → BootsAlike (merged here m rest) m v
+boots-alike here m rest v has each = record {
+  version = refl;
+  approved = refl;
+  images = ap (λ (there : Slot). there.images) same;
+  bytes = subst (λ (there : Slot). (i : ℕ) (d : Image) → i < length there.images → image_bytes (merged here m rest) v (get_or there.images i d) ≡ image_bytes m v (get_or there.images i d)) (sym same) (λ i d lt.
+      let image = get_or (slot_at m v).images i d in
+      let pages = has-at here m v (slot_at m v).images each i d lt in
+      ap (take image.len) (pages-same (bytes_at (merged here m rest) v) (bytes_at m v) image.base (pages_of image.len) (λ g from below. bytes-merged here m rest v g has (pages.pages g from below))));
+}
+  where
+    same : slot_at (merged here m rest) v ≡ slot_at m v
+    same = slot-merged here m rest v has
 
 trimmed-merged : (here : Resources) (m rest : State) (v : ℕ) (image : Image) → HasSlot here m v → HasImage here m v image → trimmed (merged here m rest) v image ≡ merged here (trimmed m v image) rest
 trimmed-merged here m rest v image has pages =
@@ -75,6 +85,5 @@ pub local-verify : (here : Resources) (m rest : State) (v : ℕ) → HasSlot her
 local-verify here m rest v has each = local-next here m rest (Verify v)
     (rw (slot-merged here m rest v has) refl)
     (λ served.
-    ap (λ (there : Slot). verified (merged here m rest) v (first_failing (is_approved (merged here m rest) v) there.images)) (slot-merged here m rest v has)
-    ∙ ap (verified (merged here m rest) v) (first-merged here m rest v (slot_at m v).images has (each served))
-    ∙ verified-merged here m rest v (first_failing (is_approved m v) (slot_at m v).images) has (each served))
+    ap (verified (merged here m rest) v) (unapproved-same (merged here m rest) m v (boots-alike here m rest v has (each served)))
+    ∙ verified-merged here m rest v (unapproved m v) has (each served))

@@ -9,7 +9,7 @@ use Rattle.kc_types.specs.declared.call.Call.TheVariants.{Take, HostRead, Verify
 use Rattle.kc_types.specs.declared.refusal.Refusal.{Refusal}
 use Rattle.kc_model.specs.State.{State, frame_at, mapped_at, slot_at}
 use Rattle.kc_model.specs.Refusals.{refusal}
-use Rattle.kc_model.specs.Effects.{effect, host_takes, verified, guest_read, guest_written, first_failing, is_approved}
+use Rattle.kc_model.specs.Effects.{effect, host_takes, verified, guest_read, guest_written, unapproved}
 use Rattle.kc_model.specs.Next.{next, unless_refused}
 use Rattle.kc_model.proofs.Refusals.Served.{host_access-served}
 use Rattle.kc_model.proofs.Lawful.GuestCalls.{guest_access-served}
@@ -39,7 +39,7 @@ bytes-read m v c g off len (Some f) few = bytes-range (frame_at m f).bytes off l
 bytes-effect : (m : State) (call : Call) → refusal m call ≡ None → bytes_in (effect m call).0 ≤ most_reply_bytes call
 bytes-effect m Take h = none-taken m m.free
 bytes-effect m (HostRead f off len) h = let served = host_access-served m f off len h in let within = served.within in bytes-range (frame_at m f).bytes off len (omega arith)
-bytes-effect m (Verify v) h = none-verified m v (first_failing (is_approved m v) (slot_at m v).images)
+bytes-effect m (Verify v) h = none-verified m v (unapproved m v)
 bytes-effect m (GuestRead v c g off len) h = let served = guest_access-served m v c g off len h in let within = served.1 in bytes-read m v c g off len (mapped_at m v g) (omega arith)
 bytes-effect m (GuestWrite v c g off bytes) h = none-written m v c g off bytes (mapped_at m v g)
 bytes-effect m _ h = omega arith

@@ -11,7 +11,7 @@ use Rattle.kc_types.specs.declared.owner.Owner.TheVariants.{Core, Host, Free, Vm
 use Rattle.kc_types.specs.Slots.{slot_of}
 use Rattle.kc_model.specs.State.{State, Frame, Image, Slot, frame_at, slot_at, mapped_at, untouched, no_slot}
 use Rattle.kc_model.specs.Refusals.{refusal, backing, conditions, next_gfn, pending}
-use Rattle.kc_model.specs.Effects.{effect, host_takes, hand, freed, guest_read, guest_written, trimmed, all_trimmed, verified, first_failing, is_approved, frames_under, changed_each, granted, revoked}
+use Rattle.kc_model.specs.Effects.{effect, host_takes, hand, freed, guest_read, guest_written, trimmed, all_trimmed, verified, unapproved, frames_under, changed_each, granted, revoked}
 use Rattle.kc_model.specs.Next.{next, unless_refused}
 use Rattle.kc_model.specs.Lawful.{IsLawful}
 use Rattle.kc_model.specs.Passing.{IsLeftAlone, LeavesAlone, CountsAll, IsPassedOn}
@@ -110,7 +110,7 @@ left-effect m (Remap w i k) v is served others =
     let ne : v ≡ w → ⊥ = λ e. others (ap Some (sym e)) in
     let host = was-host m k (none-of (conditions m (Remap w i k)) served 6) in
     one m _ v (slot-elsewhere (hand m w (next_gfn m w i) k) w _ v ne ∙ slot-elsewhere m w _ v ne) (λ f mine private. changed-other m k _ f (not-host m v f k mine host))
-left-effect m (Verify w) v is served others = verifies m w (first_failing (is_approved m w) (slot_at m w).images) v is served (λ e. others (ap Some e)) (λ e. others (ap Some (sym e)))
+left-effect m (Verify w) v is served others = verifies m w (unapproved m w) v is served (λ e. others (ap Some e)) (λ e. others (ap Some (sym e)))
 left-effect m (Map w c k) v is served others =
     let ne : v ≡ w → ⊥ = λ e. others (ap Some (sym e)) in
     let host = was-host m k (none-of (conditions m (Map w c k)) served 8) in

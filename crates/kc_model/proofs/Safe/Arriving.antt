@@ -9,7 +9,7 @@ use Rattle.kc_types.specs.declared.refusal.Refusal.{Refusal}
 use Rattle.kc_types.specs.declared.slot.Phase.TheVariants.{Booting}
 use Rattle.kc_model.specs.State.{State, Slot, slot_at, vcpu_at, mapped_at, no_slot, empty_slot}
 use Rattle.kc_model.specs.Refusals.{refusal, conditions, next_gfn, pending}
-use Rattle.kc_model.specs.Effects.{effect, hand, first_failing, is_approved}
+use Rattle.kc_model.specs.Effects.{effect, hand, unapproved}
 use Rattle.kc_model.specs.Next.{next, unless_refused}
 use Rattle.kc_model.specs.Lawful.{IsLawful}
 use Rattle.kc_model.specs.Arriving.{ArrivesAwaited, IsArrived}
@@ -75,7 +75,7 @@ arrives-effect m (Remap w i k) is served v g f free mapped =
     let seen = remap-served m w i k served in
     let come = appears m w (next_gfn m w i) k v g f (rw is.slots seen.vm) free (sym (same-entry (hand m w (next_gfn m w i) k) w _ v g refl) ∙ mapped) in
     (come.0, come.1, subst (λ x. (slot_at m x).phase ≡ Booting) come.0 seen.booting, come.2 ∙ ap (λ x. next_gfn m x i) come.0)
-arrives-effect m (Verify w) is served v g f free mapped = absent _ f (verifies m w (first_failing (is_approved m w) (slot_at m w).images) v g ∙ free) mapped
+arrives-effect m (Verify w) is served v g f free mapped = absent _ f (verifies m w (unapproved m w) v g ∙ free) mapped
 arrives-effect m (Map w c k) is served v g f free mapped =
     let seen = map-served m w c k served in
     let come = appears m w (pending m w c) k v g f (rw is.slots seen.vm) free (sym (same-entry (hand m w (pending m w c) k) w _ v g refl) ∙ mapped) in

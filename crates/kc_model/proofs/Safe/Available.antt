@@ -12,7 +12,7 @@ use Rattle.kc_types.specs.declared.slot.Phase.{Phase}
 use Rattle.kc_types.specs.declared.slot.Phase.TheVariants.{Empty, Booting, Active, Dead}
 use Rattle.kc_model.specs.State.{State, Slot, slot_at, vcpu_at, mapped_at, with_slot, no_slot, empty_slot}
 use Rattle.kc_model.specs.Refusals.{refusal, first_of_these, guest_access, next_gfn, pending, is_active, is_empty}
-use Rattle.kc_model.specs.Effects.{effect, host_takes, hand, guest_read, guest_written, verified, all_trimmed, first_failing, is_approved}
+use Rattle.kc_model.specs.Effects.{effect, host_takes, hand, guest_read, guest_written, verified, all_trimmed, unapproved}
 use Rattle.kc_model.specs.Next.{next, unless_refused}
 use Rattle.kc_model.specs.Lawful.{IsLawful}
 use Rattle.kc_model.specs.Availability.{MayAccess, ServesAlways, KeepsPages, takes_page, IsAvailable}
@@ -140,7 +140,7 @@ keeps-effect m (Remap w i k) v g f is served mapped kept =
     let unheld = next-held m.config.version (slot_at m w).images i (record { base = 0; len = 0; pages = 0 }) (next_gfn m w i) there.apart there.each_image seen.image refl seen.short in
     let free : mapped_at m w (next_gfn m w i) ≡ None = is_none-of (mapped_at m w (next_gfn m w i)) (there.booting seen.booting (next_gfn m w i) ∙ unheld) in
     same-entry (hand m w (next_gfn m w i) k) w _ v g refl ∙ hands m w (next_gfn m w i) k v g f free mapped
-keeps-effect m (Verify w) v g f is served mapped kept = verifies m w (first_failing (is_approved m w) (slot_at m w).images) v g ∙ mapped
+keeps-effect m (Verify w) v g f is served mapped kept = verifies m w (unapproved m w) v g ∙ mapped
 keeps-effect m (Map w c k) v g f is served mapped kept = same-entry (hand m w (pending m w c) k) w _ v g refl ∙ hands m w (pending m w c) k v g f (map-served m w c k served).unmapped mapped
 keeps-effect m (GuestRead w c h off len) v g f is served mapped kept = reads m w c h off len (mapped_at m w h) v g ∙ mapped
 keeps-effect m (GuestWrite w c h off bytes) v g f is served mapped kept = writes m w c h off bytes (mapped_at m w h) v g ∙ mapped

@@ -1,14 +1,13 @@
 -- A slot that becomes active was measured.
 use Rattle.std.proofs.Common.{ℕ, ◌≡◌, ◌⊎◌, inl, inr, zero, suc, ◌&&◌, cond, ◌+◌, Bool, true, false, List, [], ◌∷◌, get_or, set, refl, sym, ap, subst, ◌∙◌, Option, None, Some, get_or-set_other}
 use Rattle.std.proofs.lemmas.Bool.{cases_eq}
-use Rattle.std.specs.List.{list_all}
-use Rattle.std.specs.Option.{option_map}
 use Rattle.kc_types.specs.declared.call.Call.TheVariants.{RegisterVm, Verify, Clear}
 use Rattle.kc_types.specs.declared.reply.Reply.{Reply}
 use Rattle.kc_types.specs.declared.reply.Reply.TheVariants as reply
 use Rattle.kc_types.specs.declared.refusal.Refusal.{Refusal}
 use Rattle.kc_model.specs.Refusals.{refusal}
-use Rattle.kc_model.specs.Effects.{effect, verified, all_trimmed, is_approved, first_failing}
+use Rattle.kc_model.specs.Effects.{effect, verified, all_trimmed, unapproved}
+use Rattle.kc_model.proofs.States.Approvals.{boot-approved}
 use Rattle.kc_model.proofs.States.Phases.{phase-effect}
 use Rattle.kc_model.proofs.Lawful.Verifies.{slots-trimmed}
 use Rattle.kc_types.specs.declared.call.Call.{Call}
@@ -36,23 +35,10 @@ written-active m w slot v active = elim (cases_eq v w) [
 Becomes : ℕ → State → Call → Reply → Type 0
 Becomes v m call answer = ((Clears v call answer → ⊥) × IsActive m v) ⊎ Measures v m call answer
 
-pass_rest : {X : Type 0} (p : X → Bool) (xs : List X) (rest : Option ℕ) → first_failing p xs ≡ rest → option_map (λ place. place + 1) rest ≡ None → first_failing p xs ≡ None
-pass_rest p xs None is e = is
-pass_rest p xs (Some i) is e = cc
-
-pass_first : {X : Type 0} (p : X → Bool) (b : Bool) (xs : List X) → (first_failing p xs ≡ None → list_all p xs ≡ true) → cond b (option_map (λ place. place + 1) (first_failing p xs)) (Some 0) ≡ None → (b && list_all p xs) ≡ true
-pass_first p true xs rest e = rest (pass_rest p xs (first_failing p xs) refl e)
-pass_first p false xs rest e = cc
-
--- if none fails, all pass
-all_pass : {X : Type 0} (p : X → Bool) (xs : List X) → first_failing p xs ≡ None → list_all p xs ≡ true
-all_pass p [] e = refl
-all_pass p (x ∷ xs) e = pass_first p (p x) xs (all_pass p xs) e
-
-verifies-active : (v : ℕ) (m : State) (w : ℕ) (first : Option ℕ) → first_failing (is_approved m w) (slot_at m w).images ≡ first → IsActive (verified m w first).1 v → Becomes v m (Verify w) (verified m w first).0
+verifies-active : (v : ℕ) (m : State) (w : ℕ) (first : Option ℕ) → unapproved m w ≡ first → IsActive (verified m w first).1 v → Becomes v m (Verify w) (verified m w first).0
 unfolding Becomes
 verifies-active v m w None e active = elim (written-active (all_trimmed m w (slot_at m w).images) w _ v active) [
-  | inl set ↦ inr (sym set.0, rw set.0 (all_pass (is_approved m w) (slot_at m w).images e))
+  | inl set ↦ inr (sym set.0, rw set.0 (boot-approved m w e))
   | inr other ↦ inl (λ h. h, subst (λ (slots : List Slot). (get_or slots v no_slot).phase ≡ Active) (slots-trimmed m w (slot_at m w).images) other.1)
 ]
 verifies-active v m w (Some i) e active = elim (written-active m w _ v active) [

@@ -9,7 +9,7 @@ use Rattle.kc_types.specs.declared.refusal.Refusal.{Refusal}
 use Rattle.kc_types.specs.declared.owner.Owner.TheVariants.{Core, Host, Free, Vm}
 use Rattle.kc_model.specs.State.{State, Frame, Image, frame_at, slot_at, mapped_at, with_frame, untouched, zero_page}
 use Rattle.kc_model.specs.Refusals.{refusal, backing, conditions, next_gfn, pending}
-use Rattle.kc_model.specs.Effects.{effect, host_takes, hand, guest_read, guest_written, trimmed, all_trimmed, verified, first_failing, is_approved, frames_under, granted, revoked, cleared}
+use Rattle.kc_model.specs.Effects.{effect, host_takes, hand, guest_read, guest_written, trimmed, all_trimmed, verified, unapproved, frames_under, granted, revoked, cleared}
 use Rattle.kc_model.specs.Next.{next, unless_refused}
 use Rattle.kc_model.specs.Lawful.{IsLawful}
 use Rattle.kc_model.specs.Safety.{EachStep}
@@ -74,7 +74,7 @@ passes-effect m (Give k) is served f =
 passes-effect m (HostFault k) is served f = inl (part-set (λ (x : Frame). x.owner) m.frames k _ (untouched Core) refl f)
 passes-effect m (HostWrite k off bytes) is served f = inl (part-set (λ (x : Frame). x.owner) m.frames k _ (untouched Core) refl f)
 passes-effect m (Remap v i k) is served f = handed m v (next_gfn m v i) k (was-host m k (none-of (conditions m (Remap v i k)) served 6)) f
-passes-effect m (Verify v) is served f = verifies m v (first_failing (is_approved m v) (slot_at m v).images) f
+passes-effect m (Verify v) is served f = verifies m v (unapproved m v) f
 passes-effect m (Map v c k) is served f = handed m v (pending m v c) k (was-host m k (none-of (conditions m (Map v c k)) served 8)) f
 passes-effect m (GuestRead v c g off len) is served f = reads m v c g off len (mapped_at m v g) f
 passes-effect m (GuestWrite v c g off bytes) is served f = writes m v c g off bytes (mapped_at m v g) f

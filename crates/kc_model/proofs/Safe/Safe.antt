@@ -10,7 +10,7 @@ use Rattle.kc_types.specs.declared.refusal.Refusal.{Refusal}
 use Rattle.kc_types.specs.declared.owner.Owner.TheVariants.{Core, Host, Vm}
 use Rattle.kc_model.specs.State.{State, Frame, Image, frame_at, slot_at, mapped_at, with_frame, untouched}
 use Rattle.kc_model.specs.Refusals.{refusal, backing, conditions}
-use Rattle.kc_model.specs.Effects.{effect, host_takes, guest_read, guest_written, trimmed, all_trimmed, verified, first_failing, is_approved, frames_under, granted, revoked}
+use Rattle.kc_model.specs.Effects.{effect, host_takes, guest_read, guest_written, trimmed, all_trimmed, verified, unapproved, frames_under, granted, revoked}
 use Rattle.kc_model.specs.Next.{next, unless_refused}
 use Rattle.kc_model.specs.Lawful.{IsLawful}
 use Rattle.kc_model.specs.Safety.{EachStep, KeepsOneOwner, ServesOpenFrames, KeepsPrivateBytes, IsOpen, IsSafe}
@@ -108,7 +108,7 @@ keeps-effect m (HostWrite g off bytes) is served v f owned private others = byte
   | inr shared ↦ let h : 0 < (frame_at m f).share = rw same shared in omega (arith, private)
 ])
 keeps-effect m (Remap w i g) is served v f owned private others = part-set (λ (x : Frame). x.bytes) m.frames g _ (untouched Core) refl f
-keeps-effect m (Verify w) is served v f owned private others = verifies-bytes m w (first_failing (is_approved m w) (slot_at m w).images) v f is served owned others
+keeps-effect m (Verify w) is served v f owned private others = verifies-bytes m w (unapproved m w) v f is served owned others
 keeps-effect m (Map w c g) is served v f owned private others = part-set (λ (x : Frame). x.bytes) m.frames g _ (untouched Core) refl f
 keeps-effect m (GuestRead w c g off len) is served v f owned private others = reads-bytes m w c g off len (mapped_at m w g) f
 keeps-effect m (GuestWrite w c g off bytes) is served v f owned private others = writes-bytes m w c g off bytes (mapped_at m w g) v f is (guest_access-served m w c g off (length bytes) served).0.vm refl owned others

@@ -13,7 +13,7 @@ use Rattle.kc_types.specs.declared.refusal.Refusal.{Refusal}
 use Rattle.kc_types.specs.declared.owner.Owner.TheVariants.{Core, Host, Vm}
 use Rattle.kc_model.specs.State.{State, Frame, Slot, Image, frame_at, slot_at, mapped_at, untouched}
 use Rattle.kc_model.specs.Refusals.{refusal, backing, conditions}
-use Rattle.kc_model.specs.Effects.{effect, host_takes, guest_read, guest_written, trimmed, all_trimmed, verified, first_failing, is_approved, frames_under, changed_each, with_each, granted, revoked}
+use Rattle.kc_model.specs.Effects.{effect, host_takes, guest_read, guest_written, trimmed, all_trimmed, verified, unapproved, frames_under, changed_each, with_each, granted, revoked}
 use Rattle.kc_model.specs.Next.{next, unless_refused}
 use Rattle.kc_model.specs.Lawful.{IsLawful, is_vm}
 use Rattle.kc_model.specs.Sharing.{is_within, CountsGrants, ComesUnshared, IsShared}
@@ -121,7 +121,7 @@ counts-effect m (RegisterVm w) is served v g f mapped stays = refl
 counts-effect m (RegisterVcpu w c) is served v g f mapped stays = refl
 counts-effect m (SetBoot w base len) is served v g f mapped stays = refl
 counts-effect m (Remap w i k) is served v g f mapped stays = part-set (λ (x : Frame). x.share) m.frames k _ (untouched Core) refl f
-counts-effect m (Verify w) is served v g f mapped stays = verifies-share m w (first_failing (is_approved m w) (slot_at m w).images) f
+counts-effect m (Verify w) is served v g f mapped stays = verifies-share m w (unapproved m w) f
 counts-effect m (Map w c k) is served v g f mapped stays = part-set (λ (x : Frame). x.share) m.frames k _ (untouched Core) refl f
 counts-effect m (GuestRead w c h off len) is served v g f mapped stays = reads-share m w c h off len (mapped_at m w h) f
 counts-effect m (GuestWrite w c h off bytes) is served v g f mapped stays = writes-share m w c h off bytes (mapped_at m w h) f
@@ -186,7 +186,7 @@ comes-effect m (RegisterVm w) is served v f host now = hosts m f is host
 comes-effect m (RegisterVcpu w c) is served v f host now = hosts m f is host
 comes-effect m (SetBoot w base len) is served v f host now = hosts m f is host
 comes-effect m (Remap w i k) is served v f host now = part-set (λ (x : Frame). x.share) m.frames k _ (untouched Core) refl f ∙ hosts m f is host
-comes-effect m (Verify w) is served v f host now = verifies-share m w (first_failing (is_approved m w) (slot_at m w).images) f ∙ hosts m f is host
+comes-effect m (Verify w) is served v f host now = verifies-share m w (unapproved m w) f ∙ hosts m f is host
 comes-effect m (Map w c k) is served v f host now = part-set (λ (x : Frame). x.share) m.frames k _ (untouched Core) refl f ∙ hosts m f is host
 comes-effect m (GuestRead w c h off len) is served v f host now = reads-share m w c h off len (mapped_at m w h) f ∙ hosts m f is host
 comes-effect m (GuestWrite w c h off bytes) is served v f host now = writes-share m w c h off bytes (mapped_at m w h) f ∙ hosts m f is host

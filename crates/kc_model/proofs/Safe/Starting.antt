@@ -1,10 +1,9 @@
 -- A slot that becomes active runs what was measured.
 use Rattle.std.proofs.Common.{ℕ, zero, suc, ◌≡◌, ◌<◌, ◌-◌, ◌*◌, inl, inr, Bool, true, List, [], ◌∷◌, ◌++◌, length, take, replicate, get_or, is_some, refl, sym, ap, subst, ◌∙◌, arith, Option, None, Some, All}
-use Rattle.std.specs.List.{list_any, list_all, flat_map}
+use Rattle.std.specs.List.{list_any, flat_map}
 use Rattle.kc_types.specs.Configuration.{Configuration}
 use Rattle.std.specs.FinMap as map
 use Rattle.std.specs.Ordering.{nat_cmp}
-use Rattle.sha2.specs.Sha256.{sha256}
 use Rattle.kc_types.specs.declared.call.Call.{Call}
 use Rattle.kc_types.specs.declared.call.Call.TheVariants.{Verify}
 use Rattle.kc_types.specs.declared.reply.Reply.{Reply}
@@ -13,11 +12,12 @@ use Rattle.kc_types.specs.declared.refusal.Refusal.{Refusal}
 use Rattle.kc_types.specs.declared.slot.Phase.TheVariants.{Active}
 use Rattle.kc_model.specs.State.{State, Slot, Image, frame_at, slot_at, no_slot}
 use Rattle.kc_model.specs.Refusals.{refusal, backing, is_short, pages_of}
-use Rattle.kc_model.specs.Effects.{trimmed, all_trimmed, verified, with_phase, first_failing, is_approved, same_bytes, image_bytes, bytes_at, gfns_of}
+use Rattle.kc_model.specs.Effects.{trimmed, all_trimmed, verified, with_phase, unapproved, is_boot_approved, image_bytes, bytes_at, gfns_of}
 use Rattle.kc_model.specs.Next.{next, unless_refused}
 use Rattle.kc_model.specs.Lawful.{IsLawful, holds}
 use Rattle.kc_model.specs.Safety.{Measures}
 use Rattle.kc_model.specs.Starting.{IsPadded, IsItsImages, StartsMeasured, IsStarted}
+use Rattle.kc_model.proofs.States.Approvals.{BootsAlike, boot-same}
 use Rattle.kc_model.proofs.States.Changes.{slot-here}
 use Rattle.kc_model.proofs.Lawful.Verifies.{verify-served, slots-trimmed}
 use Rattle.kc_model.proofs.Local.VerifyLocal.{pages-same}
@@ -29,12 +29,8 @@ config-trimmed : (m : State) (v : ℕ) (images : List Image) → (all_trimmed m 
 config-trimmed m v [] = refl
 config-trimmed m v (image ∷ images) = config-trimmed (trimmed m v image) v images
 
-list_all-same : {X : Type 0} (p q : X → Bool) (xs : List X) → ((i : ℕ) (d : X) → i < length xs → p (get_or xs i d) ≡ q (get_or xs i d)) → list_all p xs ≡ list_all q xs
-list_all-same p q [] same = refl
-list_all-same p q (x ∷ xs) same = let here : p x ≡ q x = same zero x (omega arith) in rw (here, list_all-same p q xs (λ i d lt. same (suc i) d (omega arith))) refl
-
 -- what the slot's activation leaves
-starts-verified : (m : State) (v : ℕ) → IsLawful m → refusal m (Verify v) ≡ None → list_all (is_approved m v) (slot_at m v).images ≡ true → IsItsImages (with_phase (all_trimmed m v (slot_at m v).images) v Active) v
+starts-verified : (m : State) (v : ℕ) → IsLawful m → refusal m (Verify v) ≡ None → is_boot_approved m v ≡ true → IsItsImages (with_phase (all_trimmed m v (slot_at m v).images) v Active) v
 starts-verified m v is served approved =
     let seen = verify-served m v served in
     let images = (slot_at m v).images in
@@ -52,13 +48,16 @@ starts-verified m v is served approved =
     let same-padded : (y : Image) → flat_map (bytes_at new v) (gfns_of y) ≡ flat_map (bytes_at n v) (gfns_of y) → IsPadded n v y → IsPadded new v y =
     λ y same. subst (λ l. l ≡ take y.len l ++ replicate (4096 * pages_of y.len - y.len) 0) (sym same) in
     let bytes : (y : Image) → image_bytes new v y ≡ image_bytes n v y = λ y. ap (take y.len) (pages y) in
-    let one_of : (i : ℕ) (d : Image) → i < length images → is_approved new v (get_or images i d) ≡ is_approved m v (get_or images i d) = λ i d lt.
-    ap (λ content. list_any (λ digest. same_bytes digest (sha256 content)) n.config.approved) (bytes (get_or images i d) ∙ in-place m v is served i d lt)
-    ∙ ap (λ (c : Configuration). list_any (λ digest. same_bytes digest (sha256 (image_bytes m v (get_or images i d)))) c.approved) (config-trimmed m v images) in
+    let alike : BootsAlike new m v = record {
+      version = ap (λ (c : Configuration). c.version) (config-trimmed m v images);
+      approved = ap (λ (c : Configuration). c.approved) (config-trimmed m v images);
+      images = images_now;
+      bytes = subst (λ (l : List Image). (i : ℕ) (d : Image) → i < length l → image_bytes new v (get_or l i d) ≡ image_bytes m v (get_or l i d)) (sym images_now) (λ i d lt. bytes (get_or images i d) ∙ in-place m v is served i d lt);
+    } in
     record {
       whole = ap (list_any is_short) images_now ∙ seen.2;
       only = λ g. ap (λ (t : map.FinMap nat_cmp ℕ). is_some (map.get t g)) (table ∙ ap (λ (x : Slot). x.mapped) was) ∙ there.booting seen.1 g ∙ ap (list_any (holds g)) (sym images_now);
-      approved = ap (list_all (is_approved new v)) images_now ∙ list_all-same (is_approved new v) (is_approved m v) images one_of ∙ approved;
+      approved = boot-same new m v alike ∙ approved;
       padded = subst (All (IsPadded new v)) (sym images_now) (λ i d lt. same-padded (get_or images i d) (pages (get_or images i d)) (padded m v is served i d lt));
     }
 
@@ -66,22 +65,22 @@ IsDone : Reply → Type 0
 IsDone reply.Done = Unit {0}
 IsDone _ = ⊥
 
-found : (v : ℕ) (m : State) (call : Call) (answer : Reply) → Measures v m call answer → (call ≡ Verify v) × IsDone answer × (list_all (is_approved m v) (slot_at m v).images ≡ true)
+found : (v : ℕ) (m : State) (call : Call) (answer : Reply) → Measures v m call answer → (call ≡ Verify v) × IsDone answer × (is_boot_approved m v ≡ true)
 unfolding IsDone
 found v m (Verify w) reply.Done measures = (ap Verify measures.0, tt, measures.1)
 found v m _ _ measures = absurd measures
 
-starts-first : (m : State) (v : ℕ) (first : Option ℕ) → IsLawful m → refusal m (Verify v) ≡ None → list_all (is_approved m v) (slot_at m v).images ≡ true → IsDone (verified m v first).0 → IsItsImages (verified m v first).1 v
+starts-first : (m : State) (v : ℕ) (first : Option ℕ) → IsLawful m → refusal m (Verify v) ≡ None → is_boot_approved m v ≡ true → IsDone (verified m v first).0 → IsItsImages (verified m v first).1 v
 unfolding IsDone
 starts-first m v None is served approved done = starts-verified m v is served approved
 starts-first m v (Some i) is served approved done = absurd done
 
-starts-unless : (refused : Option Refusal) (m : State) (v : ℕ) → IsLawful m → refusal m (Verify v) ≡ refused → list_all (is_approved m v) (slot_at m v).images ≡ true → IsDone (unless_refused refused m (Verify v)).0 → IsItsImages (unless_refused refused m (Verify v)).1 v
+starts-unless : (refused : Option Refusal) (m : State) (v : ℕ) → IsLawful m → refusal m (Verify v) ≡ refused → is_boot_approved m v ≡ true → IsDone (unless_refused refused m (Verify v)).0 → IsItsImages (unless_refused refused m (Verify v)).1 v
 unfolding IsDone
-starts-unless None m v is served approved done = starts-first m v (first_failing (is_approved m v) (slot_at m v).images) is served approved done
+starts-unless None m v is served approved done = starts-first m v (unapproved m v) is served approved done
 starts-unless (Some r) m v is served approved done = absurd done
 
-starts-next : (m : State) (v : ℕ) → IsLawful m → list_all (is_approved m v) (slot_at m v).images ≡ true → IsDone (next m (Verify v)).0 → IsItsImages (next m (Verify v)).1 v
+starts-next : (m : State) (v : ℕ) → IsLawful m → is_boot_approved m v ≡ true → IsDone (next m (Verify v)).0 → IsItsImages (next m (Verify v)).1 v
 unfolding next
 starts-next m v is approved done = starts-unless (refusal m (Verify v)) m v is refl approved done
 

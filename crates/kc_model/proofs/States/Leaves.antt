@@ -7,7 +7,7 @@ use Rattle.std.proofs.lemmas.List.Folds.{list_any-append}
 use Rattle.std.specs.List.{list_any}
 use Rattle.kc_types.specs.Configuration.{gfns_of, roots_of}
 use Rattle.kc_types.specs.declared.version.Version.{Version}
-use Rattle.kc_types.specs.declared.version.Version.TheVariants.{One, Two}
+use Rattle.kc_types.specs.declared.version.Version.TheVariants.{One, Two, Three}
 use Rattle.kc_model.specs.Effects.{with_leaf}
 use Rattle.kc_model.specs.Lawful.{has_leaf, times_in}
 use Rattle.kc_model.proofs.States.Lists.{times_in-push}
@@ -33,6 +33,7 @@ only roots x h (suc k) d lt = absurd (omega arith)
 pub root-in : (version : Version) (g : ℕ) → g < gfns_of version → g / 512 < roots_of version
 root-in One g h = omega (arith, h)
 root-in Two g h = omega (arith, h)
+root-in Three g h = omega (arith, h)
 
 grown-by : (b : Bool) (roots limit : ℕ) (leaves : List ℕ) (g : ℕ) → has_leaf leaves g ≡ b → (b ≡ true) ⊎ (length leaves < limit) → g / 512 < roots → length leaves ≤ limit → ((root : ℕ) → times_in leaves root ≤ 1) → All (λ root. root < roots) leaves → IsGrown roots limit leaves g (cond b leaves (leaves ++ g / 512 ∷ []))
 grown-by true roots limit leaves g is room within few once each = record { few = few; once = once; each = each; here = is; kept = λ h e. e }

@@ -4,7 +4,7 @@ use Rattle.kc_types.specs.declared.call.Call.{Call}
 use Rattle.kc_types.specs.declared.call.Call.TheVariants.{Take, RegisterVm, RegisterVcpu, SetBoot, Remap, Verify, Map, GuestRead, GuestWrite, Drop, Clear}
 use Rattle.kc_model.specs.State.{State, Slot, slot_at, mapped_at, with_slot, no_slot, empty_slot}
 use Rattle.kc_model.specs.Refusals.{backing, next_gfn, pending}
-use Rattle.kc_model.specs.Effects.{effect, host_takes, hand, freed, guest_read, guest_written, verified, all_trimmed, first_failing, is_approved}
+use Rattle.kc_model.specs.Effects.{effect, host_takes, hand, freed, guest_read, guest_written, verified, all_trimmed, unapproved}
 use Rattle.kc_model.proofs.States.Frames.{part-set}
 use Rattle.kc_model.proofs.Lawful.Verifies.{slots-trimmed}
 
@@ -46,7 +46,7 @@ phase-effect m (RegisterVm w) v other = phase-elsewhere m w _ v (λ e. other (ap
 phase-effect m (RegisterVcpu w c) v other = phase-kept m w _ v refl
 phase-effect m (SetBoot w base len) v other = phase-kept m w _ v refl
 phase-effect m (Remap w i f) v other = phase-kept (hand m w (next_gfn m w i) f) w _ v refl ∙ phase-kept m w _ v refl
-phase-effect m (Verify w) v other = verifies m w (first_failing (is_approved m w) (slot_at m w).images) v (λ e. other (ap Some (sym e)))
+phase-effect m (Verify w) v other = verifies m w (unapproved m w) v (λ e. other (ap Some (sym e)))
 phase-effect m (Map w c f) v other = phase-kept (hand m w (pending m w c) f) w _ v refl ∙ phase-kept m w _ v refl
 phase-effect m (GuestRead w c g off len) v other = reads m w c g off len (mapped_at m w g) v
 phase-effect m (GuestWrite w c g off bytes) v other = writes m w c g off bytes (mapped_at m w g) v

@@ -7,7 +7,7 @@ use Rattle.kc_types.specs.declared.refusal.Refusal.{Refusal}
 use Rattle.kc_types.specs.declared.owner.Owner.TheVariants.{Free}
 use Rattle.kc_model.specs.State.{State, Frame, Slot, Image, mapped_at, slot_at, untouched}
 use Rattle.kc_model.specs.Refusals.{refusal}
-use Rattle.kc_model.specs.Effects.{effect, host_takes, guest_read, guest_written, verified, all_trimmed, trimmed, scrubbed, granted, revoked, frames_under, with_each, first_failing, is_approved}
+use Rattle.kc_model.specs.Effects.{effect, host_takes, guest_read, guest_written, verified, all_trimmed, trimmed, scrubbed, granted, revoked, frames_under, with_each, unapproved}
 use Rattle.kc_model.specs.Next.{next, unless_refused, state_after}
 use Rattle.kc_model.specs.Local.{IsSameSize}
 use Rattle.kc_model.proofs.States.Each.{length-changed}
@@ -67,7 +67,7 @@ sized-effect m (RegisterVm v) = sized-slot m v _
 sized-effect m (RegisterVcpu v c) = sized-slot m v _
 sized-effect m (SetBoot v base len) = sized-slot m v _
 sized-effect m (Remap v i f) = sized-twice m f v _ _ _
-sized-effect m (Verify v) = sized-verified m v (first_failing (is_approved m v) (slot_at m v).images)
+sized-effect m (Verify v) = sized-verified m v (unapproved m v)
 sized-effect m (Map v c f) = sized-twice m f v _ _ _
 sized-effect m (GuestRead v c g off len) = sized-guest_read m v c g off len (mapped_at m v g)
 sized-effect m (GuestWrite v c g off bytes) = sized-guest_written m v c g off bytes (mapped_at m v g)

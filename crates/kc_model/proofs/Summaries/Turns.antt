@@ -10,7 +10,7 @@ use Rattle.kc_types.specs.declared.reply.Reply.{Reply}
 use Rattle.kc_model.specs.State.{State, Slot, slot_at, with_slot, no_slot, empty_slot}
 use Rattle.kc_model.specs.Slot.{in_phase}
 use Rattle.kc_model.specs.Refusals.{refusal, conditions}
-use Rattle.kc_model.specs.Effects.{effect, verified, all_trimmed, first_failing, is_approved}
+use Rattle.kc_model.specs.Effects.{effect, verified, all_trimmed, unapproved}
 use Rattle.kc_model.specs.Next.{next, unless_refused}
 use Rattle.kc_model.specs.Lawful.{IsLawful}
 use Rattle.kc_model.specs.Safety.{Clears}
@@ -69,7 +69,7 @@ turns-clear v m w is served =
 
 turns-effect : (v : ℕ) (m : State) (call : Call) → IsLawful m → refusal m call ≡ None → Turns v m call (effect m call).0 (effect m call).1
 turns-effect v m (RegisterVm w) is served = turns-register v m w is served
-turns-effect v m (Verify w) is served = turns-verify v m w (first_failing (is_approved m w) (slot_at m w).images) (rw is.slots (verify-served m w served).0) (verify-served m w served).1
+turns-effect v m (Verify w) is served = turns-verify v m w (unapproved m w) (rw is.slots (verify-served m w served).0) (verify-served m w served).1
 turns-effect v m (Clear w) is served = turns-clear v m w is served
 turns-effect v m call is served = stays (phase-effect m call v (λ e. cc))
 

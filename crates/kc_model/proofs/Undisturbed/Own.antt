@@ -17,17 +17,18 @@ use Rattle.kc_types.specs.declared.owner.Owner.TheVariants as owner
 use Rattle.kc_model.specs.State.{State, Frame, Slot, SlotOf, Image, frame_at, slot_at, mapped_at, with_frame, with_slot, no_slot, empty_slot, overwritten, untouched}
 use Rattle.kc_model.specs.Slot.{in_phase, awaiting, with_image, with_vcpu}
 use Rattle.kc_model.specs.Refusals.{refusal, backing, is_short, pages_of}
-use Rattle.kc_model.specs.Effects.{Outcome, effect, guest_read, guest_written, granted, revoked, with_each, trimmed, all_trimmed, verified, first_failing, is_approved, image_bytes, bytes_at, same_bytes, dropped, freed, cleared}
+use Rattle.kc_model.specs.Effects.{Outcome, effect, guest_read, guest_written, granted, revoked, with_each, trimmed, all_trimmed, verified, unapproved, image_bytes, bytes_at, dropped, freed, cleared}
 use Rattle.kc_model.specs.Lawful.{IsLawful, holds}
 use Rattle.kc_model.specs.Undisturbed.{Page, page_of, page_under, page_at, own_slot, HasTheSame, watched_reply}
 use Rattle.kc_model.proofs.States.Tables.{gone-here, gone-elsewhere}
+use Rattle.kc_model.proofs.States.Approvals.{unapproved-same}
 use Rattle.kc_model.proofs.States.Changes.{slot-here}
 use Rattle.kc_model.proofs.Lawful.GuestCalls.{guest_frame-served}
 use Rattle.kc_model.proofs.Lawful.RangeCalls.{guest_range-served}
 use Rattle.kc_model.proofs.Lawful.Verifies.{HasLastPage, last_gfn, each_last_page, verify-served, slots-trimmed, backing-of}
 use Rattle.kc_model.proofs.Local.VerifyLocal.{pages-same}
 use Rattle.kc_model.proofs.States.Slots.{none-at}
-use Rattle.kc_model.proofs.Views.Steps.{held, failing-same}
+use Rattle.kc_model.proofs.Views.Steps.{held}
 use Rattle.std.proofs.lemmas.List.Folds.{list_any_at}
 use Rattle.kc_model.proofs.Undisturbed.Pages.{HasFrames, frames-with, changed-same, slots-same, under-none, under-page, page-by, page-bytes, page-other}
 
@@ -194,12 +195,9 @@ module _ (s : ℕ → Bool) (v : ℕ) (m n : State) (same : HasTheSame s v m n) 
       let holds_it = held image g (none-at is_short (slot_at m v).images i d low full) from to in
       backing-of _ ((is.each_slot v within).booting booting g ∙ list_any_at (holds g) (slot_at m v).images i d low holds_it)
 
-  approved-same : ((g : ℕ) → s g ≡ true) → (image : Image) → ((g : ℕ) → image.base ≤ g → g < image.base + pages_of image.len → mapped_at m v g ≡ Some (backing (mapped_at m v g))) → is_approved m v image ≡ is_approved n v image
-  approved-same all image mapped =
-      let bytes : image_bytes m v image ≡ image_bytes n v image = ap (take image.len) (pages-same (bytes_at m v) (bytes_at n v) image.base (pages_of image.len) (λ g low high.
-      page-bytes s g (frame_at m (backing (mapped_at m v g))) (frame_at n (backing (mapped_at n v g))) (all g) (under-page s m.frames n.frames g (mapped_at m v g) (mapped_at n v g) (same.pages g) (ap is_none (mapped g low high))))) in
-      ap (λ content. list_any (λ digest. same_bytes digest (sha256 content)) m.config.approved) bytes
-      ∙ ap (λ digests. list_any (λ digest. same_bytes digest (sha256 (image_bytes n v image))) digests) same.approved
+  image-same : ((g : ℕ) → s g ≡ true) → (image : Image) → ((g : ℕ) → image.base ≤ g → g < image.base + pages_of image.len → mapped_at m v g ≡ Some (backing (mapped_at m v g))) → image_bytes m v image ≡ image_bytes n v image
+  image-same all image mapped = ap (take image.len) (pages-same (bytes_at m v) (bytes_at n v) image.base (pages_of image.len) (λ g low high.
+      page-bytes s g (frame_at m (backing (mapped_at m v g))) (frame_at n (backing (mapped_at n v g))) (all g) (under-page s m.frames n.frames g (mapped_at m v g) (mapped_at n v g) (same.pages g) (ap is_none (mapped g low high)))))
 
   images-same : (slot_at m v).images ≡ (slot_at n v).images
   images-same = ap (λ (x : SlotOf (Unit {0})). x.images) same.slot
@@ -217,6 +215,10 @@ module _ (s : ℕ → Bool) (v : ℕ) (m n : State) (same : HasTheSame s v m n) 
   pub own-verify : ((g : ℕ) → s g ≡ true) → IsLawful m → refusal m (Verify v) ≡ None → IsAlike s v (Verify v) (effect m (Verify v)) (effect n (Verify v))
   own-verify all is served =
       let seen = verify-served m v served in
-      let first = first_failing (is_approved m v) (slot_at m v).images in
-      let agreed : first ≡ first_failing (is_approved n v) (slot_at n v).images = failing-same (is_approved m v) (is_approved n v) (slot_at m v).images (λ i d low. approved-same all (get_or (slot_at m v).images i d) (image-mapped is seen.0 seen.1 seen.2 i d low)) ∙ ap (first_failing (is_approved n v)) images-same in
-      subst (λ f. IsAlike s v (Verify v) (verified m v first) (verified n v f)) agreed (verified-same is served first)
+      let agreed = unapproved-same m n v (record {
+        version = same-version m.config n.config same.slots;
+        approved = same.approved;
+        images = images-same;
+        bytes = λ i d low. image-same all (get_or (slot_at m v).images i d) (image-mapped is seen.0 seen.1 seen.2 i d low);
+      }) in
+      subst (λ f. IsAlike s v (Verify v) (verified m v (unapproved m v)) (verified n v f)) agreed (verified-same is served (unapproved m v))

@@ -17,15 +17,15 @@ use Rattle.kc_types.specs.declared.owner.Owner.TheVariants.{Core, Host, Free, Vm
 use Rattle.kc_types.specs.declared.slot.Phase.TheVariants.{Booting, Active, Dead}
 use Rattle.kc_types.specs.declared.custody.Custody.{Custody}
 use Rattle.std.specs.FinMap as map
-use Rattle.sha2.specs.Sha256.{sha256}
 use Rattle.kc_model.specs.Slot.{awaiting, in_phase, with_vcpu, with_image}
 use Rattle.kc_model.specs.State.{State, Frame, Slot, Image, frame_at, slot_at, mapped_at, image_at, with_frame, with_slot, untouched, zero_page, overwritten}
 use Rattle.kc_model.specs.Refusals.{refusal, is_active, backing, share_at, any_from, guest_frame, guest_range, first_of_these, when, next_gfn, pending, pages_of, is_short, conditions}
-use Rattle.kc_model.specs.Effects.{Outcome, effect, read, host_takes, hand, guest_read, guest_written, written, freed, without, with_leaf, same_bytes, granted, revoked, with_each, frames_under, dropped, cleared, trimmed, all_trimmed, verified, first_failing, is_approved, image_bytes, bytes_at}
+use Rattle.kc_model.specs.Effects.{Outcome, effect, read, host_takes, hand, guest_read, guest_written, written, freed, without, with_leaf, granted, revoked, with_each, frames_under, dropped, cleared, trimmed, all_trimmed, verified, unapproved, image_bytes, bytes_at}
 use Rattle.kc_model.specs.Next.{next, unless_refused}
 use Rattle.kc_model.specs.Lawful.{IsLawful, holds}
 use Rattle.kc_model.specs.Custody.{custody_of}
 use Rattle.kc_model.specs.Redaction.{keeps_images, AreAlike, is_read, redacted_reply}
+use Rattle.kc_model.proofs.States.Approvals.{unapproved-same}
 use Rattle.kc_model.proofs.Refusals.Served.{none-of}
 use Rattle.kc_model.proofs.Refusals.Answered.{vm-in, was-empty}
 use Rattle.kc_model.proofs.States.Each.{any-same, length-changed}
@@ -104,14 +104,6 @@ refusal-alike view m ys (GrantRange v c g n) other alike number = ap (λ full. f
 refusal-alike view m ys (RevokeRange v c g n) other alike number = ap (λ none. first_of_these (guest_range m v c g n (when none NotShared))) (shares-alike view m ys alike v g n (λ share. nat_eq share 0))
 refusal-alike view m ys (Drop v c g) other alike number = ap (λ share. first_of_these (guest_frame m v c g (when (nat_lt 0 share) Shared))) (share-alike _ _ _ (alike (backing (mapped_at m v g))))
 refusal-alike view m ys _ other alike number = refl
-
--- the first of a list that fails one of two tests that agree on it
-pub failing-same : {X : Type 0} (p q : X → Bool) (xs : List X) → ((i : ℕ) (d : X) → i < length xs → p (get_or xs i d) ≡ q (get_or xs i d)) → first_failing p xs ≡ first_failing q xs
-failing-same p q [] same = refl
-failing-same p q (x ∷ xs) same =
-    let here : p x ≡ q x = same zero x (omega arith) in
-    let rest = failing-same p q xs (λ i d lt. same (suc i) d (omega arith)) in
-    rw (here, rest) refl
 
 -- a page of an image that has all its pages
 pub held : (image : Image) (g : ℕ) → is_short image ≡ false → image.base ≤ g → g < image.base + pages_of image.len → holds g image ≡ true
@@ -380,9 +372,9 @@ step-effect view m ys (SetBoot w base len) other is_view is other_is number alik
 step-effect view m ys (Remap w i f) other is_view is other_is number alike may keeps served = remaps view m ys is other_is number alike w i f keeps (remap-served m w i f served).host
 step-effect view m ys (Verify w) other is_view is other_is number alike may keeps served =
     let seen = verify-served m w served in
-    let first = failing-same (is_approved (beside m ys) w) (is_approved m w) (slot_at m w).images (λ i d lt. ap (λ bytes. list_any (λ digest. same_bytes digest (sha256 bytes)) m.config.approved) (image-same view m ys is other_is number alike w seen.0 seen.1 seen.2 i d lt)) in
-    subst (λ at. IsStep view m (Verify w) (verified m w (first_failing (is_approved m w) (slot_at m w).images)) (verified (beside m ys) w at)) (sym first)
-    (verifies view m ys w (first_failing (is_approved m w) (slot_at m w).images) number alike seen.1)
+    let first = unapproved-same (beside m ys) m w (record { version = refl; approved = refl; images = refl; bytes = image-same view m ys is other_is number alike w seen.0 seen.1 seen.2 }) in
+    subst (λ at. IsStep view m (Verify w) (verified m w (unapproved m w)) (verified (beside m ys) w at)) (sym first)
+    (verifies view m ys w (unapproved m w) number alike seen.1)
 step-effect view m ys (Map w c f) other is_view is other_is number alike may keeps served = let seen = map-served m w c f served in maps view m ys is other_is number alike w c f is_view seen.active seen.host
 step-effect view m ys (GuestRead w c g off len) other is_view is other_is number alike may keeps served = reads view m ys is other_is number alike w c g off len (mapped_at m w g) served refl
 step-effect view m ys (GuestWrite w c g off bytes) other is_view is other_is number alike may keeps served = writes view m ys is other_is number alike w c g off bytes other (mapped_at m w g) (may.same served)

@@ -1,19 +1,18 @@
 use Rattle.std.proofs.Common.{◌≡◌, ◌<◌, IsSome, All, sym, ap, ◌∙◌}
 use Rattle.kc_types.specs.Configuration.{slot_count}
-use Rattle.kc_types.specs.declared.custody.MeasuredImage.{MeasuredImage}
 use Rattle.kc_types.specs.declared.resource.Resource.TheVariants as resource
 use Rattle.kc_types.specs.declared.slot.Phase.TheVariants.{Active, Dead}
 use Rattle.kc_model.specs.State.{slot_at}
-use Rattle.kc_model.specs.Effects.{verified, with_phase, first_failing, is_approved}
+use Rattle.kc_model.specs.Effects.{verified, with_phase}
 use Rattle.kc_model.proofs.Lawful.Verifies.{verify-served}
 use Rattle.kc_parts.specs.Parts.{held_slot, vm_at}
 use Rattle.kc_parts.specs.States.{state_of}
-use Rattle.kc_core.specs.Verifying.{mapped_in, is_approved_digest, IsImageHere}
+use Rattle.kc_core.specs.Verifying.{mapped_in, IsImageHere}
 use Rattle.kc_core.proofs.Frames.{places-vm, places-through}
-use Rattle.kc_core.proofs.Imaged.{slot-verified, images-needed, unapproved-seen}
+use Rattle.kc_core.proofs.Imaged.{slot-verified, images-needed}
 use Rattle.kc_core.proofs.Verifying.{booting-here, state-phase, linked-phase}
 use Rattle.kc_core.proofs.verify.measure_slot.Goals as goal
-use Rattle.kc_core.proofs.verify.measure_slot.Goals.{Start, After-first_unapproved}
+use Rattle.kc_core.proofs.verify.measure_slot.Goals.{Start}
 
 low : (c : Start) → c.args.vm < slot_count c.args.config.now
 low c = (verify-served (state_of c.args.config.now c.args.parts.now) _ c.requires.served).0
@@ -30,12 +29,14 @@ measured_images-images-requires-clause-slot c = here (goal.at.measured_images-im
 pub measured_images-images-requires-clause-here : goal.measured_images-images-requires-clause-here
 measured_images-images-requires-clause-here c = images (goal.at.measured_images-images-requires-clause-here c).Start
 
--- the answer depends on the images that were measured
-first : (c : After-first_unapproved) → c.first_unapproved.result ≡ first_failing (is_approved (state_of c.args.config.now c.args.parts.now) c.args.vm) (slot_at (state_of c.args.config.now c.args.parts.now) c.args.vm).images
-first c =
-    c.first_unapproved.ensures
-    ∙ ap (first_failing (λ (image : MeasuredImage). is_approved_digest c.args.config.now image.digest)) (c.as_slice.ensures.value ∙ c.measured_images-images.ensures)
-    ∙ unapproved-seen c.args.config.now c.args.parts.now c.args.vm
+pub unapproved-requires-clause-slot : goal.unapproved-requires-clause-slot
+unapproved-requires-clause-slot c = here (goal.at.unapproved-requires-clause-slot c).Start
+
+pub unapproved-requires-clause-here : goal.unapproved-requires-clause-here
+unapproved-requires-clause-here c = images (goal.at.unapproved-requires-clause-here c).Start
+
+pub unapproved-requires-clause-images : goal.unapproved-requires-clause-images
+unapproved-requires-clause-images c = c.as_slice.ensures.value ∙ c.measured_images-images.ensures
 
 pub slot_mut-requires : goal.slot_mut-requires
 slot_mut-requires c = here (goal.at.slot_mut-requires c).Start
@@ -48,13 +49,13 @@ kill-requires c =
 pub returns-in-Some-clause-reply : goal.returns-in-Some-clause-reply
 returns-in-Some-clause-reply c =
     let k = goal.at.returns-in-Some-clause-reply c in
-    ap (λ at. (verified (state_of c.args.config.now c.args.parts.now) c.args.vm at).0) (sym c.in-Some.is ∙ first k.After-first_unapproved)
+    ap (λ at. (verified (state_of c.args.config.now c.args.parts.now) c.args.vm at).0) (sym c.in-Some.is ∙ c.unapproved.ensures)
 
 pub returns-in-Some-clause-state : goal.returns-in-Some-clause-state
 returns-in-Some-clause-state c =
     let k = goal.at.returns-in-Some-clause-state c in
     state-phase c.args.config.now c.args.parts.now _ _ _ Dead (low k.Start) c.slot_mut.ensures.value c.kill.ensures
-    ∙ ap (λ at. (verified (state_of c.args.config.now c.args.parts.now) c.args.vm at).1) (sym c.in-Some.is ∙ first k.After-first_unapproved)
+    ∙ ap (λ at. (verified (state_of c.args.config.now c.args.parts.now) c.args.vm at).1) (sym c.in-Some.is ∙ c.unapproved.ensures)
 
 pub returns-in-Some-clause-linked : goal.returns-in-Some-clause-linked
 returns-in-Some-clause-linked c = linked-phase _ _ _ _ _ Dead c.requires.able.linked c.slot_mut.ensures.value c.kill.ensures
@@ -79,14 +80,14 @@ activate-requires c =
 pub returns-clause-reply : goal.returns-clause-reply
 returns-clause-reply c =
     let k = goal.at.returns-clause-reply c in
-    ap (λ at. (verified (state_of c.args.config.now c.args.parts.now) c.args.vm at).0) (sym c.in_default.is ∙ first k.After-first_unapproved)
+    ap (λ at. (verified (state_of c.args.config.now c.args.parts.now) c.args.vm at).0) (sym c.in_default.is ∙ c.unapproved.ensures)
 
 pub returns-clause-state : goal.returns-clause-state
 returns-clause-state c =
     let k = goal.at.returns-clause-state c in
     (state-phase c.args.config.now c.trim_images.new.parts _ _ _ Active (low k.Start) c.slot_mut-2.ensures.value c.activate.ensures
     ∙ ap (λ s. with_phase s c.args.vm Active) c.trim_images.ensures.state
-    ∙ ap (λ at. (verified (state_of c.args.config.now c.args.parts.now) c.args.vm at).1) (sym c.in_default.is ∙ first k.After-first_unapproved))
+    ∙ ap (λ at. (verified (state_of c.args.config.now c.args.parts.now) c.args.vm at).1) (sym c.in_default.is ∙ c.unapproved.ensures))
 
 pub returns-clause-linked : goal.returns-clause-linked
 returns-clause-linked c = linked-phase _ _ _ _ _ Active c.trim_images.ensures.linked c.slot_mut-2.ensures.value c.activate.ensures
