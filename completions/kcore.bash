@@ -10,7 +10,7 @@ _kcore() {
             mapfile -t COMPREPLY < <(compgen -f -- "$word")
             compopt -o filenames 2> /dev/null
             return ;;
-        --vm) mapfile -t COMPREPLY < <(compgen -W "$(seq 0 63)" -- "$word"); return ;;
+        --vm) mapfile -t COMPREPLY < <(compgen -W "$(seq 0 1023)" -- "$word"); return ;;
         --workers) mapfile -t COMPREPLY < <(compgen -W "$(seq 64)" -- "$word"); return ;;
     esac
     local words=

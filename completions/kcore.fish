@@ -24,7 +24,7 @@ complete -c kcore -n '__fish_seen_subcommand_from replay' -l lines -d 'Write eac
 complete -c kcore -n '__fish_seen_subcommand_from replay' -l dump -d 'Write the dump of the core'
 complete -c kcore -n '__fish_seen_subcommand_from replay' -l state -d 'Write the text of the state'
 complete -c kcore -n '__fish_seen_subcommand_from replay' -l blank -d 'Zero the pages of active VMs first'
-complete -c kcore -n '__fish_seen_subcommand_from custody' -l vm -xa '(seq 0 63)' -d 'Only the VM in this slot'
+complete -c kcore -n '__fish_seen_subcommand_from custody' -l vm -xa '(seq 0 1023)' -d 'Only the VM in this slot'
 complete -c kcore -n '__fish_seen_subcommand_from custody' -l summary -d 'Write the life of each VM'
 complete -c kcore -n '__fish_seen_subcommand_from custody' -l svg -d 'Write a picture'
 complete -c kcore -n '__fish_seen_subcommand_from custody' -l html -d 'Write a page for a browser'

@@ -10,7 +10,7 @@ _kcore() {
     local dump='--dump[write the dump of the core]'
     local state_text='--state[write the text of the state]'
     local blank='--blank[zero the pages of active VMs first]'
-    local vm='--vm=[only the VM in this slot]:slot:({0..63})'
+    local vm='--vm=[only the VM in this slot]:slot:({0..1023})'
     local summary='--summary[write the life of each VM]'
     local svg='--svg[write a picture]'
     local html='--html[write a page for a browser]'

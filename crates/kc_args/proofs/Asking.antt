@@ -1,19 +1,21 @@
 -- What clap's clauses say of the program's command.
-use Rattle.std.proofs.Common.{◌≡◌, ◌⊎◌, ℕ, nat_lt, map, length, inl, inr, List, [], Option, Some, None, Result, Ok, Err, refl, ap, true}
+use Rattle.std.proofs.Common.{◌≡◌, ◌⊎◌, ◌^◌, ◌&&◌, ℕ, Bool, nat_lt, map, length, inl, inr, List, [], ◌∷◌, Option, Some, None, Result, Ok, Err, refl, ap, true, false, lt-ltb, ltb-true}
+use Rattle.std.proofs.lemmas.Bool.{and_parts}
 use Rattle.std.proofs.lemmas.List.{length-map}
 use Rattle.std.specs.Option.{option_map_or}
-use Rattle.std.specs.Str.Parse.{ParsesUnsigned}
+use Rattle.std.specs.List.{list_all}
+use Rattle.std.specs.Char.{digit_value}
+use Rattle.std.specs.Result.{result_unwrap_or}
+use Rattle.std.specs.Str.Parse.{AllDigits, ParsesUnsigned, digits_value, without_leading_plus}
 use Rattle.std.specs.Prelude.{option_map}
 use Rattle.std.specs.Box.{box_value}
 use Rattle.std.specs.Prelude.{Box}
-use Rattle.clap.specs.Walk.{byte_or_zero}
 use Rattle.clap.specs.Words.{App, Text, Row, ReadsOne, is_simple, is_simple_and_free, subcommand_of, subcommand_name_of, subcommand_rows, subcommand_rows_of, fault_of, IsAmong}
 use Rattle.clap.specs.declared.parser.matches.ArgMatches.{ArgMatches}
 use Rattle.clap.specs.declared.parser.matches.ArgMatches.TheViews.{out-ArgMatches, out-SubCommand}
 use Rattle.clap.specs.declared.parser.matches.SubCommand.{SubCommand}
 use Rattle.clap.specs.declared.error.kind.ErrorKind.{ErrorKind}
 use Rattle.clap.specs.declared.error.kind.ErrorKind.TheVariants.{OutOfMemory}
-use Rattle.clap.proofs.WalkLemmas.{byte_read}
 use Rattle.clap.proofs.OnLiterals.{clap_on_literals}
 use Rattle.kc_args.specs.declared.job.Job.{Job}
 use Rattle.kc_args.specs.declared.clash.Clash.{Clash}
@@ -21,7 +23,7 @@ use Rattle.kc_args.specs.declared.arguments.ArgFault.{ArgFault}
 use Rattle.kc_args.specs.declared.arguments.ArgFault.TheVariants as faults
 use Rattle.kc_args.specs.Commands.{kcore}
 use Rattle.std.specs.Borrow.{Bor}
-use Rattle.kc_args.specs.Options.{are_several, files_after}
+use Rattle.kc_args.specs.Options.{are_several, files_after, number_or_zero}
 use Rattle.kc_args.specs.Arguments.{Asks, Contradicts, IsJobIn, IsClashIn, HasStatus, IsRefusal, files_asked}
 
 pub kcore_is_simple : is_simple kcore ≡ true
@@ -83,13 +85,38 @@ refused_for arguments app kind (faults.Message text status) same (inl none) h = 
 refused_for arguments app kind (faults.Message text status) same (inr among) h = (kind, rw same at among, h.1)
 refused_for arguments app kind (faults.Clash clash) same among h = absurd h
 
--- what is read of an option, as a byte, is what its text says
-pub number_read : {E : Type 0} (f : ℕ → ℕ) (G : Text → Result ℕ E → Type 0) (said : Option Text) (read : Option ℕ) → ((text : Text) (r : Result ℕ E) → G text r → ParsesUnsigned 8 10 text r)
+digits_pass : (digits : List ℕ) → AllDigits 10 digits → list_all (λ digit. nat_lt (digit_value digit) 10) digits ≡ true
+digits_pass [] each = refl
+digits_pass (digit ∷ digits) each = rw (lt-ltb (digit_value digit) 10 each.0) (digits_pass digits each.1)
+
+digits_are : (digits : List ℕ) → list_all (λ digit. nat_lt (digit_value digit) 10) digits ≡ true → AllDigits 10 digits
+digits_are [] pass = tt
+digits_are (digit ∷ digits) pass = let parts = and_parts _ _ pass in (ltb-true _ _ parts.0, digits_are digits parts.1)
+
+abbrev is_number : ℕ → List ℕ → Bool
+is_number limit digits = nat_lt 0 (length digits) && list_all (λ digit. nat_lt (digit_value digit) 10) digits && nat_lt (digits_value 10 digits) limit
+
+-- what a text is parsed as, or 0
+parsed : {E : Type 0} (bits : ℕ) (text : Text) (r : Result ℕ E) → ParsesUnsigned bits 10 text r → result_unwrap_or r 0 ≡ number_or_zero bits text
+parsed bits text (Ok n) h =
+    let digits = without_leading_plus text in
+    rw (lt-ltb 0 (length digits) h.0.0.0, digits_pass digits h.0.0.1, lt-ltb (digits_value 10 digits) (2 ^ bits) h.0.1) h.1
+parsed bits text (Err e) h = by_test (is_number (2 ^ bits) (without_leading_plus text)) refl
+  where
+    by_test : (b : Bool) → is_number (2 ^ bits) (without_leading_plus text) ≡ b → 0 ≡ number_or_zero bits text
+    by_test false e = rw e refl
+    by_test true e =
+        let outer = and_parts _ _ e in
+        let inner = and_parts _ _ outer.0 in
+        absurd (h ((ltb-true _ _ inner.0, digits_are (without_leading_plus text) inner.1), ltb-true _ _ outer.1))
+
+-- what is read of an option, as a number of this many bits, is what its text says
+pub number_read : {E : Type 0} (bits : ℕ) (f : ℕ → ℕ) (G : Text → Result ℕ E → Type 0) (said : Option Text) (read : Option ℕ) → ((text : Text) (r : Result ℕ E) → G text r → ParsesUnsigned bits 10 text r)
     → (said ≡ None → read ≡ None) → ((text : Text) → said ≡ Some text → ReadsOne G text read)
-    → option_map_or f read (f 0) ≡ option_map_or (λ text. f (byte_or_zero text)) said (f 0)
-number_read {E} f G None read gives none value = rw (none refl) refl
-number_read {E} f G (Some text) (Some n) gives none value = ap f (byte_read {E = E} text (Ok n) (gives text (Ok n) (value text refl)))
-number_read {E} f G (Some text) None gives none value = let read = value text refl in ap f (byte_read {E = E} text (Err read.0) (gives text (Err read.0) read.1))
+    → option_map_or f read (f 0) ≡ option_map_or (λ text. f (number_or_zero bits text)) said (f 0)
+number_read {E} bits f G None read gives none value = rw (none refl) refl
+number_read {E} bits f G (Some text) (Some n) gives none value = ap f (parsed {E = E} bits text (Ok n) (gives text (Ok n) (value text refl)))
+number_read {E} bits f G (Some text) None gives none value = let read = value text refl in ap f (parsed {E = E} bits text (Err read.0) (gives text (Err read.0) read.1))
 
 pub nothing_refused : (arguments : List Text) (app : App) → app ≡ kcore → fault_of app arguments ≡ [] → fault_of kcore arguments ≡ []
 nothing_refused arguments app same none = rw same at none

@@ -4,7 +4,7 @@ use Rattle.clap.specs.Words.{App, Rule, Text, new_app, new_rule, with_rule, with
 use Rattle.clap.specs.Simple.{on_top}
 use Rattle.clap.specs.declared.builder.action.ArgAction.TheVariants.{SetTrue, Append}
 use Rattle.clap.specs.declared.builder.value_parser.ValueParser.TheVariants.{Signed}
-use Rattle.kc_types.specs.Limits.{second_slot_limit, worker_limit}
+use Rattle.kc_types.specs.Limits.{slot_limit, worker_limit}
 
 -- an option that takes a path
 abbrev pub path_rule : Text → Rule
@@ -20,7 +20,7 @@ workers_rule = record (new_rule (codes "workers")) { long = Some (codes "workers
 
 -- a whole number from 0 to 63
 abbrev pub vm_rule : Rule
-vm_rule = record (new_rule (codes "vm")) { long = Some (codes "vm"); value_names = 1; parser = Some (Signed (pos 0) (pos (second_slot_limit - 1))) }
+vm_rule = record (new_rule (codes "vm")) { long = Some (codes "vm"); value_names = 1; parser = Some (Signed (pos 0) (pos (slot_limit - 1))) }
 
 -- the file that a subcommand reads in place of standard input: an argument without a name
 abbrev pub file_rule : Rule

@@ -5,7 +5,7 @@ ghost use Rattle.clap.specs.Words.{app_of, rule_of, new_app, with_rule};
 ghost use Rattle.kc_args.specs.Commands.{kcore, replay, live, custody, audit, redact, convert, with_start, with_outputs, with_forms, with_contents, ended, path_rule, flag_rule, workers_rule, vm_rule, file_rule, files_rule};
 
 use clap::{Arg, ArgAction, Command};
-use kc_types::{SECOND_SLOT_LIMIT, WORKER_LIMIT};
+use kc_types::{SLOT_LIMIT, WORKER_LIMIT};
 use std::alloc::{AllocError, Global};
 
 /// What `--version` prints after the program's name: the version, which the first line of custody names too, and on a
@@ -67,8 +67,8 @@ fn vm_arg<'a>(alloc: Global) -> Arg<'a>
     Arg::new(alloc, "vm")
         .long("vm")
         .value_name("V")
-        .value_parser(clap::value_parser!(u8).range(0..=i64::from(SECOND_SLOT_LIMIT) - 1))
-        .help("Report only the VM in slot V (0 to 63)")
+        .value_parser(clap::value_parser!(u16).range(0..=i64::from(SLOT_LIMIT) - 1))
+        .help("Report only the VM in slot V (0 to 1023)")
 }
 
 /// Makes the argument without a name: the file to be read.

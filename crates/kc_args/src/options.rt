@@ -94,7 +94,7 @@ fn workers_in(matches: &ArgMatches<'_>) -> u32
 fn slot_in(matches: &ArgMatches<'_>) -> u32
     ensures { result ≡ slot_in (rows_of (found_of matches.now)) }
 {
-    match matches.get_one::<u8>("vm") {
+    match matches.get_one::<u16>("vm") {
         Some(vm) => u32::from(vm),
         None => 0,
     }

@@ -292,7 +292,7 @@ fn name_rows(svg: &mut Svg, top: Coordinate, grid: &Grid) {
     }
 }
 
-/// Writes at the right what a cell is, on a base line; of one slot's VM alone if one is named (0 to 63).
+/// Writes at the right what a cell is, on a base line; of one slot's VM alone if one is named (0 to 1,023).
 pub fn explain_cells(svg: &mut Svg, base: Coordinate, grid: &Grid, vm: Option<u32>) {
     let tall = grid.frames.div_ceil(grid.rows.max(1));
     let wide = lines_of_column(grid.lines, grid.columns);
