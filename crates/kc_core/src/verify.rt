@@ -10,14 +10,14 @@ ghost use Rattle.kc_types.specs.declared.reply.Reply.TheVariants.{Refused};
 ghost use Rattle.kc_types.specs.Refusals.{Answers};
 ghost use Rattle.kc_model.specs.State.{slot_at};
 ghost use Rattle.kc_model.specs.Refusals.{refusal, backing, pages_of, is_short};
-ghost use Rattle.kc_model.specs.Effects.{effect, first_failing, launch_digest, unapproved, trimmed, all_trimmed};
-ghost use Rattle.kc_model.specs.Custody.{measured_images, images_by};
+ghost use Rattle.kc_model.specs.Effects.{effect, first_failing, launch_digest, trimmed, all_trimmed};
+ghost use Rattle.kc_model.specs.Custody.{measured_images, launch_of, measurement_by, nothing_measured};
 ghost use Rattle.kc_types.specs.declared.custody.MeasuredImage.{MeasuredImage};
 ghost use Rattle.kc_vms.specs.Measure.{WasFed};
 ghost use Rattle.kc_parts.specs.Parts.{vm_at};
 ghost use Rattle.kc_parts.specs.States.{state_of, IsLinked};
 ghost use Rattle.kc_core.specs.Applying.{IsAble, IsAnswer, KeepsPlaces, reply_of};
-ghost use Rattle.kc_core.specs.Verifying.{mapped_in, page_under, bytes_under, bytes_of_image, is_approved_digest, AreFourAlike, IsImageHere, IsMeasurable};
+ghost use Rattle.kc_core.specs.Verifying.{mapped_in, page_under, bytes_under, bytes_of_image, is_approved_digest, rejected_for, AreFourAlike, IsImageHere, IsMeasurable};
 
 use arrayvec::ArrayVec;
 use kc_digests::MeasureFour;
@@ -201,21 +201,31 @@ fn first_unapproved(config: &Config, images: &[MeasuredImage]) -> Option<u32>
     None
 }
 
-/// The number of the image for which a slot's boot is rejected, if it is: in version 3 that of the first, for all.
-fn unapproved(parts: &Parts, config: &Config, vm: VmId, images: &[MeasuredImage]) -> Option<u32>
+/// The launch measurement of what a slot boots, if its version approves boots as a whole.
+fn launch_of(parts: &Parts, config: &Config, vm: VmId) -> Option<[u8; 32]>
     requires low { vm < slot_count config.now }
     requires linked { IsLinked config.now parts.now }
     requires slot { IsSome (vm_at parts.now vm) }
     requires here { All (IsImageHere parts.now (mapped_in (vm_at parts.now vm))) (slot_at (state_of config.now parts.now) vm).images }
-    requires images { images.now ≡ measured_images (state_of config.now parts.now) vm }
-    requires few { length images.now ≤ image_limit }
-    ensures { result ≡ unapproved (state_of config.now parts.now) vm }
+    ensures { result ≡ launch_of (state_of config.now parts.now) vm }
 {
-    if !config.version().measures_launch() {
-        return first_unapproved(config, images);
+    if config.version().measures_launch() {
+        Some(launch_digest(parts, config, vm))
+    } else {
+        None
     }
-    let digest = launch_digest(parts, config, vm);
-    if Approved::new(config.approved()).is_approved(&digest) {
+}
+
+/// The number of the image for which a boot is rejected, if it is: the first that is not approved, or the first of all if
+/// boots are approved as a whole.
+fn unapproved(config: &Config, images: &[MeasuredImage], launch: &Option<[u8; 32]>) -> Option<u32>
+    requires { length images.now ≤ image_limit }
+    ensures { result ≡ rejected_for config.now images.now launch.now }
+{
+    let Some(digest) = launch else {
+        return first_unapproved(config, images);
+    };
+    if Approved::new(config.approved()).is_approved(digest) {
         None
     } else {
         Some(0)
@@ -302,12 +312,14 @@ pub(crate) fn booted_slot(parts: &Parts, config: &Config, vm: u32) -> Result<VmI
     }
 }
 
-/// The reply to `verify`, and the images that it measured.
+/// The reply to `verify`, and what it measured.
 #[derive(Drop)]
 pub struct Verified {
     pub reply: Reply,
     /// The slot's images, in the order of their numbers, if the call was not refused.
     pub images: ArrayVec<MeasuredImage, IMAGE_LIMIT>,
+    /// The launch measurement, if the call was not refused and the version approves boots as a whole.
+    pub launch: Option<[u8; 32]>,
 }
 
 impl Verified {
@@ -315,10 +327,12 @@ impl Verified {
     pub(crate) fn refused(refusal: Refusal) -> Verified
         ensures reply { result.reply ≡ Refused refusal }
         ensures images { result.images.items ≡ [] }
+        ensures launch { result.launch ≡ None }
     {
         Verified {
             reply: Reply::Refused(refusal),
             images: ArrayVec::new(),
+            launch: None,
         }
     }
 }
@@ -331,16 +345,19 @@ fn measure_slot(parts: &mut Parts, config: &Config, vm: VmId) -> Verified
     requires able { IsAble config.now parts.old (Verify vm) }
     ensures reply { result.reply ≡ (effect (state_of config.now parts.old) (Verify vm)).0 }
     ensures images { result.images.items ≡ measured_images (state_of config.now parts.old) vm }
+    ensures launch { result.launch ≡ launch_of (state_of config.now parts.old) vm }
     ensures state { state_of config.now parts.new ≡ (effect (state_of config.now parts.old) (Verify vm)).1 }
     ensures linked { IsLinked config.now parts.new }
     ensures places { KeepsPlaces parts.old parts.new }
 {
     let images = measured_images(parts, config, vm);
-    if let Some(image) = unapproved(parts, config, vm, images.as_slice()) {
+    let launch = launch_of(parts, config, vm);
+    if let Some(image) = unapproved(config, images.as_slice(), &launch) {
         parts.slot_mut(vm).kill();
         return Verified {
             reply: Reply::Rejected(image),
             images,
+            launch,
         };
     }
     trim_images(parts, config, vm);
@@ -348,6 +365,7 @@ fn measure_slot(parts: &mut Parts, config: &Config, vm: VmId) -> Verified
     Verified {
         reply: Reply::Done,
         images,
+        launch,
     }
 }
 
@@ -356,7 +374,9 @@ fn measure_slot(parts: &mut Parts, config: &Config, vm: VmId) -> Verified
 pub fn verify(parts: &mut Parts, config: &Config, vm: u32) -> Result<Verified, Refusal>
     requires { IsAble config.now parts.old (Verify vm) }
     ensures answer { MatchResult result (λ verified. IsAnswer config.now parts.old parts.new (Verify vm) verified.reply) (λ why. IsAnswer config.now parts.old parts.new (Verify vm) (Refused why)) }
-    ensures images { MatchResult result (λ verified. verified.images.items ≡ images_by (state_of config.now parts.old) (Verify vm)) (λ why. images_by (state_of config.now parts.old) (Verify vm) ≡ []) }
+    ensures images { IfOk result (λ verified. verified.images.items ≡ (measurement_by (state_of config.now parts.old) (Verify vm)).images) }
+    ensures launch { IfOk result (λ verified. verified.launch ≡ (measurement_by (state_of config.now parts.old) (Verify vm)).launch) }
+    ensures nothing { OnErr result (measurement_by (state_of config.now parts.old) (Verify vm) ≡ nothing_measured) }
 {
     let vm = booted_slot(parts, config, vm)?;
     Ok(measure_slot(parts, config, vm))
