@@ -133,7 +133,8 @@ def boot_of(rng, v, frames, limits):
             pages += [(False, f"hwrite {f} {at} {some.hex()}") for at, some in writes]
             pages += [(True, f"remap {v} {i} {f}")] * (f != lacking)
         images.append((base, image[:length]))
-    return lines + pages, images
+    one_more = [(True, f"setboot {v} 1000 1")] * (len(places) == limits.images)
+    return lines + one_more + pages, images
 
 
 def approvals(rng, version, images):
