@@ -31,7 +31,7 @@ LIMITS = {
 # The versions of which dumps and states have texts, and those that approve a boot as a whole.
 WITH_TEXTS, WITH_LAUNCH = (1, 2), (3,)
 # Slots from this one on cannot be named by --vm.
-NAMED = 64
+NAMED = 1024
 # The options that ask for more than custody.
 REMARKS = "--refused", "--accesses"
 # The version that the first line of custody names.
@@ -205,6 +205,13 @@ class Life:
         self.told |= dict.fromkeys(("frames", "most", "left", "returned", "reads", "writes"), 0) | {"refused": {}, "shared": []}
         self.ever, self.last, self.open = set(), set(), {}
 
+    def measure(self, boot):
+        """Puts what was measured in the place of its images."""
+        front, rest = list(self.told.items()), []
+        while front[-1][0] != "images":
+            rest.insert(0, front.pop())
+        self.told = dict(front) | boot | dict(rest)
+
     def refuse(self, reason):
         """Counts a call that was refused at a page of the VM."""
         counts = self.told["refused"]
@@ -262,7 +269,7 @@ class Lives:
         current = self.current()
         if is_served and name == "verify":
             current[at].told["active" if reply == "done" else "dead"] = number
-            current[at].told["images"] = self.core.measured(at)
+            current[at].measure(self.core.boot_of(at))
         # A refused call changes nothing.
         f = self.core.named(line)[1] if reply.startswith("refused") else None
         if f is not None and frames[f].owner in current:
@@ -361,10 +368,14 @@ class Core:
         """What is reported of the images of a slot when they are measured."""
         return [image_of(base, length, hashlib.sha256(image).hexdigest()) for base, length, image in self.images(v)]
 
+    def launch(self, v):
+        """The launch measurement of what a slot boots."""
+        return launch_of((base, image) for base, _, image in self.images(v))
+
     def to_approve(self, v):
         """The digests that have to be approved for what a slot boots: that of the whole, or one for each image."""
         if self.config["version"] in WITH_LAUNCH:
-            return [launch_of((base, image) for base, _, image in self.images(v))]
+            return [self.launch(v)]
         return [image["sha256"] for image in self.measured(v)]
 
     def release(self, f):
@@ -536,8 +547,9 @@ class Core:
         return replies, told
 
     def boot_of(self, v):
-        """What a line of custody says of what a slot boots when it is measured."""
-        return {"images": self.measured(v)}
+        """What is reported of what a slot boots when it is measured."""
+        launch = {"measured": self.launch(v)} if self.config["version"] in WITH_LAUNCH else {}
+        return {"images": self.measured(v), **launch}
 
     def moved(self, number):
         """What is reported of the frames that a call changes: of each the custody before it is noted."""
