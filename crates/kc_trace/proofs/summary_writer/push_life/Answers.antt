@@ -1,5 +1,6 @@
 use Rattle.std.proofs.lemmas.Result.{on_ok_weaker}
 use Rattle.kc_remarks.specs.Attempts.{attempts_in_life}
+use Rattle.kc_trace.specs.CustodyText.{measurement_text}
 use Rattle.kc_trace.specs.SummaryText.{turns_text, counts_text, refused_text, shared_text}
 use Rattle.kc_trace.proofs.Pushed.{five}
 use Rattle.kc_trace.proofs.summary_writer.push_life.Goals as goal
