@@ -11,7 +11,7 @@ use crate::sums::{FIRST_VM, MOST_COLUMNS, Sums, at, owners_of, sums_of, weigh};
 use crate::svg::{Area, Paint, REMARK, Svg};
 use crate::titles::{Block, cell_title};
 use crate::words::{Count, Text};
-use kc_types::{Bar, Memory};
+use kc_types::{Bar, Memory, SLOT_LIMIT};
 use std::alloc::Global;
 
 /// The most rows of cells.
@@ -145,7 +145,7 @@ fn cell_of(weights: &[u64], size: u64) -> Cell {
     let whose = holder_of(&most, rest_of(weights));
     let paleness = paleness_of(most.of_vms, size);
     let colour = match whose {
-        Whose::Vm(vm) => Colour::of_vm(vm as u32).paler(paleness),
+        Whose::Vm(vm) => Colour::of_vm(vm.min(SLOT_LIMIT as usize - 1) as u32).paler(paleness),
         Whose::Several => SEVERAL.paler(paleness),
         Whose::Rest(colour) => colour,
     };

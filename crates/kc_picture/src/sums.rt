@@ -27,7 +27,7 @@ fn number_of(owner: Owner) -> usize {
 pub(crate) fn owners_of(bars: &[Bar]) -> usize {
     let mut owners = FIRST_VM;
     for bar in bars {
-        owners = owners.max(number_of(bar.custody.owner) + 1);
+        owners = owners.max(number_of(bar.custody.owner).saturating_add(1));
     }
     owners
 }
