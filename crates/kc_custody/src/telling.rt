@@ -15,7 +15,7 @@ use kc_core::KCore;
 use kc_parts::sort_once;
 use kc_remarks::Denials;
 use kc_types::{
-    Call, Change, Event, FrameChange, IMAGE_LIMIT, MeasuredImages, Measurement, Memory,
+    Call, Change, Event, FrameChange, IMAGE_LIMIT, Launch, MeasuredImages, Measurement, Memory,
     PhaseChange, Reply, vm_of,
 };
 use std::alloc::Global;
@@ -144,13 +144,14 @@ fn make(alloc: Global, core: &mut KCore, call: &Call) -> Result<(Reply, Measurem
     match call {
         Call::Verify { vm } => {
             let mut images = Vec::with_capacity(alloc, IMAGE_LIMIT)?;
+            let room = Box::new(alloc, [0u8; 32])?;
             let verified = core.verify(*vm);
             images
                 .extend_from_slice(verified.images.as_slice())
                 .unwrap();
             let measurement = Measurement {
                 images: MeasuredImages::of(images),
-                launch: verified.launch,
+                launch: Launch::of(room, verified.launch),
             };
             Ok((verified.reply, measurement))
         },

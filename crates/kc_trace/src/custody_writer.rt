@@ -10,7 +10,7 @@ use crate::volume_writer::{Chain, push_chain};
 use itoa::Buffer;
 use kc_lines::{push_bytes, push_digits};
 use kc_types::{
-    Change, Config, Custody, FrameChange, Gfn, MeasuredImage, Measurement, Owner, Phase,
+    Change, Config, Custody, FrameChange, Gfn, Launch, MeasuredImage, Measurement, Owner, Phase,
     PhaseChange,
 };
 
@@ -222,15 +222,15 @@ fn push_digest(text: &mut Vec<u8>, digest: &[u8; 32])
 }
 
 /// Appends the launch measurement, if there is one.
-fn push_launch(text: &mut Vec<u8>, launch: &Option<[u8; 32]>)
+fn push_launch(text: &mut Vec<u8>, launch: &Launch)
     requires { vec_len text.old + longest_launch ≤ vec_capacity text.old }
     ensures items { text.new.items ≡ text.old.items ++ launch_member launch.now }
     ensures len { vec_len text.new ≤ vec_len text.old + longest_launch }
     ensures capacity { vec_capacity text.old ≤ vec_capacity text.new }
 {
-    if let Some(digest) = launch {
+    if let Some(digest) = launch.digest() {
         push_bytes(text, b",\"measured\":");
-        push_digest(text, digest);
+        push_digest(text, &digest);
     }
 }
 

@@ -98,12 +98,58 @@ impl MeasuredImages {
     }
 }
 
+/// A launch measurement, SHA-256, or none. It is in memory of its own, so that events, which seldom have one, stay small.
+#[derive(Debug, Drop)]
+pub struct Launch {
+    digest: Option<Box<[u8; 32]>>,
+}
+
+impl Model for Launch {
+    ghost use Rattle.std.specs.Prelude.{ℕ, List, Option, option_map};
+    ghost use Rattle.std.specs.Box.{box_value};
+
+    ghost Value = { Option (List ℕ) };
+
+    ghost view = { λ l. option_map box_value l.digest };
+}
+
+impl Launch {
+    /// Makes none, which takes no memory.
+    pub fn none() -> Launch
+        ensures { result ≡ None }
+    {
+        Launch { digest: None }
+    }
+
+    /// Makes that of this digest, if there is one, in memory that was taken before.
+    pub fn of(room: Box<[u8; 32]>, digest: Option<[u8; 32]>) -> Launch
+        ensures { result ≡ digest }
+    {
+        let Some(digest) = digest else {
+            return Launch::none();
+        };
+        let mut room = room;
+        *room = digest;
+        Launch { digest: Some(room) }
+    }
+
+    /// The digest, if there is one.
+    pub fn digest(&self) -> Option<[u8; 32]>
+        ensures { result ≡ self.now }
+    {
+        match &self.digest {
+            Some(digest) => Some(**digest),
+            None => None,
+        }
+    }
+}
+
 /// What a `verify` measured of what a slot boots.
 #[derive(Debug, Drop)]
 pub struct Measurement {
     pub images: MeasuredImages,
-    /// The launch measurement, SHA-256, if the version approves boots as a whole.
-    pub launch: Option<[u8; 32]>,
+    /// The launch measurement, if the version approves boots as a whole.
+    pub launch: Launch,
 }
 
 impl Measurement {
@@ -113,7 +159,7 @@ impl Measurement {
     {
         Measurement {
             images: MeasuredImages::none(alloc),
-            launch: None,
+            launch: Launch::none(),
         }
     }
 }
