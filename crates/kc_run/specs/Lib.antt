@@ -3,4 +3,5 @@ pub mod Opening
 pub mod Endings
 pub mod Ends
 pub mod Run
+pub mod Measures
 pub mod Opened
