@@ -91,11 +91,7 @@ fn measuring_in<'a>(alloc: Global, found: &ArgMatches<'a>) -> Result<Measuring<'
 }
 
 /// What the subcommand of this name asks for, or what is wrong with its options.
-fn wanted_in<'a>(
-    alloc: Global,
-    name: &str,
-    found: &ArgMatches<'a>,
-) -> Result<Wanted<'a>, ArgFault>
+fn wanted_in<'a>(alloc: Global, name: &str, found: &ArgMatches<'a>) -> Result<Wanted<'a>, ArgFault>
     ensures wanted { IfOk result (IsWantedIn name.now (rows_of (found_of found.now))) }
     ensures refused { IfErr result (IsRefusalIn name.now (rows_of (found_of found.now))) }
 {

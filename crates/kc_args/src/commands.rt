@@ -324,7 +324,11 @@ fn measure_command<'a>(alloc: Global) -> Result<Command<'a>, AllocError>
     );
     let help = "Write it as the key approved of a configuration";
     let command = with_flag(alloc, command, "json", help)?;
-    ended(alloc, command, files_arg(alloc, IMAGES_HELP).value_name("GFN=FILE"))
+    ended(
+        alloc,
+        command,
+        files_arg(alloc, IMAGES_HELP).value_name("GFN=FILE"),
+    )
 }
 
 /// Makes the whole command.

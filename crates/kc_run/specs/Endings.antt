@@ -11,6 +11,7 @@ use Rattle.kc_faults.specs.Faults.{status_of, fault_line, volume_fault_line}
 use Rattle.kc_cli.specs.declared.replaying.Compared.{Compared}
 use Rattle.kc_redact_text.specs.declared.convert.Converted.{Converted}
 use Rattle.kc_redact_text.specs.declared.convert.Converted.TheVariants as conversions
+use Rattle.kc_run.specs.Faults.{empty_line}
 use Rattle.kc_run.specs.declared.ending.Ending.{Ending}
 use Rattle.kc_run.specs.declared.ending.Ending.TheVariants as endings
 
@@ -129,10 +130,6 @@ warning_text answered = if is_doubted answered then warning_line answered else [
 -- what is reported if the state differs, after the warning
 abbrev pub another_text : Answered → List ℕ
 another_text answered = warning_text answered ++ codes "kcore: another state\n"
-
--- the line of a boot image that is empty
-abbrev pub empty_line : ℕ → List ℕ
-empty_line number = codes "kcore: boot image " ++ decimal number ++ codes " is empty\n"
 
 -- the error sink takes the warning if there is to be one, and nothing otherwise
 abbrev pub IsWarned : Bool → Answered → Took → Type 0 → Type 0

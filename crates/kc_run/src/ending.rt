@@ -5,7 +5,8 @@ ghost use Rattle.std.specs.Io.KnownBytes.{Appends};
 ghost use Rattle.kc_texts.specs.Written.{AppendsBeginning};
 ghost use Rattle.kc_remarks.specs.Denials.{is_doubted};
 ghost use Rattle.kc_args.specs.Clashes.{clash_text};
-ghost use Rattle.kc_run.specs.Endings.{Takes, took, status_after, fault_in, answered_in, difference_in, volume_in, warning_of, warning_line, warning_text, another_text, empty_line, IsWarned, IsReported};
+ghost use Rattle.kc_run.specs.Faults.{empty_line};
+ghost use Rattle.kc_run.specs.Endings.{Takes, took, status_after, fault_in, answered_in, difference_in, volume_in, warning_of, warning_line, warning_text, another_text, IsWarned, IsReported};
 
 use arrayvec::ArrayString;
 use itoa::Buffer;
