@@ -1,8 +1,8 @@
 -- Words and the images that they name.
-use Rattle.std.proofs.Common.{◌≡◌, ◌==◌, ◌+◌, ◌<◌, ℕ, List, [], ◌∷◌, ◌++◌, map, length, take, get_or, Contains, sym, ap, ap₂, refl, ◌∙◌, arith, Option, Some, None}
+use Rattle.std.proofs.Common.{◌≡◌, ◌==◌, ◌+◌, ◌<◌, ◌≤◌, ℕ, List, [], ◌∷◌, ◌++◌, map, length, take, get_or, sym, ap, ap₂, refl, ◌∙◌, arith, Option, Some}
 use Rattle.std.specs.Borrow.{Bor}
 use Rattle.std.specs.List.{position_or_len, before_first, after_first}
-use Rattle.std.proofs.lemmas.List.{take_all, drop_all, map-append, map_more, length-map, get_or-map}
+use Rattle.std.proofs.lemmas.List.{take_all, drop_all, map-append, map_more}
 use Rattle.clap.specs.Words.{Text}
 use Rattle.kc_args.specs.declared.job.ImageFile.{ImageFile}
 use Rattle.kc_args.specs.Images.{place_in, place_of, AreImagesOf}
@@ -29,19 +29,10 @@ one_more words images image i d lt so is =
     ∙ ap₂ (λ (xs ys : List (Option (ℕ × Text))). xs ++ ys) so (ap (λ (one : Option (ℕ × Text)). one ∷ []) is)
     ∙ sym (map_more named words i d lt)
 
-now_of : Bor Text → Text
-now_of word = word.now
-
-named_all : (words : List (Bor Text)) → map named words ≡ map place_in (map now_of words)
+named_all : (words : List (Bor Text)) → map named words ≡ map place_in (map (λ word. word.now) words)
 named_all [] = refl
 named_all (word ∷ words) = ap (λ (rest : List (Option (ℕ × Text))). named word ∷ rest) (named_all words)
 
 -- all of them
-pub all_named : (words : List (Bor Text)) (images : List ImageFile) (i : ℕ) → (i < length words → ⊥) → map placed images ≡ map named (take i words) → AreImagesOf (map (λ word. word.now) words) (Some images)
+pub all_named : (words : List (Bor Text)) (images : List ImageFile) (i : ℕ) → length words ≤ i → map placed images ≡ map named (take i words) → AreImagesOf (map (λ word. word.now) words) (Some images)
 all_named words images i past so = so ∙ ap (map named) (take_all i words past) ∙ named_all words
-
--- one that names no image
-pub none_named : (words : List (Bor Text)) (i : ℕ) (d : Bor Text) → i < length words → None ≡ named (get_or words i d) → AreImagesOf (map (λ word. word.now) words) None
-none_named words i d lt none =
-    let long = length-map words now_of in
-    ((get_or words i d).now, (i, omega (arith, long, lt), get_or-map now_of words i d _ lt), sym none)

@@ -11,7 +11,7 @@ use crate::commands::command;
 use crate::images::images_of;
 use crate::job::{Action, Job, Measuring, Request, Start, Wanted};
 use crate::judging::action_of;
-use crate::options::{files_after, files_named, input_in, is_named, is_set, options_in};
+use crate::options::{files_after, files_in, input_in, is_named, is_set, options_in};
 use clap::error::ErrorKind;
 use clap::{ArgMatches, Error};
 use kc_texts::ReplayForm;
@@ -73,7 +73,9 @@ fn measuring_in<'a>(alloc: Global, found: &ArgMatches<'a>) -> Result<Measuring<'
     ensures measuring { IfOk result (IsMeasuringIn (rows_of (found_of found.now))) }
     ensures refused { IfErr result (IsImageRefusalIn (rows_of (found_of found.now))) }
 {
-    let words = files_named(found);
+    let Some(words) = files_in(found) else {
+        return Err(ArgFault::Clash(Clash::MeasureAlone));
+    };
     if words.is_empty() {
         return Err(ArgFault::Clash(Clash::MeasureAlone));
     }

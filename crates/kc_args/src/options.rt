@@ -1,7 +1,7 @@
 //! The options of a subcommand, as they are given.
 ghost use Rattle.std.specs.Prelude.{◌≡◌, ◌≢◌, ◌↔◌, IsTrue, IfOk, codes, map, option_map};
 ghost use Rattle.clap.specs.Words.{found_of, rows_of, first_of, all_of};
-ghost use Rattle.kc_args.specs.Options.{in_range, workers_in, slot_in, vm_in, IsSet, HasInput, has_several, files_named, files_after, AreOptionsIn};
+ghost use Rattle.kc_args.specs.Options.{in_range, workers_in, slot_in, vm_in, IsSet, HasInput, has_several, files_after, AreOptionsIn};
 
 use clap::ArgMatches;
 use kc_types::WORKER_LIMIT;
@@ -129,20 +129,10 @@ pub(crate) fn input_in<'a>(matches: &ArgMatches<'a>) -> Option<&'a str>
 }
 
 /// All files that are named, in order.
-fn files_in<'b, 'a>(matches: &'b ArgMatches<'a>) -> Option<&'b [&'a str]>
+pub(crate) fn files_in<'b, 'a>(matches: &'b ArgMatches<'a>) -> Option<&'b [&'a str]>
     ensures { option_map (λ files. map (λ file. file.now) files.now) result ≡ all_of (codes "file") (rows_of (found_of matches.now)) }
 {
     matches.get_strs("file")
-}
-
-/// All files that are named, in order; none if no file is.
-pub(crate) fn files_named<'b, 'a>(matches: &'b ArgMatches<'a>) -> &'b [&'a str]
-    ensures { map (λ file. file.now) result.now ≡ files_named (rows_of (found_of matches.now)) }
-{
-    match files_in(matches) {
-        Some(files) => files,
-        None => &[],
-    }
 }
 
 /// Whether several files are named.

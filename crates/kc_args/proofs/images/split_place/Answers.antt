@@ -1,4 +1,4 @@
-use Rattle.std.proofs.Common.{Some, None, arith, ap, sym, ◌∙◌, take, drop}
+use Rattle.std.proofs.Common.{Some, None, arith}
 use Rattle.std.proofs.lemmas.Str.Pattern.{split_once_first}
 use Rattle.kc_args.proofs.Placed.{before_none, after_none}
 use Rattle.kc_args.proofs.images.split_place.Goals as goal
