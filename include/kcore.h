@@ -51,7 +51,8 @@ enum kcore_status {
     KCORE_BAD_SIZES = 22,      /* no configuration has its numbers, or it has other slots or frames */
     KCORE_BAD_DUMP = 23,       /* an audit of its dump finds something */
     KCORE_BAD_SLOT = 24,       /* no core has this slot */
-    KCORE_BAD_FRAME = 25       /* no core has this frame: for example, its digest is not that of its page */
+    KCORE_BAD_FRAME = 25,      /* no core has this frame: for example, its digest is not that of its page */
+    KCORE_NO_TEXT = 26         /* the version of the machine has no dump and no text of a state */
 };
 
 /* Who owns a frame. */
@@ -211,17 +212,20 @@ uint32_t kcore_digest(kcore *core, uint8_t *out, size_t out_length, size_t *used
 /* Gives the text of the core's state, which is what `kcore replay --state` writes after the calls so far; and the same
  * with zero pages in place of those of active VMs, as `--state --blank` writes it. If the traces have heads, it says
  * which volume goes on from the state: after kcore_turn it is the one that is being filled, which has no call yet, and
- * after a call the next. For F frames it has at most 8,600 F + 600,000 bytes; the buffer may be a mapped file. The bytes
- * after the first *used stay as they are; if no text is given, *used is 0. */
+ * after a call the next. For F frames it has at most 8,600 F + 600,000 bytes; the buffer may be a mapped file. A machine
+ * of version 3 has no such text (KCORE_NO_TEXT). The bytes after the first *used stay as they are; if no text is given,
+ * *used is 0. */
 uint32_t kcore_state(kcore *core, uint8_t *out, size_t out_length, size_t *used);
 uint32_t kcore_blank_state(kcore *core, uint8_t *out, size_t out_length, size_t *used);
 
-/* Gives the SHA-256 digest of the text that kcore_blank_state gives, 32 bytes: what sha256sum prints for it. The bytes
- * after the first *used stay as they are; if no digest is given, *used is 0. */
+/* Gives the SHA-256 digest of the text that kcore_blank_state gives, 32 bytes: what sha256sum prints for it. If there
+ * is no such text, the status is KCORE_NO_TEXT. The bytes after the first *used stay as they are; if no digest is given,
+ * *used is 0. */
 uint32_t kcore_blank_digest(kcore *core, uint8_t *out, size_t out_length, size_t *used);
 
-/* Gives the dump of the core, as `kcore replay --dump` writes it: for F frames at most 320 F + 200,000 bytes. The bytes
- * after the first *used stay as they are; if no dump is given, *used is 0. */
+/* Gives the dump of the core, as `kcore replay --dump` writes it: for F frames at most 320 F + 200,000 bytes. A machine
+ * of version 3 has none (KCORE_NO_TEXT). The bytes after the first *used stay as they are; if no dump is given, *used is
+ * 0. */
 uint32_t kcore_dump(kcore *core, uint8_t *out, size_t out_length, size_t *used);
 
 /* Begins the next volume, with the core as it is: calls and lines from then on are those of the next volume, and those

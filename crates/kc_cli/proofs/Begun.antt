@@ -52,6 +52,7 @@ replay_fault config calls cause f (inl memory) is may =
       trace = λ said e. absurd cc;
       actor = λ p e. absurd cc;
       slot = λ n e. cc;
+      text = λ e. cc;
       started = λ e. may;
       unsettled = λ e. may;
     }
@@ -67,6 +68,7 @@ replay_fault config calls cause f (inr start) is may =
       trace = λ said e. absurd cc;
       actor = λ p e. absurd cc;
       slot = λ n e. cc;
+      text = λ e. cc;
       started = λ e. may;
       unsettled = λ e. may;
     }

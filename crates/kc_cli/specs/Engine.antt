@@ -40,6 +40,7 @@ pub record IsReplayFault (fault : TextFault) : Type 0 where
   pub unsettled : fault ≢ texts.Unsettled
   pub actor : (program : ℕ) → fault ≢ texts.BadActor program
   pub slot : (number : ℕ) → fault ≢ texts.NoSlot number
+  pub text : fault ≢ texts.NoText
   pub write : fault ≢ texts.Write
   pub config : (said : ConfigTextFault) → fault ≢ texts.Config said
   pub state : (said : StateFault) → fault ≢ texts.State said
@@ -95,6 +96,12 @@ written_text forms.State calls replies next m = placed_state_text next m
 abbrev pub is_placed : ReplayForm → Bool
 is_placed forms.State = true
 is_placed form = false
+
+-- whether the text of a dump or of a state is written
+abbrev pub wants_text : ReplayForm → Bool
+wants_text forms.Dump = true
+wants_text forms.State = true
+wants_text form = false
 
 -- the text is made of the trace's calls, of the replies of one thread, which takes the trace's calls in order from the state that the first text is of, and of the state that it leaves, with the pages of active VMs zeroed if asked for; the calls keep the promises, and an audit finds nothing in that state
 pub record IsReplayText (origin : Origin) (form : ReplayForm) (blank : Bool) (start_text trace_text text : List ℕ) : Type 0 where

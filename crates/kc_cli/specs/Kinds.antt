@@ -53,6 +53,8 @@ pub record TellsAccount {A : Type 0} (slot : Option ℕ) (workers : ℕ) (origin
   -- no fault of a live run comes
   pub settled : result ≢ Err texts.Unsettled
   pub actor : (program : ℕ) → result ≢ Err (texts.BadActor program)
+  -- and no text of a dump or a state is wanted
+  pub text : result ≢ Err texts.NoText
 
 -- the source that is read after these is refused: all before it hold traces of this machine, the first under a header that is expected there, and each other one under one that may come after the one before it
 pub record IsNextRefused (config : Configuration) (expected : Expected) (before : List (Option (List ℕ))) (source : Seen) (fault : TraceFault) : Type 0 where

@@ -51,6 +51,7 @@ pub record IsLiveFault (machine : Configuration) (calls : List Call) (fault : Te
   pub trace : (said : TraceFault) → fault ≡ texts.Trace said → (said ≡ traces.TooManyCalls) × (call_limit < length calls)
   pub actor : (program : ℕ) → fault ≡ texts.BadActor program → StopsTrace machine calls (causes.BadActor program)
   pub slot : (number : ℕ) → fault ≢ texts.NoSlot number
+  pub text : fault ≢ texts.NoText
   pub started : fault ≡ texts.Start → MayRun machine calls
   pub unsettled : fault ≡ texts.Unsettled → MayRun machine calls
 

@@ -199,6 +199,7 @@ pub fn live_text<C: Source, T: Source, K: Sink, G: Gate + Sync, R: Threads + Wai
     ensures actor { (program : ℕ) → result ≡ Err (TextFault.BadActor program)
         → HasBadActor (C.left config.old) (T.left trace.old) program }
     ensures slot { (number : ℕ) → result ≢ Err (TextFault.NoSlot number) }
+    ensures text { result ≢ Err TextFault.NoText }
     ensures started { result ≡ Err TextFault.Start → CouldRun (C.left config.old) (T.left trace.old) }
     ensures unsettled { result ≡ Err TextFault.Unsettled → CouldRun (C.left config.old) (T.left trace.old) }
 {

@@ -1,6 +1,7 @@
 //! The engine that replays a trace, over any sources and any sink.
 ghost use Rattle.std.specs.Prelude.{◌≡◌, ◌≢◌, ◌<◌, ◌≤◌, ◌⊎◌, ◌∷◌, [], List, length, true, false, IfOk, IfErr, IfSome, OnOk, Err, IsSome};
 ghost use Rattle.std.specs.Io.KnownBytes.{IsAtEnd};
+ghost use Rattle.kc_types.specs.Configuration.{has_dump};
 ghost use Rattle.kc_types.specs.Limits.{call_limit};
 ghost use Rattle.kc_types.specs.declared.call.Call.{Call};
 ghost use Rattle.kc_trace.specs.declared.fault.TraceFault.{TraceFault};
@@ -12,7 +13,7 @@ ghost use Rattle.kc_texts.specs.Written.{Writes, Begins};
 ghost use Rattle.kc_faults.specs.Outcomes.{TellsSources, TellsTexts, TellsReplay, TellsSink};
 ghost use Rattle.kc_replay.specs.Replayer.{IsFed};
 ghost use Rattle.kc_cli.specs.Traced.{IsDigested};
-ghost use Rattle.kc_cli.specs.Engine.{is_placed, AreReplayed, IsKept, IsReplayFault, IsReplayText, DiffersFromLeft, kept_more, left_as};
+ghost use Rattle.kc_cli.specs.Engine.{is_placed, wants_text, AreReplayed, IsKept, IsReplayFault, IsReplayText, DiffersFromLeft, kept_more, left_as};
 ghost use Rattle.kc_cli.specs.Answers.{AreAnswered};
 
 use crate::giving::{Replayed, give_replayed};
@@ -48,6 +49,24 @@ fn is_placed(form: ReplayForm) -> bool
     ensures { result ≡ is_placed form }
 {
     form == ReplayForm::State
+}
+
+/// Whether the text of a dump or of a state is written.
+fn wants_text(form: ReplayForm) -> bool
+    ensures { result ≡ wants_text form }
+{
+    match form {
+        ReplayForm::Replies | ReplayForm::Lines => false,
+        ReplayForm::Dump | ReplayForm::State => true,
+    }
+}
+
+/// Whether a text is wanted that the version of a core's machine has not.
+fn lacks_text(core: &KCore, wants_text: bool) -> bool
+    ensures lacks { result ≡ true → (wants_text ≡ true) × (has_dump core.now.state.config.version ≡ false) }
+    ensures has { result ≡ false → wants_text ≡ true → has_dump core.now.state.config.version ≡ true }
+{
+    wants_text && !core.config().version().has_dump()
 }
 
 /// Keeps more calls, if they are written too.
@@ -139,7 +158,8 @@ pub(crate) fn wipe_left(rt: &(impl Threads + Sync), replayer: Replayer) {
 
 /// Reads what the calls begin with to its end and a trace as it is replayed by this many workers, and returns the
 /// replies and the core, and where the next volume comes if that is asked for. The number of workers, 1 to 64, is judged
-/// before anything is read. If there is no outcome, the core is wiped.
+/// before anything is read. If the text of a dump or of a state is wanted and the version of the machine has none, it is
+/// `NoText`, and the trace is not read. If there is no outcome, the core is wiped.
 fn replay_texts<C: Source, T: Source, R: Threads + Wait + Sync>(
     rt: &R,
     alloc: Global,
@@ -147,6 +167,7 @@ fn replay_texts<C: Source, T: Source, R: Threads + Wait + Sync>(
     trace: &mut T,
     order: ReplayOrder,
     is_placed: bool,
+    wants_text: bool,
 ) -> Result<Replayed, TextFault>
     requires start { C.failed start.old ≡ false }
     requires trace { T.failed trace.old ≡ false }
@@ -158,13 +179,19 @@ fn replay_texts<C: Source, T: Source, R: Threads + Wait + Sync>(
         (seen C.failed C.left start.old start.new ∷ seen T.failed T.left trace.old trace.new ∷ []) result }
     ensures texts { TellsTexts order.origin (seen C.failed C.left start.old start.new)
         (seen T.failed T.left trace.old trace.new) (trace.new ≡ trace.old) result }
-    ensures replay { TellsReplay order.workers order.origin (C.left start.old) result }
+    ensures replay { TellsReplay wants_text order.workers order.origin (C.left start.old)
+        (trace.new ≡ trace.old) result }
     ensures write { result ≢ Err TextFault.Write }
 {
     if order.workers == 0 || order.workers as usize > WORKER_LIMIT {
         return Err(TextFault::Workers);
     }
     let Start { core, expected } = read_start(rt, alloc, start, order.origin, order.lanes)?;
+    if lacks_text(&core, wants_text) {
+        let mut core = core;
+        core.wipe(rt);
+        return Err(TextFault::NoText);
+    }
     let Ok(replayer) = Replayer::from_core(core, order.workers as usize) else {
         return Err(TextFault::Memory);
     };
@@ -222,7 +249,8 @@ fn left_as(made: Replayed, is_blank: bool) -> Replayed
 /// Nothing is written before the whole trace was read and answered. A source that fails, or that has more than
 /// 1,073,741,824 bytes, is `Read`, even if its bytes so far are refused already. Out of memory or a worker that cannot
 /// be started is reported before a fault of the trace that is further on, and that its header is not one that may come
-/// there after everything else.
+/// there after everything else. If the text of a dump or of a state is wanted and the version of the machine has none, it
+/// is `NoText`, and the trace is not read.
 pub fn replay_text<C: Source, T: Source, K: Sink, R: Threads + Wait + Sync>(
     rt: &R,
     alloc: Global,
@@ -243,11 +271,21 @@ pub fn replay_text<C: Source, T: Source, K: Sink, R: Threads + Wait + Sync>(
         (seen C.failed C.left start.old start.new ∷ seen T.failed T.left trace.old trace.new ∷ []) result }
     ensures texts { TellsTexts order.origin (seen C.failed C.left start.old start.new)
         (seen T.failed T.left trace.old trace.new) (trace.new ≡ trace.old) result }
-    ensures replay { TellsReplay order.workers order.origin (C.left start.old) result }
+    ensures replay { TellsReplay (wants_text order.form) order.workers order.origin (C.left start.old)
+        (trace.new ≡ trace.old) result }
     ensures sink { TellsSink (K.failed out.new) (Begins (IsReplayText order.origin order.form order.is_blank)
         (C.left start.old) (T.left trace.old) (K.taken out.old) (K.taken out.new)) (out.new ≡ out.old) result }
 {
-    let made = replay_texts(rt, alloc, start, trace, order, is_placed(order.form))?;
+    let wants_text = wants_text(order.form);
+    let made = replay_texts(
+        rt,
+        alloc,
+        start,
+        trace,
+        order,
+        is_placed(order.form),
+        wants_text,
+    )?;
     let answered = made.answered;
     give_replayed(rt, alloc, left_as(made, order.is_blank), order, out)?;
     Ok(answered)
@@ -287,7 +325,8 @@ pub struct Compared {
 }
 
 /// Does what `replay_text` does, and also compares what a third source holds, which is read to its end, with the text
-/// of the state that the trace leaves. That source is read after the trace and before anything is written.
+/// of the state that the trace leaves. That source is read after the trace and before anything is written. The text of a
+/// state is wanted, whatever is written.
 pub fn replay_to_text<C: Source, T: Source, S: Source, K: Sink, R: Threads + Wait + Sync>(
     rt: &R,
     alloc: Global,
@@ -313,11 +352,11 @@ pub fn replay_to_text<C: Source, T: Source, S: Source, K: Sink, R: Threads + Wai
         ∷ seen T.failed T.left trace.old trace.new ∷ seen S.failed S.left to.old to.new ∷ []) result }
     ensures texts { TellsTexts order.origin (seen C.failed C.left start.old start.new)
         (seen T.failed T.left trace.old trace.new) (trace.new ≡ trace.old) result }
-    ensures replay { TellsReplay order.workers order.origin (C.left start.old) result }
+    ensures replay { TellsReplay true order.workers order.origin (C.left start.old) (trace.new ≡ trace.old) result }
     ensures sink { TellsSink (K.failed out.new) (Begins (IsReplayText order.origin order.form order.is_blank)
         (C.left start.old) (T.left trace.old) (K.taken out.old) (K.taken out.new)) (out.new ≡ out.old) result }
 {
-    let made = replay_texts(rt, alloc, start, trace, order, true)?;
+    let made = replay_texts(rt, alloc, start, trace, order, true, true)?;
     let answered = made.answered;
     let made = left_as(made, order.is_blank);
     let difference = match difference_in(rt, alloc, &made.core, made.next, to, order.lanes) {

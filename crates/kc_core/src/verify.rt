@@ -1,5 +1,5 @@
 //! Verifying a VM: its boot images are measured, and it becomes active or dead.
-ghost use Rattle.std.specs.Prelude.{ℕ, List, ◌++◌, ◌≡◌, ◌+◌, ◌<◌, ◌≤◌, ◌↔◌, ◌||◌, ◌==◌, [], All, IsTrue, IfOk, IsSome, MatchResult, Some, None, true, is_some, length, map};
+ghost use Rattle.std.specs.Prelude.{ℕ, List, ◌++◌, ◌≡◌, ◌+◌, ◌<◌, ◌≤◌, ◌↔◌, ◌||◌, ◌==◌, [], All, IsTrue, IfOk, IsSome, MatchResult, OnErr, Some, None, true, is_some, length, map};
 ghost use Rattle.std.specs.List.{list_any};
 ghost use Rattle.std.specs.FinMap as finite;
 ghost use Rattle.sha2.specs.Sha256.{sha256};
@@ -216,19 +216,23 @@ fn launch_of(parts: &Parts, config: &Config, vm: VmId) -> Option<[u8; 32]>
     }
 }
 
+/// Whether a digest is approved.
+fn approves(config: &Config, digest: &[u8; 32]) -> bool
+    ensures { result ≡ is_approved_digest config.now digest.now }
+{
+    Approved::new(config.approved()).is_approved(digest)
+}
+
 /// The number of the image for which a boot is rejected, if it is: the first that is not approved, or the first of all if
 /// boots are approved as a whole.
 fn unapproved(config: &Config, images: &[MeasuredImage], launch: &Option<[u8; 32]>) -> Option<u32>
     requires { length images.now ≤ image_limit }
     ensures { result ≡ rejected_for config.now images.now launch.now }
 {
-    let Some(digest) = launch else {
-        return first_unapproved(config, images);
-    };
-    if Approved::new(config.approved()).is_approved(digest) {
-        None
-    } else {
-        Some(0)
+    match launch {
+        None => first_unapproved(config, images),
+        Some(digest) if approves(config, digest) => None,
+        Some(_) => Some(0),
     }
 }
 

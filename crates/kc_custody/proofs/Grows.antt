@@ -132,7 +132,7 @@ counted-plain : (v line : ℕ) (xs : List Event) (e : Event) (l r w : ℕ)
     → length (filter (is_gain v) (e ∷ [])) ≡ 0 → length (filter (is_loss v) (e ∷ [])) ≡ l → length (filter (is_read v) (e ∷ [])) ≡ r → length (filter (is_write v) (e ∷ [])) ≡ w
     → counted v line (xs ++ e ∷ []) ≡ record (counted v line xs) { lost = (counted v line xs).lost + l; reads = (counted v line xs).reads + r; writes = (counted v line xs).writes + w }
 counted-plain v line xs e l r w ea ed ec ei eg el er ew =
-    counted-by v line xs e None None None [] l r w ea ed ec ei eg el er ew
+    counted-by v line xs e None None None nothing_measured l r w ea ed ec ei eg el er ew
     ∙ ap (λ (g : Growing). record g { lost = (counted v line xs).lost + l; reads = (counted v line xs).reads + r; writes = (counted v line xs).writes + w }) (lines-kept v line xs (counted v line xs) refl)
 
 -- an event that says nothing of the slot
@@ -263,7 +263,7 @@ takes-empty told ending old new phase made = λ start before after room ends ali
     let c = counted v start.line (life_since start) in
     let same = turn-own v told of in
     let step : counted v start.line (life_since start ++ e ∷ []) ≡ record c { cleared = option_or c.cleared (Some told.line) } =
-    counted-by v start.line (life_since start) e None None (Some told.line) [] 0 0 0 (rw (same, phase) refl) (rw (same, phase) refl) (rw (same, phase) refl) (rw (is_measuring, same, phase) refl) refl refl refl refl
+    counted-by v start.line (life_since start) e None None (Some told.line) nothing_measured 0 0 0 (rw (same, phase) refl) (rw (same, phase) refl) (rw (same, phase) refl) (rw (is_measuring, same, phase) refl) refl refl refl refl
     ∙ rw (or-none c.active, or-none c.dead, measurement-none v start.line (life_since start), add-zero c.lost, add-zero c.reads, add-zero c.writes) refl in
     rw made (grows-counts e start before after old (record old { cleared = option_or old.cleared (Some told.line); members = [] }) ends.noted alive (rw (same, phase) refl)
     (ap (λ (g : Growing). record g { cleared = option_or g.cleared (Some told.line); members = [] }) is.counts ∙ ap (λ (g : Growing). record g { frames = old.frames; members = []; shared = old.shared }) (sym step))

@@ -1,5 +1,5 @@
 -- What is reported of the ends stays true in the last step of an engine.
-use Rattle.std.proofs.Common.{◌≡◌, ◌≢◌, ◌⊎◌, ◌<◌, ◌≤◌, arith, ℕ, Bool, true, List, Option, Some, None, Result, Ok, Err, inl, inr, refl, subst}
+use Rattle.std.proofs.Common.{◌≡◌, ◌≢◌, ◌⊎◌, ◌<◌, ◌≤◌, arith, ℕ, Bool, true, false, List, Option, Some, None, Result, Ok, Err, inl, inr, refl, subst}
 use Rattle.std.specs.Prelude.{IfErr, IfSome, is_err, OnErr}
 use Rattle.std.specs.Io.KnownBytes.{IsAtEnd}
 use Rattle.kc_config_text.specs.declared.config_text.ConfigTextFault.{ConfigTextFault}
@@ -8,7 +8,7 @@ use Rattle.kc_trace.specs.declared.fault.TraceFault.TheVariants.{Misplaced}
 use Rattle.kc_trace.specs.declared.expected.Expected.{Expected}
 use Rattle.kc_trace.specs.declared.expected.HeaderFault.{HeaderFault}
 use Rattle.kc_trace.specs.declared.expected.Expected.TheVariants.{First}
-use Rattle.kc_types.specs.Configuration.{Configuration}
+use Rattle.kc_types.specs.Configuration.{Configuration, has_dump}
 use Rattle.kc_types.specs.Limits.{worker_limit}
 use Rattle.kc_config_text.specs.ConfigText.{config_in}
 use Rattle.kc_model.specs.State.{State}
@@ -18,7 +18,7 @@ use Rattle.kc_state_text.specs.Refused.{IsRefusedPlaced}
 use Rattle.kc_texts.specs.declared.order.Origin.{Origin}
 use Rattle.kc_texts.specs.declared.order.Origin.TheVariants as origins
 use Rattle.kc_trace.specs.Expected.{IsRefusedThere}
-use Rattle.kc_faults.specs.Origins.{SpellsMachine, BeginsIn, IsBegun}
+use Rattle.kc_faults.specs.Origins.{SpellsMachine, BeginsIn, HasTexts, LacksTexts, IsBegun}
 use Rattle.kc_faults.proofs.Placed.{known_refused_from}
 use Rattle.kc_faults.specs.Outcomes.{IsStartFault, IsTold, TellsSources, TellsTexts, TellsReplay, TellsSink}
 use Rattle.kc_texts.specs.Ends.{Seen}
@@ -43,10 +43,13 @@ may_be : (workers : ℕ) → 0 < workers → workers ≤ worker_limit → (worke
 may_be workers some few (inl none) = absurd (omega (arith, some, none))
 may_be workers some few (inr many) = absurd (omega (arith, few, many))
 
-pub replay_after : {A B : Type 0} (workers : ℕ) (origin : Origin) (start : Option (List ℕ)) (x : A) (last : Result B TextFault) → TellsReplay workers origin start (Ok x) → IfErr last IsLastFault → TellsReplay workers origin start last
-replay_after workers origin start x (Ok y) h fault = record { judged = (λ e. absurd cc, λ bad. let e = h.judged.1 bad in absurd cc); started = λ e. absurd cc; settled = λ e. cc; actor = λ p e. cc; slot = λ n e. cc }
-replay_after workers origin start x (Err f) h (inl memory) = record { judged = (λ e. absurd cc, λ bad. let e = h.judged.1 bad in absurd cc); started = λ e. absurd cc; settled = λ e. cc; actor = λ p e. cc; slot = λ n e. cc }
-replay_after workers origin start x (Err f) h (inr write) = record { judged = (λ e. absurd cc, λ bad. let e = h.judged.1 bad in absurd cc); started = λ e. absurd cc; settled = λ e. cc; actor = λ p e. cc; slot = λ n e. cc }
+pub replay_after : {A B : Type 0} (wanted : Bool) (workers : ℕ) (origin : Origin) (start : Option (List ℕ)) (unread : Type 0) (x : A) (last : Result B TextFault) → TellsReplay wanted workers origin start unread (Ok x) → IfErr last IsLastFault → TellsReplay wanted workers origin start unread last
+replay_after wanted workers origin start unread x (Ok y) h fault =
+    record { has = h.has; lacks = λ e. absurd cc; judged = (λ e. absurd cc, λ bad. let e = h.judged.1 bad in absurd cc); started = λ e. absurd cc; settled = λ e. cc; actor = λ p e. cc; slot = λ n e. cc }
+replay_after wanted workers origin start unread x (Err f) h (inl memory) =
+    record { has = tt; lacks = λ e. absurd cc; judged = (λ e. absurd cc, λ bad. let e = h.judged.1 bad in absurd cc); started = λ e. absurd cc; settled = λ e. cc; actor = λ p e. cc; slot = λ n e. cc }
+replay_after wanted workers origin start unread x (Err f) h (inr write) =
+    record { has = tt; lacks = λ e. absurd cc; judged = (λ e. absurd cc, λ bad. let e = h.judged.1 bad in absurd cc); started = λ e. absurd cc; settled = λ e. cc; actor = λ p e. cc; slot = λ n e. cc }
 
 -- a fault from which nothing was written
 pub sources_err : {A B : Type 0} (sources : List Seen) (f : TextFault) → TellsSources {A = A} sources (Err f) → TellsSources {A = B} sources (Err f)
@@ -62,8 +65,10 @@ texts_err origin start trace unread f h = record {
   told = h.told;
 }
 
-pub replay_err : {A B : Type 0} (workers : ℕ) (origin : Origin) (start : Option (List ℕ)) (f : TextFault) → TellsReplay {A = A} workers origin start (Err f) → TellsReplay {A = B} workers origin start (Err f)
-replay_err workers origin start f h = record {
+pub replay_err : {A B : Type 0} (wanted : Bool) (workers : ℕ) (origin : Origin) (start : Option (List ℕ)) (unread : Type 0) (f : TextFault) → TellsReplay {A = A} wanted workers origin start unread (Err f) → TellsReplay {A = B} wanted workers origin start unread (Err f)
+replay_err wanted workers origin start unread f h = record {
+  has = tt;
+  lacks = λ e. h.lacks (let same : f ≡ texts.NoText = cc in cc);
   judged = (λ e. h.judged.0 (let same : f ≡ texts.Workers = cc in cc), λ bad. let e = h.judged.1 bad in let same : f ≡ texts.Workers = cc in cc);
   started = λ e. h.started (let same : f ≡ texts.Start = cc in cc);
   settled = λ e. h.settled (let same : f ≡ texts.Unsettled = cc in cc);
@@ -71,12 +76,38 @@ replay_err workers origin start f h = record {
   slot = λ n e. h.slot n (let same : f ≡ texts.NoSlot n = cc in cc);
 }
 
--- the number of workers is one that there may be, and all was read
-pub replay_ok : {A : Type 0} (workers : ℕ) (origin : Origin) (start : Option (List ℕ)) (x : A) → 0 < workers → workers ≤ worker_limit → TellsReplay workers origin start (Ok x)
-replay_ok workers origin start x some few = record { judged = (λ e. absurd cc, λ bad. absurd (may_be workers some few bad)); started = λ e. absurd cc; settled = λ e. cc; actor = λ p e. cc; slot = λ n e. cc }
+-- the version of the machine that a start is on has texts, or none
+pub has_texts : (origin : Origin) (start : Option (List ℕ)) (m : State) (expected : Expected) → IfSome start (λ text. BeginsIn origin text m expected) → has_dump m.config.version ≡ true → IfSome start (HasTexts origin)
+has_texts origin None m expected begins has = tt
+has_texts origin (Some text) m expected begins has = (m, expected, begins, has)
 
-pub replay_trace : {A : Type 0} (workers : ℕ) (origin : Origin) (start : Option (List ℕ)) (fault : TraceFault) → 0 < workers → workers ≤ worker_limit → TellsReplay {A = A} workers origin start (Err (texts.Trace fault))
-replay_trace workers origin start fault some few = record { judged = (λ e. absurd cc, λ bad. absurd (may_be workers some few bad)); started = λ e. absurd cc; settled = λ e. cc; actor = λ p e. cc; slot = λ n e. cc }
+pub lacks_texts : (origin : Origin) (start : Option (List ℕ)) (m : State) (expected : Expected) → IfSome start (λ text. BeginsIn origin text m expected) → has_dump m.config.version ≡ false → IfSome start (LacksTexts origin)
+lacks_texts origin None m expected begins none = tt
+lacks_texts origin (Some text) m expected begins none = (m, expected, begins, none)
+
+-- the number of workers is one that there may be, and all was read
+pub replay_ok : {A : Type 0} (wanted : Bool) (workers : ℕ) (origin : Origin) (start : Option (List ℕ)) (unread : Type 0) (x : A) → (wanted ≡ true → IfSome start (HasTexts origin)) → 0 < workers → workers ≤ worker_limit → TellsReplay wanted workers origin start unread (Ok x)
+replay_ok wanted workers origin start unread x has some few = record { has = has; lacks = λ e. absurd cc; judged = (λ e. absurd cc, λ bad. absurd (may_be workers some few bad)); started = λ e. absurd cc; settled = λ e. cc; actor = λ p e. cc; slot = λ n e. cc }
+
+pub replay_trace : {A : Type 0} (wanted : Bool) (workers : ℕ) (origin : Origin) (start : Option (List ℕ)) (unread : Type 0) (fault : TraceFault) → 0 < workers → workers ≤ worker_limit → TellsReplay {A = A} wanted workers origin start unread (Err (texts.Trace fault))
+replay_trace wanted workers origin start unread fault some few = record { has = tt; lacks = λ e. absurd cc; judged = (λ e. absurd cc, λ bad. absurd (may_be workers some few bad)); started = λ e. absurd cc; settled = λ e. cc; actor = λ p e. cc; slot = λ n e. cc }
+
+-- a text is wanted that the version of the machine has not, and nothing was read of the trace
+pub replay_lacks : {A : Type 0} (wanted : Bool) (workers : ℕ) (origin : Origin) (start : Option (List ℕ)) (unread : Type 0) (m : State) (expected : Expected) → wanted ≡ true → IfSome start (λ text. BeginsIn origin text m expected) → has_dump m.config.version ≡ false → unread → 0 < workers → workers ≤ worker_limit
+    → TellsReplay {A = A} wanted workers origin start unread (Err texts.NoText)
+replay_lacks wanted workers origin start unread m expected wants begins none same some few = record { has = tt; lacks = λ e. (wants, lacks_texts origin start m expected begins none, same); judged = (λ e. absurd cc, λ bad. absurd (may_be workers some few bad)); started = λ e. absurd cc; settled = λ e. cc; actor = λ p e. cc; slot = λ n e. cc }
+
+-- less is known if the trace was not read
+pub replay_unread : {A : Type 0} (wanted : Bool) (workers : ℕ) (origin : Origin) (start : Option (List ℕ)) (unread less : Type 0) (result : Result A TextFault) → (unread → less) → TellsReplay wanted workers origin start unread result → TellsReplay wanted workers origin start less result
+replay_unread wanted workers origin start unread less result step h = record {
+  has = h.has;
+  lacks = λ e. let is = h.lacks e in (is.0, is.1, step is.2);
+  judged = h.judged;
+  started = h.started;
+  settled = h.settled;
+  actor = h.actor;
+  slot = h.slot;
+}
 
 -- the sink took a beginning, and more follows from that
 pub sink_more : {A : Type 0} (failed : Bool) (begun more untouched : Type 0) (result : Result A TextFault) → (begun → more) → TellsSink failed begun untouched result → TellsSink failed more untouched result

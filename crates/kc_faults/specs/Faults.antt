@@ -62,6 +62,7 @@ status_of texts.Start = 3
 status_of texts.Unsettled = 3
 status_of (texts.BadActor program) = 2
 status_of (texts.NoSlot slot) = 2
+status_of texts.NoText = 2
 status_of texts.Read = 3
 status_of texts.Write = 3
 
@@ -77,6 +78,7 @@ fault_words texts.Start = codes "a worker could not be started"
 fault_words texts.Unsettled = codes "history not settled"
 fault_words (texts.BadActor program) = codes "bad actor of program "
 fault_words (texts.NoSlot slot) = codes "the machine has no slot "
+fault_words texts.NoText = codes "version 3 has no dump and no state"
 fault_words texts.Read = codes "read failed"
 fault_words texts.Write = codes "write failed"
 

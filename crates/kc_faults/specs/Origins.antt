@@ -1,6 +1,6 @@
 -- Where the calls of a trace begin, by what the first source of an engine holds.
-use Rattle.std.specs.Prelude.{◌≡◌, ◌⊎◌, List, ℕ, Option, Some, None, Ok, IfSome}
-use Rattle.kc_types.specs.Configuration.{Configuration}
+use Rattle.std.specs.Prelude.{◌≡◌, ◌⊎◌, List, ℕ, true, false, Option, Some, None, Ok, IfSome}
+use Rattle.kc_types.specs.Configuration.{Configuration, has_dump}
 use Rattle.kc_model.specs.State.{State}
 use Rattle.kc_model.specs.Boot.{boot}
 use Rattle.kc_model.specs.Volumes.{IsCoreState}
@@ -39,6 +39,14 @@ SpellsMachine text config = (config_in text ≡ Ok config) ⊎ ((head : Head) ×
 abbrev pub BeginsIn : Origin → List ℕ → State → Expected → Type 0
 BeginsIn origins.Boot text m expected = (config : Configuration) × SpellsMachine text config × (m ≡ boot config) × (expected ≡ First)
 BeginsIn origins.State text m expected = IsCoreState m × (position : Option Position) × IfSome position IsPosition × (text ≡ placed_state_text position m) × (expected ≡ expected_at position)
+
+-- the version of the machine that calls begin on has a dump and a text of a state
+abbrev pub HasTexts : Origin → List ℕ → Type 0
+HasTexts origin text = (m : State) × (expected : Expected) × BeginsIn origin text m expected × (has_dump m.config.version ≡ true)
+
+-- the version of that machine has none
+abbrev pub LacksTexts : Origin → List ℕ → Type 0
+LacksTexts origin text = (m : State) × (expected : Expected) × BeginsIn origin text m expected × (has_dump m.config.version ≡ false)
 
 -- the text is a trace whose header may not be where the other text is of the start, and this is wrong with it
 abbrev pub IsMisplaced : Origin → Option (List ℕ) → List ℕ → HeaderFault → Type 0

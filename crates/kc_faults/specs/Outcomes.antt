@@ -15,7 +15,7 @@ use Rattle.kc_state_text.specs.declared.fault.StateFault.TheVariants as states
 use Rattle.kc_state_text.specs.Refused.{IsRefusedPlaced}
 use Rattle.kc_texts.specs.declared.order.Origin.{Origin}
 use Rattle.kc_texts.specs.declared.order.Origin.TheVariants as origins
-use Rattle.kc_faults.specs.Origins.{IsBegun, IsRefusedFrom}
+use Rattle.kc_faults.specs.Origins.{HasTexts, LacksTexts, IsBegun, IsRefusedFrom}
 use Rattle.kc_faults.specs.declared.fault.TextFault.{TextFault}
 use Rattle.kc_faults.specs.declared.fault.TextFault.TheVariants as texts
 
@@ -30,6 +30,7 @@ pub record IsReadingFault (fault : TextFault) : Type 0 where
   pub unsettled : fault ≢ texts.Unsettled
   pub actor : (program : ℕ) → fault ≢ texts.BadActor program
   pub slot : (number : ℕ) → fault ≢ texts.NoSlot number
+  pub text : fault ≢ texts.NoText
   pub write : fault ≢ texts.Write
   pub told : IsTold fault
 
@@ -62,8 +63,11 @@ pub record TellsTexts {A : Type 0} (origin : Origin) (start trace : Seen) (unrea
   -- out of memory is reported as that, and never as a fault of a text; no fault is one of a dump
   pub told : IfErr result IsTold
 
--- why a replay by this many workers may be refused, after this start
-pub record TellsReplay {A : Type 0} (workers : ℕ) (origin : Origin) (start : Option (List ℕ)) (result : Result A TextFault) : Type 0 where
+-- why a replay by this many workers may be refused, after this start; `wanted` says whether a dump or the text of a state is made, and `unread` that nothing of the trace was read
+pub record TellsReplay {A : Type 0} (wanted : Bool) (workers : ℕ) (origin : Origin) (start : Option (List ℕ)) (unread : Type 0) (result : Result A TextFault) : Type 0 where
+  -- a machine whose version has no such text is refused before the trace is read if one is wanted, and no other machine is
+  pub has : OnOk result (wanted ≡ true → IfSome start (HasTexts origin))
+  pub lacks : result ≡ Err texts.NoText → (wanted ≡ true) × IfSome start (LacksTexts origin) × unread
   pub judged : IsErrOf result texts.Workers ↔ ((workers ≡ 0) ⊎ (worker_limit < workers))
   -- a worker is started only if there is more than one
   pub started : result ≡ Err texts.Start → (1 < workers) × IsBegun origin start

@@ -33,6 +33,8 @@ pub enum TextFault {
     BadActor(usize),
     /// The machine has no slot of this number.
     NoSlot(u32),
+    /// The version of the machine has no dump and no text of a state.
+    NoText,
     /// A source failed, or had too many bytes.
     Read,
     /// A sink failed.
@@ -111,7 +113,8 @@ impl TextFault {
             | TextFault::State(_)
             | TextFault::Workers
             | TextFault::BadActor(_)
-            | TextFault::NoSlot(_) => 2,
+            | TextFault::NoSlot(_)
+            | TextFault::NoText => 2,
             TextFault::Memory
             | TextFault::Start
             | TextFault::Unsettled
@@ -136,6 +139,7 @@ impl TextFault {
             TextFault::Unsettled => "history not settled",
             TextFault::BadActor(_) => "bad actor of program ",
             TextFault::NoSlot(_) => "the machine has no slot ",
+            TextFault::NoText => "version 3 has no dump and no state",
             TextFault::Read => "read failed",
             TextFault::Write => "write failed",
         }

@@ -326,6 +326,7 @@ volume_told before trace old new out unread untouched (texts.Dump said) h is = a
 volume_told before trace old new out unread untouched (texts.State said) h is = absurd is
 volume_told before trace old new out unread untouched (texts.BadActor program) h is = absurd is
 volume_told before trace old new out unread untouched (texts.NoSlot slot) h is = absurd is
+volume_told before trace old new out unread untouched texts.NoText h is = absurd is
 
 -- a fault of the trace, or of writing it with the head that comes after the volume
 pub record TraceFails (before trace : Seen) (old new : Option (List ℕ)) (out : Bool) (untouched : Type 0) (f : TextFault) : Type 0 where
@@ -379,3 +380,4 @@ trace_told before trace old new out unread untouched (texts.Dump said) h is = ab
 trace_told before trace old new out unread untouched (texts.State said) h is = absurd is
 trace_told before trace old new out unread untouched (texts.BadActor program) h is = absurd is
 trace_told before trace old new out unread untouched (texts.NoSlot slot) h is = absurd is
+trace_told before trace old new out unread untouched texts.NoText h is = absurd is

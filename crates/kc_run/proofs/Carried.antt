@@ -25,7 +25,7 @@ use Rattle.kc_redact_text.specs.declared.convert.Converted.{Converted}
 use Rattle.kc_redact_text.specs.Converts.{IsFirstVolume, IsNextVolume, IsRefusedBare, IsConversion, IsSystemFault, IsConvertFault}
 use Rattle.kc_texts.specs.declared.order.ReplayForm.{ReplayForm}
 use Rattle.kc_cli.specs.declared.replaying.Compared.{Compared}
-use Rattle.kc_cli.specs.Engine.{IsReplayText, DiffersFromLeft}
+use Rattle.kc_cli.specs.Engine.{IsReplayText, DiffersFromLeft, wants_text}
 use Rattle.kc_cli.specs.Answers.{AreAnswered}
 use Rattle.kc_cli.specs.Live.{IsLiveText, CouldRun, HasBadActor}
 use Rattle.kc_run.specs.declared.ending.Ending.TheVariants as endings
@@ -46,7 +46,7 @@ sink_err {A} {B} failed begun untouched f h = record {
 
 pub replays : (origin : Origin) (form : ReplayForm) (blank : Bool) (workers : ℕ) (start : Seen) (ends : Ends) (r : Result Answered TextFault) → ends.refused ≡ None
     → IfOk r (AreAnswered origin start.had ends.input.had)
-    → OnOk r (Writes (IsReplayText origin form blank) start.had ends.input.had ends.out.had ends.out.has) → TellsSources (start ∷ ends.input ∷ []) r → TellsTexts origin start ends.input ends.unread r → TellsReplay workers origin start.had r
+    → OnOk r (Writes (IsReplayText origin form blank) start.had ends.input.had ends.out.had ends.out.has) → TellsSources (start ∷ ends.input ∷ []) r → TellsTexts origin start ends.input ends.unread r → TellsReplay (wants_text form) workers origin start.had ends.unread r
     → TellsSink ends.out.failed (Begins (IsReplayText origin form blank) start.had ends.input.had ends.out.had ends.out.has) ends.untouched r → Replays origin form blank workers start None ends (answered_as r)
 replays origin form blank workers start ends (Ok x) opened answered written sources told replay sink = record {
   opened = opened;
@@ -55,7 +55,7 @@ replays origin form blank workers start ends (Ok x) opened answered written sour
   compared = tt;
   sources = sources_after _ x (Ok (endings.Answered x)) sources tt;
   told = texts_after _ _ _ _ x (Ok (endings.Answered x)) told tt;
-  replay = replay_after _ _ _ x (Ok (endings.Answered x)) replay tt;
+  replay = replay_after _ _ _ _ _ x (Ok (endings.Answered x)) replay tt;
   sink = sink_ok _ _ _ x (endings.Answered x) sink;
 }
 replays origin form blank workers start ends (Err f) opened answered written sources told replay sink = record {
@@ -65,7 +65,7 @@ replays origin form blank workers start ends (Err f) opened answered written sou
   compared = tt;
   sources = sources_err _ f sources;
   told = texts_err _ _ _ _ f told;
-  replay = replay_err _ _ _ f replay;
+  replay = replay_err _ _ _ _ _ f replay;
   sink = sink_err _ _ _ f sink;
 }
 
@@ -81,7 +81,7 @@ compared_so origin blank start trace to answered (Some line) is = is
 pub compares : (origin : Origin) (form : ReplayForm) (blank : Bool) (workers : ℕ) (start to : Seen) (ends : Ends) (r : Result Compared TextFault) → ends.refused ≡ None
     → IfOk r (λ made. AreAnswered origin start.had ends.input.had made.answered)
     → OnOk r (Writes (IsReplayText origin form blank) start.had ends.input.had ends.out.had ends.out.has) → IfOk r (λ made. DiffersFromLeft origin blank start.had ends.input.had to.had made.difference)
-    → TellsSources (start ∷ ends.input ∷ to ∷ []) r → TellsTexts origin start ends.input ends.unread r → TellsReplay workers origin start.had r
+    → TellsSources (start ∷ ends.input ∷ to ∷ []) r → TellsTexts origin start ends.input ends.unread r → TellsReplay true workers origin start.had ends.unread r
     → TellsSink ends.out.failed (Begins (IsReplayText origin form blank) start.had ends.input.had ends.out.had ends.out.has) ends.untouched r → Replays origin form blank workers start (Some to) ends (compared_as r)
 compares origin form blank workers start to ends (Ok x) opened answered written differs sources told replay sink =
     let ending = compared_by x.answered x.difference in
@@ -92,7 +92,7 @@ compares origin form blank workers start to ends (Ok x) opened answered written 
       compared = compared_so origin blank start.had ends.input.had to x.answered x.difference differs;
       sources = sources_after _ x (Ok ending) sources tt;
       told = texts_after _ _ _ _ x (Ok ending) told tt;
-      replay = replay_after _ _ _ x (Ok ending) replay tt;
+      replay = replay_after _ _ _ _ _ x (Ok ending) replay tt;
       sink = sink_ok _ _ _ x ending sink;
     }
 compares origin form blank workers start to ends (Err f) opened answered written differs sources told replay sink = record {
@@ -102,16 +102,16 @@ compares origin form blank workers start to ends (Err f) opened answered written
   compared = tt;
   sources = sources_err _ f sources;
   told = texts_err _ _ _ _ f told;
-  replay = replay_err _ _ _ f replay;
+  replay = replay_err _ _ _ _ _ f replay;
   sink = sink_err _ _ _ f sink;
 }
 
 pub runs_live : {A : Type 0} (workers : ℕ) (config : Seen) (ends : Ends) (r : Result A TextFault) → ends.refused ≡ None
     → OnOk r (Writes IsLiveText config.had ends.input.had ends.out.had ends.out.has) → TellsSources (config ∷ ends.input ∷ []) r → TellsTexts origins.Boot config ends.input ends.unread r
     → TellsSink ends.out.failed (Begins IsLiveText config.had ends.input.had ends.out.had ends.out.has) ends.untouched r
-    → (IsErrOf r texts.Workers ↔ ((workers ≡ 0) ⊎ (worker_limit < workers))) → ((program : ℕ) → r ≡ Err (texts.BadActor program) → HasBadActor config.had ends.input.had program) → ((number : ℕ) → r ≢ Err (texts.NoSlot number))
+    → (IsErrOf r texts.Workers ↔ ((workers ≡ 0) ⊎ (worker_limit < workers))) → ((program : ℕ) → r ≡ Err (texts.BadActor program) → HasBadActor config.had ends.input.had program) → ((number : ℕ) → r ≢ Err (texts.NoSlot number)) → r ≢ Err texts.NoText
     → (r ≡ Err texts.Start → CouldRun config.had ends.input.had) → (r ≡ Err texts.Unsettled → CouldRun config.had ends.input.had) → RunsLive workers config ends (done_as r)
-runs_live workers config ends (Ok x) opened written sources told sink judged actor slot started unsettled = record {
+runs_live workers config ends (Ok x) opened written sources told sink judged actor slot text started unsettled = record {
   opened = opened;
   written = written;
   done = refl;
@@ -121,10 +121,11 @@ runs_live workers config ends (Ok x) opened written sources told sink judged act
   judged = (λ e. absurd cc, λ bad. let e = judged.1 bad in absurd cc);
   actor = λ p e. absurd cc;
   slot = λ n e. cc;
+  text = λ e. cc;
   started = λ e. absurd cc;
   unsettled = λ e. absurd cc;
 }
-runs_live workers config ends (Err f) opened written sources told sink judged actor slot started unsettled = record {
+runs_live workers config ends (Err f) opened written sources told sink judged actor slot text started unsettled = record {
   opened = opened;
   written = tt;
   done = tt;
@@ -134,6 +135,7 @@ runs_live workers config ends (Err f) opened written sources told sink judged ac
   judged = (λ e. judged.0 (let same : f ≡ texts.Workers = cc in cc), λ bad. let e = judged.1 bad in let same : f ≡ texts.Workers = cc in cc);
   actor = λ p e. actor p (let same : f ≡ texts.BadActor p = cc in cc);
   slot = λ n e. slot n (let same : f ≡ texts.NoSlot n = cc in cc);
+  text = λ e. text (let same : f ≡ texts.NoText = cc in cc);
   started = λ e. started (let same : f ≡ texts.Start = cc in cc);
   unsettled = λ e. unsettled (let same : f ≡ texts.Unsettled = cc in cc);
 }

@@ -203,6 +203,7 @@ unopened path refused (texts.Dump said) h = inl (h.1, h.0)
 unopened path refused (texts.State said) h = inl (h.1, h.0)
 unopened path refused (texts.BadActor program) h = inl (h.1, h.0)
 unopened path refused (texts.NoSlot slot) h = inl (h.1, h.0)
+unopened path refused texts.NoText h = inl (h.1, h.0)
 
 -- after those that were read
 pub open_failed : {A O : Type 0} (kind : Kind A O) (old account : A) (sources : List Seen) (number : ℕ) (name : List ℕ) (refused : Option (List ℕ)) (followed : Bool) (fault : TextFault) → ReadsOn kind old account None sources number followed (Ok None) → Unopened name refused fault
@@ -219,7 +220,7 @@ open_failed kind old account sources number name refused followed fault reads (i
       read = λ e. absurd cc;
       failed = λ bad. (let e = reads.failed bad in absurd cc);
       unopened = λ some. (let never = subst (λ (r : Option (List ℕ)). is_some r ≡ true) none some in absurd cc);
-      fault = record { workers = λ e. cc; unsettled = λ e. cc; actor = λ p e. cc; slot = λ n e. cc; write = λ e. cc; config = λ s e. cc; state = λ s e. cc; told = (λ e. cc, λ e. cc, λ e. cc, λ d e. cc) };
+      fault = record { workers = λ e. cc; unsettled = λ e. cc; actor = λ p e. cc; slot = λ n e. cc; text = λ e. cc; write = λ e. cc; config = λ s e. cc; state = λ s e. cc; told = (λ e. cc, λ e. cc, λ e. cc, λ d e. cc) };
       trace = λ said e. cc;
       started = λ e. absurd cc;
     }
@@ -235,7 +236,7 @@ open_failed kind old account sources number name refused followed fault reads (i
       read = λ e. inr (subst (λ (r : Option (List ℕ)). is_some r ≡ true) (sym some) refl);
       failed = λ bad. (let e = reads.failed bad in absurd cc);
       unopened = λ none. ap Err same;
-      fault = record { workers = λ e. cc; unsettled = λ e. cc; actor = λ p e. cc; slot = λ n e. cc; write = λ e. cc; config = λ s e. cc; state = λ s e. cc; told = (λ e. cc, λ e. cc, λ e. cc, λ d e. cc) };
+      fault = record { workers = λ e. cc; unsettled = λ e. cc; actor = λ p e. cc; slot = λ n e. cc; text = λ e. cc; write = λ e. cc; config = λ s e. cc; state = λ s e. cc; told = (λ e. cc, λ e. cc, λ e. cc, λ d e. cc) };
       trace = λ said e. cc;
       started = λ e. absurd cc;
     }

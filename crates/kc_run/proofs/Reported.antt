@@ -51,13 +51,13 @@ not_judged kind order account m start (Err f) begun other = (λ e. absurd (other
 -- an account that began names a slot that the machine has, and reports no fault
 account_told : {A O : Type 0} {X : Type 0} (kind : Kind A O) (order : O) (account : A) (m : State) (start : Seen) (unread : Type 0) (x : X) → HasStarted kind order account m start → TellsAccount (kind.slot order) (kind.workers order) (kind.origin order) start.had unread (Ok x)
 account_told kind order account m start unread x begun =
-    record { named = begun.slot; lacking = λ n e. absurd cc; judged = not_judged kind order account m start (Ok x) begun (λ e. cc); started = λ e. absurd cc; settled = λ e. cc; actor = λ p e. cc }
+    record { named = begun.slot; lacking = λ n e. absurd cc; judged = not_judged kind order account m start (Ok x) begun (λ e. cc); started = λ e. absurd cc; settled = λ e. cc; actor = λ p e. cc; text = λ e. cc }
 
 account_last : {A O : Type 0} {X : Type 0} (kind : Kind A O) (order : O) (account : A) (m : State) (start : Seen) (unread : Type 0) (f : TextFault) → HasStarted kind order account m start → IsLastFault f → TellsAccount {A = X} (kind.slot order) (kind.workers order) (kind.origin order) start.had unread (Err f)
 account_last kind order account m start unread f begun (inl same) =
-    record { named = tt; lacking = λ n e. absurd cc; judged = not_judged kind order account m start (Err f) begun (λ e. cc); started = λ e. absurd cc; settled = λ e. cc; actor = λ p e. cc }
+    record { named = tt; lacking = λ n e. absurd cc; judged = not_judged kind order account m start (Err f) begun (λ e. cc); started = λ e. absurd cc; settled = λ e. cc; actor = λ p e. cc; text = λ e. cc }
 account_last kind order account m start unread f begun (inr same) =
-    record { named = tt; lacking = λ n e. absurd cc; judged = not_judged kind order account m start (Err f) begun (λ e. cc); started = λ e. absurd cc; settled = λ e. cc; actor = λ p e. cc }
+    record { named = tt; lacking = λ n e. absurd cc; judged = not_judged kind order account m start (Err f) begun (λ e. cc); started = λ e. absurd cc; settled = λ e. cc; actor = λ p e. cc; text = λ e. cc }
 
 account_failed : {A O : Type 0} {X : Type 0} (kind : Kind A O) (order : O) (account : A) (m : State) (start : Seen) (unread : Type 0) (f : TextFault) → HasStarted kind order account m start → IsReplayFault f → (f ≡ texts.Start → 1 < kind.workers order)
     → TellsAccount {A = X} (kind.slot order) (kind.workers order) (kind.origin order) start.had unread (Err f)
@@ -68,6 +68,7 @@ account_failed kind order account m start unread f begun is started = record {
   started = λ e. (started (let same : f ≡ texts.Start = cc in same), begun_is (kind.origin order) start.had m (kind.first account) begun.begins);
   settled = λ e. is.unsettled (let same : f ≡ texts.Unsettled = cc in same);
   actor = λ p e. is.actor p (let same : f ≡ texts.BadActor p = cc in same);
+  text = λ e. is.text (let same : f ≡ texts.NoText = cc in same);
 }
 
 -- nothing was written
@@ -249,6 +250,7 @@ begun_account slot workers origin start unread f none h = record {
   started = λ e. h.started (let same : f ≡ texts.Start = cc in cc);
   settled = λ e. h.settled (let same : f ≡ texts.Unsettled = cc in cc);
   actor = λ p e. h.actor p (let same : f ≡ texts.BadActor p = cc in cc);
+  text = λ e. h.text (let same : f ≡ texts.NoText = cc in cc);
 }
 
 begun_texts : {A B : Type 0} (origin : Origin) (start trace : Seen) (unread : Type 0) (f : TextFault) → unread → ((said : TraceFault) → f ≢ texts.Trace said) → TellsTexts {A = A} origin start trace (Unit {0}) (Err f) → TellsTexts {A = B} origin start trace unread (Err f)

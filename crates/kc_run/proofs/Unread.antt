@@ -4,7 +4,7 @@ use Rattle.std.specs.Prelude.{IfOk}
 use Rattle.kc_texts.specs.declared.order.Origin.{Origin}
 use Rattle.kc_faults.specs.declared.fault.TextFault.{TextFault}
 use Rattle.kc_texts.specs.Ends.{Seen}
-use Rattle.kc_faults.proofs.Told.{texts_unread}
+use Rattle.kc_faults.proofs.Told.{texts_unread, replay_unread}
 use Rattle.kc_texts.specs.declared.order.ReplayForm.{ReplayForm}
 use Rattle.kc_cli.specs.Kinds.{TellsAccount}
 use Rattle.kc_args.specs.Jobs.{Path}
@@ -12,7 +12,7 @@ use Rattle.kc_run.specs.declared.ending.Ending.TheVariants as endings
 use Rattle.kc_run.specs.Endings.{Ended}
 use Rattle.kc_run.specs.Ends.{Ends}
 use Rattle.kc_run.specs.Reports.{Report, IsVolumesEnding, ReportsTrace, ReportsVolumes, Reports}
-use Rattle.kc_run.specs.Run.{IsUnopened, Replays, ReplaysTo}
+use Rattle.kc_run.specs.Run.{IsUnopened, makes_text, Replays, ReplaysTo}
 
 -- the ends, of which less is known if nothing was read
 abbrev pub with_unread : Ends → Type 0 → Ends
@@ -32,7 +32,7 @@ replays_less origin form blank workers start to ends less ended step h = record 
   compared = h.compared;
   sources = h.sources;
   told = texts_unread origin start ends.input ends.unread less ended step h.told;
-  replay = h.replay;
+  replay = replay_unread (makes_text form to) workers origin start.had ends.unread less ended step h.replay;
   sink = h.sink;
 }
 
@@ -52,6 +52,7 @@ account_less slot workers origin start unread less result step h = record {
   started = h.started;
   settled = h.settled;
   actor = h.actor;
+  text = h.text;
 }
 
 trace_less : (report : Report) (start : Seen) (ends : Ends) (less : Type 0) (ended : Ended) → (ends.unread → less) → ReportsTrace report start ends ended → ReportsTrace report start (with_unread ends less) ended

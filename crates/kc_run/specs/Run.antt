@@ -25,7 +25,7 @@ use Rattle.kc_redact_text.specs.Redacts.{Redacts, BeginsRedaction, IsRedactFault
 use Rattle.kc_redact_text.specs.declared.convert.Converted.{Converted}
 use Rattle.kc_redact_text.specs.Converts.{IsFirstVolume, IsNextVolume, IsRefusedBare, IsConversion, IsSystemFault, IsConvertFault}
 use Rattle.kc_texts.specs.declared.order.ReplayForm.{ReplayForm}
-use Rattle.kc_cli.specs.Engine.{IsReplayText, DiffersFromLeft}
+use Rattle.kc_cli.specs.Engine.{IsReplayText, DiffersFromLeft, wants_text}
 use Rattle.kc_cli.specs.Answers.{AreAnswered}
 use Rattle.kc_cli.specs.Live.{IsLiveText, CouldRun, HasBadActor}
 use Rattle.kc_args.specs.declared.job.Action.{Action}
@@ -67,6 +67,11 @@ abbrev pub those_of : Option Seen → List Seen
 those_of None = []
 those_of (Some source) = source ∷ []
 
+-- whether the text of a dump or of a state is made: it is written, or that of a state is compared with a third text
+abbrev pub makes_text : ReplayForm → Option Seen → Bool
+makes_text form None = wants_text form
+makes_text form (Some to) = true
+
 -- a replay over open sources ended so
 pub record Replays (origin : Origin) (form : ReplayForm) (blank : Bool) (workers : ℕ) (start : Seen) (to : Option Seen) (ends : Ends) (ended : Ended) : Type 0 where
   pub opened : ends.refused ≡ None
@@ -75,7 +80,7 @@ pub record Replays (origin : Origin) (form : ReplayForm) (blank : Bool) (workers
   pub compared : IfOk ended (IsCompared origin blank start.had ends.input.had to)
   pub sources : TellsSources (start ∷ ends.input ∷ those_of to) ended
   pub told : TellsTexts origin start ends.input ends.unread ended
-  pub replay : TellsReplay workers origin start.had ended
+  pub replay : TellsReplay (makes_text form to) workers origin start.had ends.unread ended
   pub sink : TellsSink ends.out.failed (Begins (IsReplayText origin form blank) start.had ends.input.had ends.out.had ends.out.has) ends.untouched ended
 
 -- a replay from an open start, which compares the state left with what this file holds, if one is named
@@ -94,6 +99,7 @@ pub record RunsLive (workers : ℕ) (config : Seen) (ends : Ends) (ended : Ended
   pub judged : IsErrOf ended texts.Workers ↔ ((workers ≡ 0) ⊎ (worker_limit < workers))
   pub actor : (program : ℕ) → ended ≡ Err (texts.BadActor program) → HasBadActor config.had ends.input.had program
   pub slot : (number : ℕ) → ended ≢ Err (texts.NoSlot number)
+  pub text : ended ≢ Err texts.NoText
   pub started : ended ≡ Err texts.Start → CouldRun config.had ends.input.had
   pub unsettled : ended ≡ Err texts.Unsettled → CouldRun config.had ends.input.had
 

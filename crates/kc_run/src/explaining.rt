@@ -243,6 +243,11 @@ impl<'a> Reading<'a> {
                     "  slots are numbered from 0: version 1 has 16, version 2 has 64"
                 );
             },
+            TextFault::NoText => {
+                let _ = eprintln!(rt;
+                    "  leave out --dump, --state and --to to get the replies; custody works too"
+                );
+            },
             TextFault::Read => self.explain_read(rt),
             _ => {},
         }

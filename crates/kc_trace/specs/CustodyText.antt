@@ -80,13 +80,13 @@ abbrev pub digest_text : List ℕ → List ℕ
 digest_text digest = codes "\"" ++ (encode_lower digest ++ codes "\"")
 
 -- the launch measurement, if there is one
-abbrev pub launch_text : Option (List ℕ) → List ℕ
-launch_text None = []
-launch_text (Some digest) = codes ",\"measured\":" ++ digest_text digest
+abbrev pub launch_member : Option (List ℕ) → List ℕ
+launch_member None = []
+launch_member (Some digest) = codes ",\"measured\":" ++ digest_text digest
 
 -- what was measured: the images, and then the launch measurement
 abbrev pub measurement_text : Measurement → List ℕ
-measurement_text measured = codes ",\"images\":[" ++ (images_text measured.images ++ (codes "]" ++ launch_text measured.launch))
+measurement_text measured = codes ",\"images\":[" ++ (images_text measured.images ++ (codes "]" ++ launch_member measured.launch))
 
 -- the line of a slot's change, with its newline
 abbrev pub phase_line : PhaseChange → List ℕ

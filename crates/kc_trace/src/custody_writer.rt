@@ -4,7 +4,7 @@ ghost use Rattle.std.specs.List.{flat_map};
 ghost use Rattle.std.specs.Fmt.{decimal};
 ghost use Rattle.kc_types.specs.Limits.{image_limit};
 ghost use Rattle.kc_types.specs.Configuration.{slot_count};
-ghost use Rattle.kc_trace.specs.CustodyText.{owner_text, number_text, flag_text, phase_text, custody_text, frame_line, image_text, more_image_text, images_text, launch_text, measurement_text, phase_line, change_line, version_text, digest_text, trace_text, start_text, digests_text, accesses_text, versions_text, sizes_text, refused_count_text, heading_text, header_line, end_line, longest_custody, longest_image, longest_images, longest_launch, longest_measurement, longest_change, longest_digest, longest_trace, longest_start, longest_digests};
+ghost use Rattle.kc_trace.specs.CustodyText.{owner_text, number_text, flag_text, phase_text, custody_text, frame_line, image_text, more_image_text, images_text, launch_member, measurement_text, phase_line, change_line, version_text, digest_text, trace_text, start_text, digests_text, accesses_text, versions_text, sizes_text, refused_count_text, heading_text, header_line, end_line, longest_custody, longest_image, longest_images, longest_launch, longest_measurement, longest_change, longest_digest, longest_trace, longest_start, longest_digests};
 
 use crate::volume_writer::{Chain, push_chain};
 use itoa::Buffer;
@@ -224,7 +224,7 @@ fn push_digest(text: &mut Vec<u8>, digest: &[u8; 32])
 /// Appends the launch measurement, if there is one.
 fn push_launch(text: &mut Vec<u8>, launch: &Option<[u8; 32]>)
     requires { vec_len text.old + longest_launch ≤ vec_capacity text.old }
-    ensures items { text.new.items ≡ text.old.items ++ launch_text launch.now }
+    ensures items { text.new.items ≡ text.old.items ++ launch_member launch.now }
     ensures len { vec_len text.new ≤ vec_len text.old + longest_launch }
     ensures capacity { vec_capacity text.old ≤ vec_capacity text.new }
 {

@@ -2,7 +2,8 @@
 ghost use Rattle.std.specs.Prelude.{◌≡◌, ◌≤◌, ◌+◌, ◌++◌, drop, length, vec_len, vec_capacity, IfOk, OnOk};
 ghost use Rattle.std.specs.List.{flat_map};
 ghost use Rattle.kc_remarks.specs.Attempts.{AreInOrder, refusals};
-ghost use Rattle.kc_trace.specs.SummaryText.{turns_text, measurement_text, accesses_counted, counts_text, sharing_text, more_sharing_text, sharings_text, shared_text, reason_member, reason_text, refused_text, life_line, summary_header, summary_end, summary_text_of};
+ghost use Rattle.kc_trace.specs.CustodyText.{measurement_text};
+ghost use Rattle.kc_trace.specs.SummaryText.{turns_text, accesses_counted, counts_text, sharing_text, more_sharing_text, sharings_text, shared_text, reason_member, reason_text, refused_text, life_line, summary_header, summary_end, summary_text_of};
 
 use crate::custody_writer::{
     Heading, push_gfn, push_heading, push_measurement, push_member, push_number,

@@ -1,8 +1,8 @@
 -- What each function says of a session by its status. A session is the volume that it fills, with what its last call
 -- changed; if it is closed, there is none.
-use Rattle.std.specs.Prelude.{◌≡◌, ◌≤◌, ◌<◌, ◌+◌, ℕ, List, Option, Some, None, Ok, IsSome, length, map, take, drop, slice_get, option_map}
+use Rattle.std.specs.Prelude.{◌≡◌, ◌≤◌, ◌<◌, ◌+◌, ℕ, true, false, List, Option, Some, None, Ok, IsSome, length, map, take, drop, slice_get, option_map}
 use Rattle.std.specs.List.{concat}
-use Rattle.kc_types.specs.Configuration.{Configuration, slot_count}
+use Rattle.kc_types.specs.Configuration.{Configuration, slot_count, has_dump}
 use Rattle.kc_types.specs.Limits.{byte_limit, call_limit, page_size}
 use Rattle.kc_types.specs.declared.call.Actor.{Actor}
 use Rattle.kc_types.specs.declared.config.ConfigFault.TheVariants as numbers
@@ -33,7 +33,7 @@ use Rattle.kcore_c.specs.declared.record.Record.{Record}
 use Rattle.kcore_c.specs.declared.record.Change.{Change}
 use Rattle.kcore_c.specs.declared.record.Sizes.{Sizes}
 use Rattle.kcore_c.specs.declared.status.Status.{Status}
-use Rattle.kcore_c.specs.declared.status.Status.TheVariants.{Done, Closed, AlreadyOpen, Memory, NoRoom, NoSuchLine, NoSuchFrame, NoSuchChange, NoSuchCall, Ask, Config, TooLong, State}
+use Rattle.kcore_c.specs.declared.status.Status.TheVariants.{Done, Closed, AlreadyOpen, Memory, NoRoom, NoSuchLine, NoSuchFrame, NoSuchChange, NoSuchCall, Ask, Config, TooLong, State, NoText}
 
 -- their numbers in C
 abbrev pub code_of : Status → ℕ
@@ -66,6 +66,7 @@ code_of (State (states.Found finding)) = 23
 code_of (State (states.Slot v)) = 24
 code_of (State (states.Frame f)) = 25
 code_of (State states.Memory) = 3
+code_of NoText = 26
 
 -- the number is that of a status which says so
 abbrev pub IsCode : (Status → Type 0) → ℕ → Type 0
@@ -113,27 +114,38 @@ ResumeSays old new text before after _ = ⊥
 abbrev pub text_in : StateForm → Kept → List ℕ
 text_in form kept = placed_state_text (onward_of kept) (in_form form kept.log.state)
 
+-- the version of a session's machine has a dump and a text of a state
+abbrev pub HasTexts : Kept → Type 0
+HasTexts kept = has_dump kept.log.state.config.version ≡ true
+
+-- it has none
+abbrev pub LacksTexts : Kept → Type 0
+LacksTexts kept = has_dump kept.log.state.config.version ≡ false
+
 -- giving the text of a session's state in a form, with room for this many bytes
 abbrev pub StateSays : StateForm → Option Kept → ℕ → List ℕ → Status → Type 0
-StateSays form (Some kept) room bytes Done = bytes ≡ text_in form kept
-StateSays form (Some kept) room bytes NoRoom = room < length (text_in form kept)
-StateSays form (Some kept) room bytes Memory = Unit {0}
+StateSays form (Some kept) room bytes Done = HasTexts kept × (bytes ≡ text_in form kept)
+StateSays form (Some kept) room bytes NoText = LacksTexts kept
+StateSays form (Some kept) room bytes NoRoom = HasTexts kept × (room < length (text_in form kept))
+StateSays form (Some kept) room bytes Memory = HasTexts kept
 StateSays form None room bytes Closed = Unit {0}
 StateSays form _ room bytes _ = ⊥
 
 -- giving the dump of a session's core, with room for this many bytes
 abbrev pub DumpSays : Option Kept → ℕ → List ℕ → Status → Type 0
-DumpSays (Some kept) room bytes Done = bytes ≡ dump_text (dump_of kept.log.state)
-DumpSays (Some kept) room bytes NoRoom = room < length (dump_text (dump_of kept.log.state))
-DumpSays (Some kept) room bytes Memory = Unit {0}
+DumpSays (Some kept) room bytes Done = HasTexts kept × (bytes ≡ dump_text (dump_of kept.log.state))
+DumpSays (Some kept) room bytes NoText = LacksTexts kept
+DumpSays (Some kept) room bytes NoRoom = HasTexts kept × (room < length (dump_text (dump_of kept.log.state)))
+DumpSays (Some kept) room bytes Memory = HasTexts kept
 DumpSays None room bytes Closed = Unit {0}
 DumpSays _ room bytes _ = ⊥
 
 -- giving the digest of the text of a session's blank state, with room for this many bytes
 abbrev pub BlankDigestSays : Option Kept → ℕ → List ℕ → Status → Type 0
-BlankDigestSays (Some kept) room bytes Done = bytes ≡ sha256 (text_in Blank kept)
-BlankDigestSays (Some kept) room bytes NoRoom = room < 32
-BlankDigestSays (Some kept) room bytes Memory = Unit {0}
+BlankDigestSays (Some kept) room bytes Done = HasTexts kept × (bytes ≡ sha256 (text_in Blank kept))
+BlankDigestSays (Some kept) room bytes NoText = LacksTexts kept
+BlankDigestSays (Some kept) room bytes NoRoom = HasTexts kept × (room < 32)
+BlankDigestSays (Some kept) room bytes Memory = HasTexts kept
 BlankDigestSays None room bytes Closed = Unit {0}
 BlankDigestSays _ room bytes _ = ⊥
 

@@ -299,7 +299,8 @@ pub extern "C" fn kcore_digest(
 
 /// Gives the text of the core's state, which `kcore_resume` can open again and which `kcore replay --state` writes. If the
 /// session's traces have heads, it says which volume goes on from the state: this one if it has no call yet, else the
-/// next. The bytes after the first `used` stay; if no text is given, `used` is 0.
+/// next. A machine whose version has no such text is refused. The bytes after the first `used` stay; if no text is given,
+/// `used` is 0.
 #[unsafe(no_mangle)]
 pub extern "C" fn kcore_state(
     alloc: Global,
@@ -327,8 +328,8 @@ pub extern "C" fn kcore_blank_state(
     session::state(alloc, core, StateForm::Blank, out, used).code()
 }
 
-/// Gives the SHA-256 digest of the text that `kcore_blank_state` gives, which has 32 bytes. The bytes after the first
-/// `used` stay; if no digest is given, `used` is 0.
+/// Gives the SHA-256 digest of the text that `kcore_blank_state` gives, which has 32 bytes. A machine whose version has no
+/// such text is refused. The bytes after the first `used` stay; if no digest is given, `used` is 0.
 #[unsafe(no_mangle)]
 pub extern "C" fn kcore_blank_digest(
     alloc: Global,
@@ -342,8 +343,8 @@ pub extern "C" fn kcore_blank_digest(
     session::blank_digest(alloc, core, out, used).code()
 }
 
-/// Gives the dump of the core, as `kcore replay --dump` writes it. The bytes after the first `used` stay; if no dump is
-/// given, `used` is 0.
+/// Gives the dump of the core, as `kcore replay --dump` writes it. A machine whose version has none is refused. The bytes
+/// after the first `used` stay; if no dump is given, `used` is 0.
 #[unsafe(no_mangle)]
 pub extern "C" fn kcore_dump(
     alloc: Global,

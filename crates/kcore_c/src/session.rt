@@ -2,6 +2,7 @@
 ghost use Rattle.std.specs.Prelude.{◌≡◌, ◌≤◌, ◌↔◌, Some, None, false, IsTrue, length, take, drop, IfOk, IfErr, IfSome};
 ghost use Rattle.kc_config_text.specs.ConfigText.{config_in, ConfigFails};
 ghost use Rattle.kcore_c.specs.Status.{BootSays, CallSays, DoSays, LineSays, DigestSays, ResumeSays, StateSays, DumpSays, BlankDigestSays, IsResumed, TurnSays, EndSays, IsBooted, Puts, place_of};
+ghost use Rattle.kc_types.specs.Configuration.{has_dump};
 ghost use Rattle.kc_types.specs.Limits.{byte_limit};
 ghost use Rattle.kc_trace.specs.Header.{IsPosition};
 ghost use Rattle.kc_snapshot.specs.Dumping.{dump_of};
@@ -264,7 +265,14 @@ pub fn digest(alloc: Global, core: &mut Handle, out: &mut [u8], used: &mut usize
     Status::Done
 }
 
-/// Gives the text of the session's state in a form, in `out`.
+/// Whether there is a text of the session's state.
+fn has_state(session: &Session) -> bool
+    ensures { result ≡ has_dump session.now.log.state.config.version }
+{
+    session.core().config().version().has_dump()
+}
+
+/// Gives the text of the session's state in a form, in `out`, if its machine has one.
 pub fn state(
     alloc: Global,
     core: &mut Handle,
@@ -279,6 +287,10 @@ pub fn state(
     let Some(session) = core.take(alloc) else {
         return Status::Closed;
     };
+    if !has_state(&session) {
+        core.put(session);
+        return Status::NoText;
+    }
     let mut session = session;
     let position = session.onward();
     let told = whole_text(alloc, session.core(), position, form);
@@ -302,7 +314,7 @@ fn dumped(alloc: Global, core: &KCore) -> Result<Vec<u8>, Memory>
     write_dump(alloc, &dump)
 }
 
-/// Gives the dump of the session's core, in `out`.
+/// Gives the dump of the session's core, in `out`, if its machine has one.
 pub fn dump(alloc: Global, core: &mut Handle, out: &mut [u8], used: &mut usize) -> Status
     ensures puts { Puts (DumpSays core.old.held.session) out.old out.new used.new result }
     ensures same { core.new.held.session ≡ core.old.held.session }
@@ -311,6 +323,10 @@ pub fn dump(alloc: Global, core: &mut Handle, out: &mut [u8], used: &mut usize) 
     let Some(session) = core.take(alloc) else {
         return Status::Closed;
     };
+    if !session.core().config().version().has_dump() {
+        core.put(session);
+        return Status::NoText;
+    }
     let told = dumped(alloc, session.core());
     core.put(session);
     match told {
@@ -324,7 +340,7 @@ pub fn dump(alloc: Global, core: &mut Handle, out: &mut [u8], used: &mut usize) 
     }
 }
 
-/// Gives the digest of the text of the session's blank state, in `out`.
+/// Gives the digest of the text of the session's blank state, in `out`, if its machine has one.
 pub fn blank_digest(alloc: Global, core: &mut Handle, out: &mut [u8], used: &mut usize) -> Status
     ensures puts { Puts (BlankDigestSays core.old.held.session) out.old out.new used.new result }
     ensures same { core.new.held.session ≡ core.old.held.session }
@@ -333,6 +349,10 @@ pub fn blank_digest(alloc: Global, core: &mut Handle, out: &mut [u8], used: &mut
     let Some(session) = core.take(alloc) else {
         return Status::Closed;
     };
+    if !has_state(&session) {
+        core.put(session);
+        return Status::NoText;
+    }
     let mut session = session;
     if out.len() < DIGEST {
         core.put(session);

@@ -36,6 +36,8 @@ pub enum Status {
     TooLong,
     /// The text is not a lawful state's.
     State(StateFault),
+    /// The version of the machine has no dump and no text of a state.
+    NoText,
 }
 
 impl Status {
@@ -73,6 +75,7 @@ impl Status {
             Status::State(StateFault::Slot(_)) => 24,
             Status::State(StateFault::Frame(_)) => 25,
             Status::State(StateFault::Memory) => 3,
+            Status::NoText => 26,
         }
     }
 }

@@ -88,6 +88,7 @@ fn shows_other_faults(rt: HostRuntime) {
         (TextFault::Unsettled, "history not settled"),
         (TextFault::BadActor(12), "bad actor of program 12"),
         (TextFault::NoSlot(16), "the machine has no slot 16"),
+        (TextFault::NoText, "version 3 has no dump and no state"),
         (TextFault::Read, "read failed"),
         (TextFault::Write, "write failed"),
     ] {

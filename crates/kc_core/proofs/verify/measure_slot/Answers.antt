@@ -1,18 +1,18 @@
-use Rattle.std.proofs.Common.{◌≡◌, ◌<◌, IsSome, All, sym, ap, ◌∙◌}
+use Rattle.std.proofs.Common.{◌≡◌, ◌<◌, IsSome, All, sym, ap, ap₂, ◌∙◌}
 use Rattle.kc_types.specs.Configuration.{slot_count}
 use Rattle.kc_types.specs.declared.resource.Resource.TheVariants as resource
 use Rattle.kc_types.specs.declared.slot.Phase.TheVariants.{Active, Dead}
 use Rattle.kc_model.specs.State.{slot_at}
-use Rattle.kc_model.specs.Effects.{verified, with_phase}
+use Rattle.kc_model.specs.Effects.{verified, unapproved, with_phase}
 use Rattle.kc_model.proofs.Lawful.Verifies.{verify-served}
 use Rattle.kc_parts.specs.Parts.{held_slot, vm_at}
 use Rattle.kc_parts.specs.States.{state_of}
-use Rattle.kc_core.specs.Verifying.{mapped_in, IsImageHere}
+use Rattle.kc_core.specs.Verifying.{mapped_in, IsImageHere, rejected_for}
 use Rattle.kc_core.proofs.Frames.{places-vm, places-through}
-use Rattle.kc_core.proofs.Imaged.{slot-verified, images-needed}
+use Rattle.kc_core.proofs.Imaged.{slot-verified, images-needed, rejected-is}
 use Rattle.kc_core.proofs.Verifying.{booting-here, state-phase, linked-phase}
 use Rattle.kc_core.proofs.verify.measure_slot.Goals as goal
-use Rattle.kc_core.proofs.verify.measure_slot.Goals.{Start}
+use Rattle.kc_core.proofs.verify.measure_slot.Goals.{Start, After-unapproved}
 
 low : (c : Start) → c.args.vm < slot_count c.args.config.now
 low c = (verify-served (state_of c.args.config.now c.args.parts.now) _ c.requires.served).0
@@ -29,14 +29,18 @@ measured_images-images-requires-clause-slot c = here (goal.at.measured_images-im
 pub measured_images-images-requires-clause-here : goal.measured_images-images-requires-clause-here
 measured_images-images-requires-clause-here c = images (goal.at.measured_images-images-requires-clause-here c).Start
 
-pub unapproved-requires-clause-slot : goal.unapproved-requires-clause-slot
-unapproved-requires-clause-slot c = here (goal.at.unapproved-requires-clause-slot c).Start
+pub launch_of-launch-requires-clause-slot : goal.launch_of-launch-requires-clause-slot
+launch_of-launch-requires-clause-slot c = here (goal.at.launch_of-launch-requires-clause-slot c).Start
 
-pub unapproved-requires-clause-here : goal.unapproved-requires-clause-here
-unapproved-requires-clause-here c = images (goal.at.unapproved-requires-clause-here c).Start
+pub launch_of-launch-requires-clause-here : goal.launch_of-launch-requires-clause-here
+launch_of-launch-requires-clause-here c = images (goal.at.launch_of-launch-requires-clause-here c).Start
 
-pub unapproved-requires-clause-images : goal.unapproved-requires-clause-images
-unapproved-requires-clause-images c = c.as_slice.ensures.value ∙ c.measured_images-images.ensures
+-- the boot is judged by what was measured
+judged : (c : After-unapproved) → c.unapproved.result ≡ unapproved (state_of c.args.config.now c.args.parts.now) c.args.vm
+judged c =
+    c.unapproved.ensures
+    ∙ ap₂ (rejected_for c.args.config.now) (c.as_slice.ensures.value ∙ c.measured_images-images.ensures) c.launch_of-launch.ensures
+    ∙ rejected-is c.args.config.now c.args.parts.now c.args.vm
 
 pub slot_mut-requires : goal.slot_mut-requires
 slot_mut-requires c = here (goal.at.slot_mut-requires c).Start
@@ -49,13 +53,13 @@ kill-requires c =
 pub returns-in-Some-clause-reply : goal.returns-in-Some-clause-reply
 returns-in-Some-clause-reply c =
     let k = goal.at.returns-in-Some-clause-reply c in
-    ap (λ at. (verified (state_of c.args.config.now c.args.parts.now) c.args.vm at).0) (sym c.in-Some.is ∙ c.unapproved.ensures)
+    ap (λ at. (verified (state_of c.args.config.now c.args.parts.now) c.args.vm at).0) (sym c.in-Some.is ∙ judged k.After-unapproved)
 
 pub returns-in-Some-clause-state : goal.returns-in-Some-clause-state
 returns-in-Some-clause-state c =
     let k = goal.at.returns-in-Some-clause-state c in
     state-phase c.args.config.now c.args.parts.now _ _ _ Dead (low k.Start) c.slot_mut.ensures.value c.kill.ensures
-    ∙ ap (λ at. (verified (state_of c.args.config.now c.args.parts.now) c.args.vm at).1) (sym c.in-Some.is ∙ c.unapproved.ensures)
+    ∙ ap (λ at. (verified (state_of c.args.config.now c.args.parts.now) c.args.vm at).1) (sym c.in-Some.is ∙ judged k.After-unapproved)
 
 pub returns-in-Some-clause-linked : goal.returns-in-Some-clause-linked
 returns-in-Some-clause-linked c = linked-phase _ _ _ _ _ Dead c.requires.able.linked c.slot_mut.ensures.value c.kill.ensures
@@ -80,14 +84,14 @@ activate-requires c =
 pub returns-clause-reply : goal.returns-clause-reply
 returns-clause-reply c =
     let k = goal.at.returns-clause-reply c in
-    ap (λ at. (verified (state_of c.args.config.now c.args.parts.now) c.args.vm at).0) (sym c.in_default.is ∙ c.unapproved.ensures)
+    ap (λ at. (verified (state_of c.args.config.now c.args.parts.now) c.args.vm at).0) (sym c.in_default.is ∙ judged k.After-unapproved)
 
 pub returns-clause-state : goal.returns-clause-state
 returns-clause-state c =
     let k = goal.at.returns-clause-state c in
     (state-phase c.args.config.now c.trim_images.new.parts _ _ _ Active (low k.Start) c.slot_mut-2.ensures.value c.activate.ensures
     ∙ ap (λ s. with_phase s c.args.vm Active) c.trim_images.ensures.state
-    ∙ ap (λ at. (verified (state_of c.args.config.now c.args.parts.now) c.args.vm at).1) (sym c.in_default.is ∙ c.unapproved.ensures))
+    ∙ ap (λ at. (verified (state_of c.args.config.now c.args.parts.now) c.args.vm at).1) (sym c.in_default.is ∙ judged k.After-unapproved))
 
 pub returns-clause-linked : goal.returns-clause-linked
 returns-clause-linked c = linked-phase _ _ _ _ _ Active c.trim_images.ensures.linked c.slot_mut-2.ensures.value c.activate.ensures

@@ -17,10 +17,10 @@ returns-in_default g c =
       same = c.in_ok-text.ensures.same;
       source = _;
       start = record { text = c.in_ok-text.text.items; had_is = ap Some (c.new-start.ensures ∙ c.deref.ensures.value); ready = refl; spells = c.in_ok-text.ensures.text };
-      runs = runs_live _ _ _ c.live_text.result c.requires.files done.ok done.sources (texts_unread _ _ _ _ _ _ (ap g.T.Source.left) done.texts) done.sink done.workers done.actor done.slot done.started done.unsettled;
+      runs = runs_live _ _ _ c.live_text.result c.requires.files done.ok done.sources (texts_unread _ _ _ _ _ _ (ap g.T.Source.left) done.texts) done.sink done.workers done.actor done.slot done.text done.started done.unsettled;
     })
 
 pub returns : goal.returns
 returns g c =
     let done = c.live_text-answer.ensures in
-    rw (c.in-Some.is, c.done-2.ensures, c.close.ensures.refused, c.in_ok-file.ensures.opened) (inr (_, record { old = c.in_ok-file.file; new = c.live_text-answer.new.config; ready = c.in_ok-file.ensures.ready; seen_is = refl }, c.in_ok-file.ensures.bytes, runs_live _ _ _ c.live_text-answer.result refl done.ok done.sources done.texts done.sink done.workers done.actor done.slot done.started done.unsettled))
+    rw (c.in-Some.is, c.done-2.ensures, c.close.ensures.refused, c.in_ok-file.ensures.opened) (inr (_, record { old = c.in_ok-file.file; new = c.live_text-answer.new.config; ready = c.in_ok-file.ensures.ready; seen_is = refl }, c.in_ok-file.ensures.bytes, runs_live _ _ _ c.live_text-answer.result refl done.ok done.sources done.texts done.sink done.workers done.actor done.slot done.text done.started done.unsettled))
