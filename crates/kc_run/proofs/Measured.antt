@@ -2,19 +2,24 @@
 use Rattle.std.proofs.Common.{◌≡◌, ◌≢◌, ◌<◌, ◌≤◌, ◌⊎◌, ◌+◌, ◌-◌, ◌++◌, ◌∷◌, ◌↔◌, ℕ, suc, Bool, true, false, List, [], length, map, drop, Option, Some, None, Result, Ok, Err, inl, inr, refl, ap, ap₂, sym, ◌∙◌, subst, arith, append_assoc, append-nil}
 use Rattle.std.specs.Prelude.{is_some, IfSome, IfOk, IfErr, OnOk, OnErr, IsTrue}
 use Rattle.std.specs.Io.KnownBytes.{Appends}
+use Rattle.sha2.specs.Sha256.{sha256}
 use Rattle.kc_texts.specs.Ends.{Seen, HasFailedRead, HasFailed}
+use Rattle.kc_texts.specs.Written.{AppendsBeginning}
 use Rattle.kc_faults.specs.declared.fault.TextFault.{TextFault}
 use Rattle.kc_faults.specs.declared.fault.TextFault.TheVariants as texts
 use Rattle.kc_faults.specs.Outcomes.{TellsSources, TellsSink}
 use Rattle.kc_cli.specs.declared.measuring.LaunchMeasure.{LaunchMeasure}
-use Rattle.kc_cli.specs.Measuring.{HasMeasured}
+use Rattle.kc_cli.specs.Measuring.{launch_text_of, measured_text, HasMeasured}
+use Rattle.kc_cli.proofs.Sources.{sink_err}
 use Rattle.kc_args.specs.declared.job.ImageFile.{ImageFile}
+use Rattle.kc_args.specs.declared.job.Measuring.{Measuring}
 use Rattle.kc_args.specs.Jobs.{Path}
 use Rattle.kc_run.specs.declared.ending.Ending.{Ending}
 use Rattle.kc_run.specs.declared.ending.Ending.TheVariants as endings
 use Rattle.kc_run.specs.Opening.{Held, IsOfFile}
+use Rattle.kc_run.specs.Endings.{Took}
 use Rattle.kc_run.specs.Reports.{AreOpened}
-use Rattle.kc_run.specs.Measures.{AreImages, HasBytes, IsEmpty, EndsEmpty, AddsFiles}
+use Rattle.kc_run.specs.Measures.{AreImages, HasBytes, IsEmpty, EndsEmpty, AddsFiles, Measures}
 use Rattle.kc_run.proofs.Reading.{Unopened}
 
 -- the path of a file
@@ -39,12 +44,12 @@ one_then held file files old mid new source same one more before (image ∷ imag
 
 has_bytes : (source : Option (List ℕ)) → IfSome source (λ bytes. IsTrue true ↔ (0 < length bytes)) → IfSome source (λ bytes. bytes ≢ [])
 has_bytes None some = tt
-has_bytes (Some bytes) some = λ none. let lt : 0 < length bytes = some.0 tt in let zero : length bytes ≡ 0 = ap length none in omega (arith, lt, zero)
+has_bytes (Some bytes) some = λ none. let lt : 0 < length bytes = some.0 refl in let zero : length bytes ≡ 0 = ap length none in omega (arith, lt, zero)
 
 has_none : (source : Option (List ℕ)) → IfSome source (λ bytes. IsTrue false ↔ (0 < length bytes)) → IfSome source (λ bytes. bytes ≡ [])
 has_none None some = tt
 has_none (Some []) some = refl
-has_none (Some (byte ∷ bytes)) some = absurd (some.1 (omega arith))
+has_none (Some (byte ∷ bytes)) some = let never : IsTrue false = some.1 (omega arith) in absurd cc
 
 ends_after : (source : Seen) (sources : List Seen) → HasBytes source → EndsEmpty sources → EndsEmpty (source ∷ sources)
 ends_after source [] has ends = absurd ends
@@ -158,3 +163,44 @@ module _ {S : Type 0} (left : S → Option (List ℕ)) (failed : S → Bool) (he
     };
     fault = more.fault;
   }
+
+  -- all were added, and the measurement was given
+  pub all_given : {A : Type 0} (refused : Option (List ℕ)) (measuring : Measuring) (all : ℕ) (old new : LaunchMeasure) (out : Took) (untouched : Type 0) (x : A) → HasMeasured old [] → AddsFiles left failed held refused all old new measuring.images.items (Ok None)
+      → ((images : List (ℕ × List ℕ)) → HasMeasured new images → Appends out.had out.has (measured_text measuring.json (sha256 (launch_text_of images))))
+      → TellsSink out.failed ((images : List (ℕ × List ℕ)) → HasMeasured new images → AppendsBeginning out.had out.has (measured_text measuring.json (sha256 (launch_text_of images)))) untouched (Ok x)
+      → Measures left failed held refused measuring out untouched (Ok endings.Done)
+  all_given refused measuring all old new out untouched x none so given sink =
+      let (long, read, gives) = so.measured refl in
+      record {
+        sources = so.sources;
+        opened = so.opened;
+        ending = (long, read, λ images is. given images (gives [] images is none));
+        told = record { read = λ e. absurd cc; failed = λ bad. (let e = so.told.failed bad in absurd cc); unopened = λ some. (let e = so.told.unopened some in absurd cc) };
+        sink = record { write = λ e. absurd cc; failed_is = λ bad. (let e = sink.failed_is bad in absurd cc); kept = tt };
+        fault = tt;
+      }
+
+  -- all were added, and giving it failed
+  pub not_given : {A : Type 0} (refused : Option (List ℕ)) (measuring : Measuring) (all : ℕ) (old new : LaunchMeasure) (out : Took) (untouched : Type 0) (fault : TextFault) → HasMeasured old [] → AddsFiles left failed held refused all old new measuring.images.items (Ok None)
+      → TellsSink {A = A} out.failed ((images : List (ℕ × List ℕ)) → HasMeasured new images → AppendsBeginning out.had out.has (measured_text measuring.json (sha256 (launch_text_of images)))) untouched (Err fault)
+      → (fault ≡ texts.Memory) ⊎ (fault ≡ texts.Write) → Measures left failed held refused measuring out untouched (Err fault)
+  not_given refused measuring all old new out untouched fault none so sink which =
+      let (long, read, gives) = so.measured refl in
+      record {
+        sources = so.sources;
+        opened = so.opened;
+        ending = tt;
+        told = record {
+          read = λ e. (let bad : fault ≡ texts.Read = cc in absurd (elim which [
+            | inl is ↦ cc
+            | inr is ↦ cc
+          ]));
+          failed = λ bad. (let e = so.told.failed bad in absurd cc);
+          unopened = λ some. (let e = so.told.unopened some in absurd cc);
+        };
+        sink = sink_err out.failed _ _ untouched fault (λ begun images is. begun images (gives [] images is none)) sink;
+        fault = elim which [
+          | inl is ↦ inl is
+          | inr is ↦ inr (inr is)
+        ];
+      }
