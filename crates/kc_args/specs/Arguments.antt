@@ -5,7 +5,6 @@ use Rattle.clap.specs.declared.error.kind.ErrorKind.{ErrorKind}
 use Rattle.clap.specs.declared.error.kind.ErrorKind.TheVariants.{DisplayHelp, DisplayVersion, OutOfMemory}
 use Rattle.kc_args.specs.declared.options.Options.{Options}
 use Rattle.kc_args.specs.declared.job.Job.{Job}
-use Rattle.kc_args.specs.declared.job.Request.{Request}
 use Rattle.kc_args.specs.declared.job.Wanted.{Wanted}
 use Rattle.kc_args.specs.declared.job.Wanted.TheVariants as wanted
 use Rattle.kc_args.specs.declared.clash.Clash.{Clash}

@@ -1,9 +1,9 @@
 -- Boot images added to a measurement, one file after another.
 use Rattle.std.proofs.Common.{◌≡◌, ◌≢◌, ◌<◌, ◌≤◌, ◌⊎◌, ◌+◌, ◌-◌, ◌++◌, ◌∷◌, ◌↔◌, ℕ, suc, Bool, true, false, List, [], length, map, drop, Option, Some, None, Result, Ok, Err, inl, inr, refl, ap, ap₂, sym, ◌∙◌, subst, arith, append_assoc, append-nil}
-use Rattle.std.specs.Prelude.{is_some, IfSome, IfOk, IfErr, OnOk, OnErr, IsTrue}
+use Rattle.std.specs.Prelude.{is_some, IfSome, IsTrue}
 use Rattle.std.specs.Io.KnownBytes.{Appends}
 use Rattle.sha2.specs.Sha256.{sha256}
-use Rattle.kc_texts.specs.Ends.{Seen, HasFailedRead, HasFailed}
+use Rattle.kc_texts.specs.Ends.{Seen}
 use Rattle.kc_texts.specs.Written.{AppendsBeginning}
 use Rattle.kc_faults.specs.declared.fault.TextFault.{TextFault}
 use Rattle.kc_faults.specs.declared.fault.TextFault.TheVariants as texts
@@ -19,7 +19,7 @@ use Rattle.kc_run.specs.declared.ending.Ending.TheVariants as endings
 use Rattle.kc_run.specs.Opening.{Held, IsOfFile}
 use Rattle.kc_run.specs.Endings.{Took}
 use Rattle.kc_run.specs.Reports.{AreOpened}
-use Rattle.kc_run.specs.Measures.{AreImages, HasBytes, IsEmpty, EndsEmpty, AddsFiles, Measures}
+use Rattle.kc_run.specs.Measures.{AreImages, HasBytes, EndsEmpty, AddsFiles, Measures}
 use Rattle.kc_run.proofs.Reading.{Unopened}
 
 -- the path of a file

@@ -1,7 +1,7 @@
 -- What a run leaves that measures boot images: the launch measurement of those in the files that are named.
 use Rattle.std.specs.Prelude.{◌≡◌, ◌≢◌, ◌⊎◌, ◌+◌, ◌++◌, ◌∷◌, ℕ, Bool, true, List, [], length, map, Option, Some, None, is_some, Result, Ok, Err, IfOk, IfErr, IfSome}
 use Rattle.std.specs.List.{AllByRecursion}
-use Rattle.std.specs.Io.KnownBytes.{Appends, IsAtEnd}
+use Rattle.std.specs.Io.KnownBytes.{Appends}
 use Rattle.sha2.specs.Sha256.{sha256}
 use Rattle.kc_texts.specs.Ends.{Seen, HasFailedRead, HasFailed}
 use Rattle.kc_texts.specs.Written.{AppendsBeginning}

@@ -1,4 +1,3 @@
-use Rattle.std.proofs.Common.{None, Ok, ap, ◌∙◌, sym}
 use Rattle.kc_run.specs.Endings.{took}
 use Rattle.kc_run.proofs.Measured.{all_given, not_given}
 use Rattle.kc_run.proofs.measuring.measure.Goals as goal
