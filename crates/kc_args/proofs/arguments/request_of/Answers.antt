@@ -3,6 +3,7 @@ use Rattle.std.proofs.lemmas.Result.{IfOk-weaker, IfErr-weaker}
 use Rattle.std.specs.Borrow.{Bor}
 use Rattle.clap.specs.Words.{App, Text, app_of, found_of, rows_of, subcommand_rows_of, is_simple, is_simple_and_free, subcommand_of}
 use Rattle.clap.specs.Values.{kind_of}
+use Rattle.kc_args.specs.declared.job.Wanted.TheVariants as wanted
 use Rattle.kc_args.specs.Arguments.{Asks}
 use Rattle.kc_args.proofs.Asking.{kcore_is_simple, kcore_is_free, asked_within, nothing_within, refused_within, named, nothing_refused, refused_for}
 use Rattle.kc_args.proofs.arguments.request_of.Goals as goal
@@ -36,5 +37,5 @@ returns-clause-request c =
     let files = map (λ (file : Bor Text). file.now) in
     record {
       faultless = nothing_refused arguments _ app_is (c.in-Ok.ensures.kinds (ap is_simple_and_free app_is ∙ kcore_is_free));
-      asks = nothing_within (λ found. Asks found _) arguments (subcommand_rows_of c.in-Ok.matches) met none (c.plain_job.ensures, ap files c.new.ensures.items);
+      asks = nothing_within (λ found. Asks found (wanted.Job (record { job = c.plain_job.result; after = c.new.result }))) arguments (subcommand_rows_of c.in-Ok.matches) met none (c.plain_job.ensures, ap files c.new.ensures.items);
     }
