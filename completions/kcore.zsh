@@ -20,9 +20,11 @@ _kcore() {
     local digests='--digests[name what was read by SHA-256]'
     local all='--all[write each finding]'
     local host='--host[also blank what the host writes to active VMs, with --config or --from]'
+    local json='--json[write the key of a configuration]'
     local explain='--explain[explain a fault]'
     local file='1::file:_files'
     local files='*:file:_files'
+    local images='*:frame and file:{ compset -P "*=" && _files }'
     local -a help=('(-h --help)'{-h,--help}'[print help]')
     local -a version=('(-V --version)'{-V,--version}'[print the version]')
     local -a commands=(
@@ -32,6 +34,7 @@ _kcore() {
         'audit:report what is wrong with a dump'
         'redact:write a trace without what guests wrote'
         'convert:write a trace with a head'
+        'measure:write the launch measurement of boot images'
         'help:print help'
     )
     local curcontext=$curcontext context state state_descr line
@@ -49,6 +52,7 @@ _kcore() {
         audit) _arguments $all $explain $help $file ;;
         redact) _arguments $config $from $host $explain $help $file ;;
         convert) _arguments $config $after $explain $help $file ;;
+        measure) _arguments $json $explain $help $images ;;
         help) (( CURRENT > 2 )) || _describe -t commands command commands ;;
     esac
 }

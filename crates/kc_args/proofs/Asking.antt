@@ -17,14 +17,13 @@ use Rattle.clap.specs.declared.parser.matches.SubCommand.{SubCommand}
 use Rattle.clap.specs.declared.error.kind.ErrorKind.{ErrorKind}
 use Rattle.clap.specs.declared.error.kind.ErrorKind.TheVariants.{OutOfMemory}
 use Rattle.clap.proofs.OnLiterals.{clap_on_literals}
-use Rattle.kc_args.specs.declared.job.Job.{Job}
-use Rattle.kc_args.specs.declared.clash.Clash.{Clash}
+use Rattle.kc_args.specs.declared.job.Wanted.{Wanted}
 use Rattle.kc_args.specs.declared.arguments.ArgFault.{ArgFault}
 use Rattle.kc_args.specs.declared.arguments.ArgFault.TheVariants as faults
 use Rattle.kc_args.specs.Commands.{kcore}
 use Rattle.std.specs.Borrow.{Bor}
-use Rattle.kc_args.specs.Options.{are_several, files_after, number_or_zero}
-use Rattle.kc_args.specs.Arguments.{Asks, Contradicts, IsJobIn, IsClashIn, HasStatus, IsRefusal, files_asked}
+use Rattle.kc_args.specs.Options.{are_several, number_or_zero}
+use Rattle.kc_args.specs.Arguments.{Asks, Contradicts, IsWantedIn, IsRefusalIn, HasStatus, IsRefusal}
 
 pub kcore_is_simple : is_simple kcore ≡ true
 unfolding clap_on_literals
@@ -42,19 +41,12 @@ Entered = Option (Text × List Row)
 found_in : (Holds : Text → List Row → Type 0) (found : Text × List Row) (name : Text) (rows : List Row) → Some name ≡ Some found.0 → Some rows ≡ Some found.1 → Holds name rows → Holds found.0 found.1
 found_in Holds found name rows n e h = let same : found.1 ≡ rows = cc in let named : found.0 ≡ name = cc in rw (same, named) h
 
-asked_in : (entered : Entered) (name : Text) (rows : List Row) (job : Job) → Some name ≡ option_map (λ p. p.0) entered → Some rows ≡ option_map (λ p. p.1) entered → IsJobIn name rows job → Asks entered job
-asked_in None name rows job n e h = absurd cc
-asked_in (Some found) name rows job n e h = found_in (λ its of. IsJobIn its of job) found name rows n e h
+asked_in : (entered : Entered) (name : Text) (rows : List Row) (asked : Wanted) → Some name ≡ option_map (λ p. p.0) entered → Some rows ≡ option_map (λ p. p.1) entered → IsWantedIn name rows asked → Asks entered asked
+asked_in None name rows asked n e h = absurd cc
+asked_in (Some found) name rows asked n e h = found_in (λ its of. IsWantedIn its of asked) found name rows n e h
 
-pub asked_within : (arguments : List Text) (entered : Entered) (name : Text) (rows : List Row) (job : Job) → entered ≡ subcommand_of kcore arguments → Some name ≡ option_map (λ p. p.0) entered → Some rows ≡ option_map (λ p. p.1) entered → IsJobIn name rows job → Asks (subcommand_of kcore arguments) job
-asked_within arguments entered name rows job is n e h = rw is at (asked_in entered name rows job n e h)
-
-after_in : (entered : Entered) (name : Text) (rows : List Row) (files : List Text) → Some name ≡ option_map (λ p. p.0) entered → Some rows ≡ option_map (λ p. p.1) entered → files ≡ files_after rows → files ≡ files_asked entered
-after_in None name rows files n e h = absurd cc
-after_in (Some found) name rows files n e h = found_in (λ its of. files ≡ files_after of) found name rows n e h
-
-pub after_within : (arguments : List Text) (entered : Entered) (name : Text) (rows : List Row) (files : List Text) → entered ≡ subcommand_of kcore arguments → Some name ≡ option_map (λ p. p.0) entered → Some rows ≡ option_map (λ p. p.1) entered → files ≡ files_after rows → files ≡ files_asked (subcommand_of kcore arguments)
-after_within arguments entered name rows files is n e h = rw is at (after_in entered name rows files n e h)
+pub asked_within : (arguments : List Text) (entered : Entered) (name : Text) (rows : List Row) (asked : Wanted) → entered ≡ subcommand_of kcore arguments → Some name ≡ option_map (λ p. p.0) entered → Some rows ≡ option_map (λ p. p.1) entered → IsWantedIn name rows asked → Asks (subcommand_of kcore arguments) asked
+asked_within arguments entered name rows asked is n e h = rw is at (asked_in entered name rows asked n e h)
 
 nothing_in : (Holds : Entered → Type 0) (entered : Entered) → None ≡ option_map (λ p. p.0) entered → Holds None → Holds entered
 nothing_in Holds None n h = h
@@ -64,12 +56,14 @@ nothing_in Holds (Some found) n h = absurd cc
 pub nothing_within : (Holds : Entered → Type 0) (arguments : List Text) (entered : Entered) → entered ≡ subcommand_of kcore arguments → None ≡ option_map (λ p. p.0) entered → Holds None → Holds (subcommand_of kcore arguments)
 nothing_within Holds arguments entered is n h = rw is at (nothing_in Holds entered n h)
 
-contradicts_in : (entered : Entered) (name : Text) (rows : List Row) (clash : Clash) → Some name ≡ option_map (λ p. p.0) entered → Some rows ≡ option_map (λ p. p.1) entered → IsClashIn name rows clash → Contradicts entered clash
-contradicts_in None name rows clash n e h = absurd cc
-contradicts_in (Some found) name rows clash n e h = found_in (λ its of. IsClashIn its of clash) found name rows n e h
+contradicts_in : (entered : Entered) (name : Text) (rows : List Row) (fault : ArgFault) → Some name ≡ option_map (λ p. p.0) entered → Some rows ≡ option_map (λ p. p.1) entered → IsRefusalIn name rows fault → Contradicts entered fault
+contradicts_in None name rows fault n e h = absurd cc
+contradicts_in (Some found) name rows fault n e h = found_in (λ its of. IsRefusalIn its of fault) found name rows n e h
 
-pub contradicts_within : (arguments : List Text) (entered : Entered) (name : Text) (rows : List Row) (clash : Clash) → entered ≡ subcommand_of kcore arguments → Some name ≡ option_map (λ p. p.0) entered → Some rows ≡ option_map (λ p. p.1) entered → IsClashIn name rows clash → Contradicts (subcommand_of kcore arguments) clash
-contradicts_within arguments entered name rows clash is n e h = rw is at (contradicts_in entered name rows clash n e h)
+pub refused_within : (arguments : List Text) (entered : Entered) (name : Text) (rows : List Row) (fault : ArgFault) → fault_of kcore arguments ≡ [] → entered ≡ subcommand_of kcore arguments → Some name ≡ option_map (λ p. p.0) entered → Some rows ≡ option_map (λ p. p.1) entered → IsRefusalIn name rows fault → IsRefusal arguments fault
+refused_within arguments entered name rows faults.Memory none is n e h = tt
+refused_within arguments entered name rows (faults.Message text status) none is n e h = absurd h
+refused_within arguments entered name rows (faults.Clash clash) none is n e h = (none, rw is at (contradicts_in entered name rows (faults.Clash clash) n e h))
 
 named_in : {Z : Type 0} (found : Option (Box SubCommand Z)) → option_map (λ b. (out-SubCommand (box_value b)).name.now) found ≡ option_map (λ p. p.0) (subcommand_rows found)
 named_in None = refl

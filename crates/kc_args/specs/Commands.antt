@@ -70,6 +70,9 @@ redact = ended (with_rule (with_start (new_app (codes "redact"))) (flag_rule (co
 abbrev pub convert : App
 convert = ended (with_rule (with_rule (new_app (codes "convert")) (path_rule (codes "config"))) (path_rule (codes "after"))) file_rule
 
+abbrev pub measure : App
+measure = ended (with_rule (new_app (codes "measure")) (flag_rule (codes "json"))) files_rule
+
 -- the command with `replay` alone
 abbrev pub base : App
 base = with_subcommand (on_top (λ s. record s { no_binary_name = true; has_version = true }) (new_app (codes "kcore"))) replay.top
@@ -86,9 +89,13 @@ many = with_subcommand more custody.top
 abbrev pub most : App
 most = with_subcommand many audit.top
 
--- the command with all but `convert`
+-- the command with all but `convert` and `measure`
 abbrev pub nearly : App
 nearly = with_subcommand most redact.top
 
+-- the command with all but `measure`
+abbrev pub almost : App
+almost = with_subcommand nearly convert.top
+
 abbrev pub kcore : App
-kcore = with_subcommand nearly convert.top
+kcore = with_subcommand almost measure.top

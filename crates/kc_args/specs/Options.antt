@@ -49,6 +49,14 @@ abbrev pub HasInput : List Row → Option (Bor Text) → Type 0
 HasInput rows None = (first_of (codes "file") rows ≡ None) ⊎ (first_of (codes "file") rows ≡ Some (codes "-"))
 HasInput rows (Some name) = (first_of (codes "file") rows ≡ Some name.now) × (name.now ≢ codes "-")
 
+-- the files that are named, in order
+abbrev pub files_found : Option (List Text) → List Text
+files_found None = []
+files_found (Some files) = files
+
+abbrev pub files_named : List Row → List Text
+files_named rows = files_found (all_of (codes "file") rows)
+
 -- the files that come after the first of those that are named, in order
 abbrev pub files_after_first : Option (List Text) → List Text
 files_after_first None = []
@@ -69,9 +77,9 @@ has_several rows = are_several (all_of (codes "file") rows)
 abbrev pub IsFlag : Text → List Row → Bool → Type 0
 IsFlag flag rows given = IsTrue given ↔ IsSet flag rows
 
--- the options that the subcommand of this name is given, by their rows: there are `replay`, `live`, `custody`, `audit`, `redact` and `convert` alone
+-- the options that the subcommand of this name is given, by their rows: besides `measure` there are `replay`, `live`, `custody`, `audit`, `redact` and `convert` alone
 abbrev pub AreOptionsIn : Text → List Row → Options → Type 0
-AreOptionsIn name rows (Replay config from to workers lines dump state blank several) = (name ≢ codes "live") × (name ≢ codes "custody") × (name ≢ codes "audit") × (name ≢ codes "redact") × (name ≢ codes "convert")
+AreOptionsIn name rows (Replay config from to workers lines dump state blank several) = (name ≢ codes "live") × (name ≢ codes "custody") × (name ≢ codes "audit") × (name ≢ codes "redact") × (name ≢ codes "convert") × (name ≢ codes "measure")
     × HasOptions rows config workers × HasPath (codes "from") rows from × HasPath (codes "to") rows to
     × IsFlag (codes "lines") rows lines × IsFlag (codes "dump") rows dump × IsFlag (codes "state") rows state × IsFlag (codes "blank") rows blank
     × (several ≡ has_several rows)
