@@ -10,24 +10,25 @@ _kcore() {
             mapfile -t COMPREPLY < <(compgen -f -- "$word")
             compopt -o filenames 2> /dev/null
             return ;;
-        --vm) mapfile -t COMPREPLY < <(compgen -W "$(seq 0 63)" -- "$word"); return ;;
+        --vm) mapfile -t COMPREPLY < <(compgen -W "$(seq 0 1023)" -- "$word"); return ;;
         --workers) mapfile -t COMPREPLY < <(compgen -W "$(seq 64)" -- "$word"); return ;;
     esac
     local words=
     case $command in
-        '') words='replay live custody audit redact convert help --help --version' ;;
+        '') words='replay live custody audit redact convert measure help --help --version' ;;
         replay) words='--config --from --to --workers --lines --dump --state --blank --explain --help' ;;
         live) words='--config --workers --explain --help' ;;
         custody) words='--config --from --vm --summary --svg --html --refused --accesses --unseen --digests --explain --help' ;;
         audit) words='--all --explain --help' ;;
         redact) words='--config --from --host --explain --help' ;;
         convert) words='--config --after --explain --help' ;;
-        help) [ "$COMP_CWORD" -gt 2 ] || words='replay live custody audit redact convert help' ;;
+        measure) words='--json --explain --help' ;;
+        help) [ "$COMP_CWORD" -gt 2 ] || words='replay live custody audit redact convert measure help' ;;
     esac
     mapfile -t COMPREPLY < <(compgen -W "$words" -- "$word")
-    # The trace or dump that a command reads.
+    # The file that a command reads; of measure, after an equals sign.
     case $command in
-        replay | live | custody | audit | redact | convert)
+        replay | live | custody | audit | redact | convert | measure)
             [ "${word:0:1}" = - ] && return
             [ "$word" ] && COMPREPLY=()
             mapfile -t -O ${#COMPREPLY[@]} COMPREPLY < <(compgen -f -- "$word")

@@ -10,7 +10,7 @@ _kcore() {
     local dump='--dump[write the dump of the core]'
     local state_text='--state[write the text of the state]'
     local blank='--blank[zero the pages of active VMs first]'
-    local vm='--vm=[only the VM in this slot]:slot:({0..63})'
+    local vm='--vm=[only the VM in this slot]:slot:({0..1023})'
     local summary='--summary[write the life of each VM]'
     local svg='--svg[write a picture]'
     local html='--html[write a page for a browser]'
@@ -20,9 +20,11 @@ _kcore() {
     local digests='--digests[name what was read by SHA-256]'
     local all='--all[write each finding]'
     local host='--host[also blank what the host writes to active VMs, with --config or --from]'
+    local json='--json[write the key of a configuration]'
     local explain='--explain[explain a fault]'
     local file='1::file:_files'
     local files='*:file:_files'
+    local images='*:frame and file:{ compset -P "*=" && _files }'
     local -a help=('(-h --help)'{-h,--help}'[print help]')
     local -a version=('(-V --version)'{-V,--version}'[print the version]')
     local -a commands=(
@@ -32,6 +34,7 @@ _kcore() {
         'audit:report what is wrong with a dump'
         'redact:write a trace without what guests wrote'
         'convert:write a trace with a head'
+        'measure:write the launch measurement of boot images'
         'help:print help'
     )
     local curcontext=$curcontext context state state_descr line
@@ -49,6 +52,7 @@ _kcore() {
         audit) _arguments $all $explain $help $file ;;
         redact) _arguments $config $from $host $explain $help $file ;;
         convert) _arguments $config $after $explain $help $file ;;
+        measure) _arguments $json $explain $help $images ;;
         help) (( CURRENT > 2 )) || _describe -t commands command commands ;;
     esac
 }

@@ -12,7 +12,7 @@ import re
 import calls
 import heads
 from common import run
-from rules import DEFAULT, REMARKS, VERSION, Core, Lives, denied_in, lines_text, noted, rows_of_volumes, warning_of
+from rules import DEFAULT, REMARKS, VERSION, WITH_TEXTS, Core, Lives, denied_in, lines_text, noted, rows_of_volumes, warning_of
 from states import blanked, state_text
 
 # The most volumes that a trace is cut into.
@@ -38,7 +38,7 @@ class Chain:
         config, self.core = program.config, Core(program.config)
         self.path, self.start, self.config, self.state = program.path, ["--config", program.path], None, None
         first = 0
-        if len(self.core.frames) <= LARGE and rng.random() < 0.4:
+        if config["version"] in WITH_TEXTS and len(self.core.frames) <= LARGE and rng.random() < 0.4:
             first = rng.randrange(len(lines) + 1)
             for line in lines[:first]:
                 self.core.answer(line)

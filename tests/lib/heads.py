@@ -117,8 +117,9 @@ def other_machine(rng, config):
     """A machine that differs in one part."""
     other, part = dict(config), rng.choice(PARTS)
     if part == "version":
-        other["version"] = 3 - config["version"]
-        if config["frames"] > LIMITS[other["version"]].frames:
+        other["version"] = rng.choice(list(LIMITS))
+        limits = LIMITS[other["version"]]
+        if config["frames"] > limits.frames or config["leaves"] > limits.leaves:
             return other_machine(rng, config)
     elif part == "approved":
         other["approved"] = config["approved"][1:] if config["approved"] and rng.random() < 0.5 else [*config["approved"], digits(rng)][-64:]

@@ -1,4 +1,5 @@
-"""Tries each limit that docs/RULES.md names: what the program says at it, and one beyond."""
+"""Tries each limit that docs/RULES.md names, of each version of the rules that it names one of: what the program says at
+it, and one beyond."""
 import hashlib
 import json
 import re
@@ -9,6 +10,8 @@ from common import run
 from listed import rows_of, section
 
 PAGE = 4096
+# The program keeps some bytes of each frame from the start, so no machine is larger here than this.
+MOST_FRAMES = 2**20
 IMAGE = 256 * PAGE
 UNITS = {"MiB": 2**20, "GiB": 2**30}
 
@@ -77,7 +80,8 @@ def touched(gfn, frame):
 
 
 class Trials:
-    """The trials of each row; each is what the program says at the limit and one beyond, and what it has to say."""
+    """The trials of each row; each is what the program says at the limit and one beyond, and what it has to say. The
+    limits of later versions come last in a row, and a version without one of its own has that of the version before."""
 
     def __init__(self, program, limits):
         self.program, self.limits = program, limits
@@ -85,33 +89,39 @@ class Trials:
     def last(self, config, calls, count=1):
         return replayed(self.program, config, calls)[-count:]
 
-    def frames_of_a_machine(self, least, first, second):
-        for version, most in ((1, first), (2, second)):
-            calls = [f"hfault {most - 1}", f"hfault {most}"]
-            yield self.last(machine(most, version=version), calls, 2), ["done", "refused bad-frame"]
-            yield self.last(machine(most + 1, version=version), []), ["kcore: configuration refused: frames"]
+    def frames_of_a_machine(self, least, *mosts):
+        for version, most in enumerate(mosts, 1):
+            some = min(most, MOST_FRAMES)
+            calls = [f"hfault {some - 1}", f"hfault {some}"]
+            yield self.last(machine(some, version=version), calls, 2), ["done", "refused bad-frame"]
+            # (a machine of as many frames as there may be is refused for what is judged after them)
+            yield self.last(machine(most, leaves=0, version=version), []), ["kcore: configuration refused: leaves"]
+            yield self.last(machine(most + 1, leaves=0, version=version), []), ["kcore: configuration refused: frames"]
         yield self.last({**machine(1), "frames": least - 1}, []), ["kcore: configuration refused: frames"]
 
-    def slots_so_VMs_at_once(self, first, least, second):
-        for version, most in ((1, first), (2, second)):
+    def slots_so_VMs_at_once(self, first, least, *others):
+        for version, most in enumerate((first, *others), 1):
             calls = [f"regvm {slot}" for slot in range(least, most + 1)]
             yield self.last(machine(version=version), calls, most + 1), ["done"] * most + ["refused bad-vm"]
 
-    def virtual_processors_of_a_VM(self, most, least):
-        calls = ["regvm 0", *(f"regvcpu 0 {vcpu}" for vcpu in range(least, most + 1))]
-        yield self.last(machine(), calls, most + 1), ["done"] * most + ["refused bad-vcpu"]
+    def virtual_processors_of_a_VM(self, first, least, *third):
+        for version, most in zip((1, 2, 3), (first, first, *third)):
+            calls = ["regvm 0", *(f"regvcpu 0 {vcpu}" for vcpu in range(least, most + 1))]
+            yield self.last(machine(version=version), calls, most + 1), ["done"] * most + ["refused bad-vcpu"]
 
-    def guest_frames_of_a_VM(self, count, least):
-        calls = ["regvm 0", *(f"setboot 0 {gfn} 1" for gfn in (least, count - 1, count))]
-        yield self.last(machine(), calls, 3), ["image 0", "image 1", "refused bad-gfn"]
+    def guest_frames_of_a_VM(self, first, least, *third):
+        for version, count in zip((1, 2, 3), (first, first, *third)):
+            calls = ["regvm 0", *(f"setboot 0 {gfn} 1" for gfn in (least, count - 1, count))]
+            yield self.last(machine(version=version), calls, 3), ["image 0", "image 1", "refused bad-gfn"]
 
-    def leaves_of_a_guest_table(self, least, most):
-        yield self.last(machine(leaves=most), []), []
-        for leaves in (least - 1, most + 1):
-            yield self.last(machine(leaves=leaves), []), ["kcore: configuration refused: leaves"]
+    def leaves_of_a_guest_table(self, least, first, *third):
+        for version, most in zip((1, 2, 3), (first, first, *third)):
+            yield self.last(machine(leaves=most, version=version), []), []
+            for leaves in (least - 1, most + 1):
+                yield self.last(machine(leaves=leaves, version=version), []), ["kcore: configuration refused: leaves"]
 
-    def pages_mapped_in_a_guest(self, entries, most):
-        leaves = self.limits["leaves of a guest table"][-1]
+    def pages_mapped_in_a_guest(self, entries, most, *_):
+        leaves = self.limits["leaves of a guest table"][1]
         config = machine(65536, leaves, 2, (IMAGE,))
         regions = [call for leaf in range(2, leaves) for call in touched(leaf * entries, 2000 + leaf)]
         beyond = touched(leaves * entries, 3000)
@@ -126,14 +136,16 @@ class Trials:
         replies = replayed(self.program, config, [*booted(*[IMAGE] * 4), *calls])[-len(calls) :]
         yield replies[1::2], ["done"] * (most - 1024) + ["refused tables-full"]
 
-    def boot_images_of_a_VM(self, most):
-        calls = ["regvm 0", *(f"setboot 0 {image} 1" for image in range(most + 1))]
-        yield self.last(machine(), calls), ["refused images-full"]
-        yield self.last(machine(), calls[:-1]), [f"image {most - 1}"]
+    def boot_images_of_a_VM(self, first, *third):
+        for version, most in zip((1, 2, 3), (first, first, *third)):
+            calls = ["regvm 0", *(f"setboot 0 {image} 1" for image in range(most + 1))]
+            yield self.last(machine(version=version), calls), ["refused images-full"]
+            yield self.last(machine(version=version), calls[:-1]), [f"image {most - 1}"]
 
-    def bytes_of_a_boot_image(self, least, most):
-        calls = ["regvm 0", *(f"setboot 0 0 {length}" for length in (least - 1, most + 1, most))]
-        yield self.last(machine(), calls, 3), ["refused bad-range", "refused bad-range", "image 0"]
+    def bytes_of_a_boot_image(self, least, first, *third):
+        for version, most in zip((1, 2, 3), (first, first, *third)):
+            calls = ["regvm 0", *(f"setboot 0 0 {length}" for length in (least - 1, most + 1, most))]
+            yield self.last(machine(version=version), calls, 3), ["refused bad-range", "refused bad-range", "image 0"]
 
     def approved_digests(self, least, most):
         yield self.last(machine(approved=range(1, 1 + least)), []), []

@@ -9,7 +9,7 @@ from document_tree import words_of
 OPTION = re.compile(r"--[a-z][a-z-]*")
 # What crates.txt has besides the names of crates: a kind of library, and the standard library's own parts.
 BUILT_IN = {"staticlib", "std_alloc", "std_heap"}
-COMMANDS = "replay", "live", "custody", "audit", "redact", "convert"
+COMMANDS = "replay", "live", "custody", "audit", "redact", "convert", "measure"
 
 
 def differing(listed, meant):

@@ -1,5 +1,6 @@
 """The rules written out once more in another language: what a core keeps, why a call is refused and what it does; and
 what custody, a summary and a dump say of it."""
+import collections
 import hashlib
 import json
 import operator
@@ -22,7 +23,15 @@ class Limits(typing.NamedTuple):
     image_bytes: int
 
 
-LIMITS = {1: Limits(8192, 16, 8, 262144, 64, 4, 1048576), 2: Limits(65536, 64, 8, 262144, 64, 4, 1048576)}
+LIMITS = {
+    1: Limits(8192, 16, 8, 262144, 64, 4, 2**20),
+    2: Limits(65536, 64, 8, 262144, 64, 4, 2**20),
+    3: Limits(2**28, 1024, 256, 2**27, 262144, 16, 2**30),
+}
+# The versions of which dumps and states have texts, and those that approve a boot as a whole.
+WITH_TEXTS, WITH_LAUNCH = (1, 2), (3,)
+# Slots from this one on cannot be named by --vm.
+NAMED = 1024
 # The options that ask for more than custody.
 REMARKS = "--refused", "--accesses"
 # The version that the first line of custody names.
@@ -132,8 +141,17 @@ def digest_of_page(page):
     return ZEROS if page == ZERO_PAGE else hashlib.sha256(page).hexdigest()
 
 
+def launch_of(images):
+    """The launch measurement of images, each with its first guest frame and its bytes: the digest of the whole that
+    version 3 approves."""
+    number = lambda it: it.to_bytes(8, "little")
+    whole = b"".join(number(base) + number(len(image)) + image for base, image in images)
+    return hashlib.sha256(whole).hexdigest()
+
+
 class Frame:
-    """What is kept of a frame. A frame is noted when anything of it is set: all others are as they were."""
+    """What is kept of a frame. When anything of it is set, its custody before that is noted, unless it is noted already:
+    all other frames are as they were."""
 
     __slots__ = "owner", "share", "gfn", "present", "page", "number", "noted"
 
@@ -145,11 +163,33 @@ class Frame:
             put(self, name, value)
 
     def __setattr__(self, name, value):
+        if self.number not in self.noted:
+            self.noted[self.number] = CUSTODY(self)
         object.__setattr__(self, name, value)
-        self.noted.add(self.number)
 
     def write(self, offset, data):
         self.page = self.page[:offset] + data + self.page[offset + len(data):]
+
+
+class Frames:
+    """The frames of a machine, in order like a list. A frame is made when it is first looked at; until then it is as at
+    boot. `made` has those that are made, by their numbers."""
+
+    def __init__(self, config, noted):
+        self.size, self.noted, self.made = config["frames"], noted, {}
+        # (where the frames of each owner at boot end)
+        self.ends = config["core"], config["core"] + config["host"]
+
+    def __len__(self):
+        return self.size
+
+    def __getitem__(self, f):
+        if f not in self.made:
+            if not 0 <= f < self.size:
+                raise IndexError(f)
+            owner = ("core", "host", "free")[sum(end <= f for end in self.ends)]
+            self.made[f] = Frame(f, owner, self.noted)
+        return self.made[f]
 
 
 class Slot:
@@ -164,6 +204,13 @@ class Life:
         self.told = {"vm": v, "registered": line, "active": None, "dead": None, "cleared": None, "images": []}
         self.told |= dict.fromkeys(("frames", "most", "left", "returned", "reads", "writes"), 0) | {"refused": {}, "shared": []}
         self.ever, self.last, self.open = set(), set(), {}
+
+    def measure(self, boot):
+        """Puts what was measured in the place of its images."""
+        front, rest = list(self.told.items()), []
+        while front[-1][0] != "images":
+            rest.insert(0, front.pop())
+        self.told = dict(front) | boot | dict(rest)
 
     def refuse(self, reason):
         """Counts a call that was refused at a page of the VM."""
@@ -222,7 +269,7 @@ class Lives:
         current = self.current()
         if is_served and name == "verify":
             current[at].told["active" if reply == "done" else "dead"] = number
-            current[at].told["images"] = [image_of(*image) for image in self.core.measured(at)]
+            current[at].measure(self.core.boot_of(at))
         # A refused call changes nothing.
         f = self.core.named(line)[1] if reply.startswith("refused") else None
         if f is not None and frames[f].owner in current:
@@ -252,13 +299,11 @@ class Core:
     """The rules: what is kept, why a call is refused, what it does."""
 
     def __init__(self, config):
-        self.config, self.limits = config, LIMITS[config["version"]]
-        owners = ["core"] * config["core"] + ["host"] * config["host"]
-        owners += ["free"] * (config["frames"] - len(owners))
-        self.noted = set()
-        self.frames = [Frame(f, owner, self.noted) for f, owner in enumerate(owners)]
+        self.config, self.limits, self.noted = config, LIMITS[config["version"]], {}
+        self.frames = Frames(config, self.noted)
         self.slots = [Slot() for _ in range(self.limits.slots)]
-        self.free = [f for f, owner in enumerate(owners) if owner == "free"]
+        # Free frames: those of the boot that nobody took yet, and after them those that became free since.
+        self.untaken, self.freed = range(config["core"] + config["host"], config["frames"]), collections.deque()
 
     def answer(self, line):
         name, *words = line.split(" ")
@@ -314,21 +359,35 @@ class Core:
         slot.list.append(f)
         frame.owner, frame.gfn, frame.present = v, g, False
 
-    def measured(self, v):
-        """The images of a slot, each with the digest of its bytes."""
+    def images(self, v):
+        """The images of a slot: where each is, how long it is, and its bytes."""
         held = lambda base, pages: b"".join(self.at(v, base + n).page for n in range(pages))
-        images = [(base, length, held(base, pages)[:length]) for base, length, pages in self.slots[v].images]
-        return [(base, length, hashlib.sha256(image).hexdigest()) for base, length, image in images]
+        return [(base, length, held(base, pages)[:length]) for base, length, pages in self.slots[v].images]
+
+    def measured(self, v):
+        """What is reported of the images of a slot when they are measured."""
+        return [image_of(base, length, hashlib.sha256(image).hexdigest()) for base, length, image in self.images(v)]
+
+    def launch(self, v):
+        """The launch measurement of what a slot boots."""
+        return launch_of((base, image) for base, _, image in self.images(v))
+
+    def to_approve(self, v):
+        """The digests that have to be approved for what a slot boots: that of the whole, or one for each image."""
+        if self.config["version"] in WITH_LAUNCH:
+            return [self.launch(v)]
+        return [image["sha256"] for image in self.measured(v)]
 
     def release(self, f):
         frame = self.frames[f]
         frame.owner, frame.share, frame.gfn, frame.present, frame.page = "free", 0, None, False, ZERO_PAGE
-        self.free.append(f)
+        self.freed.append(f)
 
     # The host's calls.
     def take(self):
-        ask((lambda: not self.free, "no-free"))
-        f = self.free.pop(0)
+        ask((lambda: not self.untaken and not self.freed, "no-free"))
+        f = self.untaken[0] if self.untaken else self.freed.popleft()
+        self.untaken = self.untaken[1:]
         self.frames[f].owner = "host"
         return f"frame {f}"
 
@@ -388,7 +447,7 @@ class Core:
         short = lambda: not self.slots[v].images or any(image[2] < pages_of(image[1]) for image in self.slots[v].images)
         ask(self.bad_vm(v), self.no_vm(v), self.not_in(v, "booting"), (short, "image-short"))
         slot = self.slots[v]
-        for i, (base, length, digest) in enumerate(self.measured(v)):
+        for i, digest in enumerate(self.to_approve(v)):
             if digest not in self.config["approved"]:
                 slot.phase = "dead"
                 return f"rejected {i}"
@@ -473,38 +532,42 @@ class Core:
 
     def custody(self, lines):
         """The replies to these calls of a trace, and the lines of custody, each after the owners that it concerns."""
-        replies, told, frames = [], [], list(map(CUSTODY, self.frames))
+        replies, told = [], []
         phases = lambda: [slot.phase for slot in self.slots]
         before = phases()
         for number, line in enumerate(lines, 2):
             # Measured before the call, which may change its pages.
             slot = int(line.split(" ")[1]) if line.startswith("verify ") else len(self.slots)
-            images = self.measured(slot) if before[slot : slot + 1] == ["booting"] else []
+            boot = self.boot_of(slot) if before[slot : slot + 1] == ["booting"] else {}
             self.noted.clear()
             replies.append(self.answer(line))
             after = phases()
-            told += self.moved(number, frames) + self.turned(number, before, after, images)
+            told += self.moved(number) + self.turned(number, before, after, boot)
             before = after
         return replies, told
 
-    def moved(self, number, frames):
-        """What is reported of the frames that a call changes. `frames` is the custody before it, and then after it."""
+    def boot_of(self, v):
+        """What is reported of what a slot boots when it is measured."""
+        launch = {"measured": self.launch(v)} if self.config["version"] in WITH_LAUNCH else {}
+        return {"images": self.measured(v), **launch}
+
+    def moved(self, number):
+        """What is reported of the frames that a call changes: of each the custody before it is noted."""
         told = []
-        for f in sorted(self.noted):
-            old, new = frames[f], CUSTODY(self.frames[f])
+        for f, old in sorted(self.noted.items()):
+            new = CUSTODY(self.frames[f])
             if old != new:
                 line = {"line": number, "frame": f, "from": custody_of(*old), "to": custody_of(*new)}
                 told.append(((old[0], new[0]), line))
-                frames[f] = new
         return told
 
-    def turned(self, number, before, after, images):
-        """What is reported of the slots whose phase a call changes, with the images that it measured."""
+    def turned(self, number, before, after, boot):
+        """What is reported of the slots whose phase a call changes, with what it measured."""
         told, differing = [], enumerate(zip(before, after)) if before != after else ()
         for v, (old, new) in differing:
             if old != new:
-                measured = [image_of(*image) for image in images] if new in ("active", "dead") else []
-                told.append(((v,), {"line": number, "vm": v, "phase": new, "images": measured}))
+                measured = boot if new in ("active", "dead") else {"images": []}
+                told.append(((v,), {"line": number, "vm": v, "phase": new, **measured}))
         return told
 
     def named(self, line):
@@ -584,14 +647,14 @@ class Core:
         """The text of a dump."""
         ends = lambda frames: f"{frames[0]} {frames[-1]} {len(frames)}" if frames else "- - 0"
         dash = lambda number: "-" if number is None else number
-        config, slots = self.config, list(enumerate(self.slots))
+        config, slots, free = self.config, list(enumerate(self.slots)), [*self.untaken, *self.freed]
         lines = [f"kcore-dump {config['version']}", f"size {len(self.frames)} {config['core']} {config['leaves']}"]
-        lines.append(f"free {ends(self.free)}")
+        lines.append(f"free {ends(free)}")
         lines += [f"vm {v} {slot.phase} {ends(slot.list)}" for v, slot in slots]
         lines += [f"leaf {v} {n} {root}" for v, slot in slots for n, root in enumerate(slot.leaves)]
         lines += [f"entry {v} {g} {slot.table[g]}" for v, slot in slots for g in sorted(slot.table)]
         before, after = {}, {}
-        for frames in [self.free] + [slot.list for slot in self.slots]:
+        for frames in [free] + [slot.list for slot in self.slots]:
             before.update(zip(frames[1:], frames))
             after.update(zip(frames, frames[1:]))
         for f, frame in enumerate(self.frames):

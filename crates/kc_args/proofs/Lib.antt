@@ -1,2 +1,3 @@
 pub mod Asking
 pub mod Local
+pub mod Placed

@@ -27,6 +27,9 @@ first_option clashes.SvgHtml = codes "--svg"
 first_option clashes.UnseenAccesses = codes "--unseen"
 first_option clashes.ConfigAfter = codes "--config"
 first_option clashes.ConvertAlone = codes "convert"
+first_option clashes.MeasureAlone = codes "measure"
+first_option clashes.ManyImages = codes "measure"
+first_option clashes.NoImage = codes "GFN=FILE"
 
 abbrev pub link_of : Clash → List ℕ
 link_of clashes.BlankAlone = codes "' needs one of '"
@@ -34,6 +37,8 @@ link_of clashes.ConvertAlone = codes "' needs one of '"
 link_of clashes.VolumesAlone = codes "' needs '"
 link_of clashes.ConfigAlone = codes "' needs '"
 link_of clashes.FromAlone = codes "' needs '"
+link_of clashes.MeasureAlone = codes "' needs '"
+link_of clashes.NoImage = codes "' needs '"
 link_of clash = codes "' cannot be used with '"
 
 abbrev pub other_option : Clash → List ℕ
@@ -60,8 +65,11 @@ other_option clashes.SvgHtml = codes "--html"
 other_option clashes.UnseenAccesses = codes "--accesses"
 other_option clashes.ConfigAfter = codes "--after"
 other_option clashes.ConvertAlone = codes "--config' and '--after"
+other_option clashes.MeasureAlone = codes "GFN=FILE"
+other_option clashes.ManyImages = codes "more than 16 images"
+other_option clashes.NoImage = codes "a frame number from 0 to 134217727, = and a path"
 
--- how the command is used: replay and custody alone take more than one file
+-- how the command is used: replay, custody and measure alone take more than one file
 abbrev pub usage_of : Clash → List ℕ
 usage_of clashes.DumpState = codes "replay [OPTIONS] [FILE]..."
 usage_of clashes.LinesDump = codes "replay [OPTIONS] [FILE]..."
@@ -77,6 +85,9 @@ usage_of clashes.ConfigAlone = codes "redact [OPTIONS] [FILE]"
 usage_of clashes.FromAlone = codes "redact [OPTIONS] [FILE]"
 usage_of clashes.ConfigAfter = codes "convert [OPTIONS] [FILE]"
 usage_of clashes.ConvertAlone = codes "convert [OPTIONS] [FILE]"
+usage_of clashes.MeasureAlone = codes "measure [OPTIONS] GFN=FILE..."
+usage_of clashes.ManyImages = codes "measure [OPTIONS] GFN=FILE..."
+usage_of clashes.NoImage = codes "measure [OPTIONS] GFN=FILE..."
 usage_of clash = codes "custody [OPTIONS] [FILE]..."
 
 -- in the form in which a wrong command line is reported

@@ -4,7 +4,7 @@ use Rattle.clap.specs.Words.{App, Rule, Text, new_app, new_rule, with_rule, with
 use Rattle.clap.specs.Simple.{on_top}
 use Rattle.clap.specs.declared.builder.action.ArgAction.TheVariants.{SetTrue, Append}
 use Rattle.clap.specs.declared.builder.value_parser.ValueParser.TheVariants.{Signed}
-use Rattle.kc_types.specs.Limits.{second_slot_limit, worker_limit}
+use Rattle.kc_types.specs.Limits.{slot_limit, worker_limit}
 
 -- an option that takes a path
 abbrev pub path_rule : Text → Rule
@@ -20,7 +20,7 @@ workers_rule = record (new_rule (codes "workers")) { long = Some (codes "workers
 
 -- a whole number from 0 to 63
 abbrev pub vm_rule : Rule
-vm_rule = record (new_rule (codes "vm")) { long = Some (codes "vm"); value_names = 1; parser = Some (Signed (pos 0) (pos (second_slot_limit - 1))) }
+vm_rule = record (new_rule (codes "vm")) { long = Some (codes "vm"); value_names = 1; parser = Some (Signed (pos 0) (pos (slot_limit - 1))) }
 
 -- the file that a subcommand reads in place of standard input: an argument without a name
 abbrev pub file_rule : Rule
@@ -70,6 +70,9 @@ redact = ended (with_rule (with_start (new_app (codes "redact"))) (flag_rule (co
 abbrev pub convert : App
 convert = ended (with_rule (with_rule (new_app (codes "convert")) (path_rule (codes "config"))) (path_rule (codes "after"))) file_rule
 
+abbrev pub measure : App
+measure = ended (with_rule (new_app (codes "measure")) (flag_rule (codes "json"))) files_rule
+
 -- the command with `replay` alone
 abbrev pub base : App
 base = with_subcommand (on_top (λ s. record s { no_binary_name = true; has_version = true }) (new_app (codes "kcore"))) replay.top
@@ -86,9 +89,13 @@ many = with_subcommand more custody.top
 abbrev pub most : App
 most = with_subcommand many audit.top
 
--- the command with all but `convert`
+-- the command with all but `convert` and `measure`
 abbrev pub nearly : App
 nearly = with_subcommand most redact.top
 
+-- the command with all but `measure`
+abbrev pub almost : App
+almost = with_subcommand nearly convert.top
+
 abbrev pub kcore : App
-kcore = with_subcommand nearly convert.top
+kcore = with_subcommand almost measure.top

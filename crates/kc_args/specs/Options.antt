@@ -1,12 +1,20 @@
 -- The options of a subcommand, as clap finds them.
-use Rattle.std.specs.Prelude.{◌≡◌, ◌≢◌, ◌⊎◌, ◌↔◌, ◌&&◌, IsTrue, ℕ, nat_le, nat_lt, Bool, false, List, [], drop, length, codes, Option, Some, None, option_map, if◌then◌else◌}
+use Rattle.std.specs.Prelude.{◌≡◌, ◌≢◌, ◌⊎◌, ◌^◌, ◌↔◌, ◌&&◌, IsTrue, ℕ, nat_le, nat_lt, Bool, false, List, [], drop, length, codes, Option, Some, None, option_map, if◌then◌else◌}
 use Rattle.std.specs.Option.{option_map_or}
+use Rattle.std.specs.List.{list_all}
+use Rattle.std.specs.Char.{digit_value}
+use Rattle.std.specs.Str.Parse.{digits_value, without_leading_plus}
 use Rattle.std.specs.Borrow.{Bor}
 use Rattle.clap.specs.Words.{Text, Row, first_of, one_of, all_of}
-use Rattle.clap.specs.Walk.{byte_or_zero}
 use Rattle.kc_types.specs.Limits.{worker_limit}
 use Rattle.kc_args.specs.declared.options.Options.{Options}
 use Rattle.kc_args.specs.declared.options.Options.TheVariants.{Replay, Live, Custody, Audit, Redact, Convert}
+
+-- the number of this many bits that a text is, with or without a plus; 0 if it is not one
+abbrev pub number_or_zero : ℕ → Text → ℕ
+number_or_zero bits text =
+    let digits = without_leading_plus text in
+    if nat_lt 0 (length digits) && list_all (λ digit. nat_lt (digit_value digit) 10) digits && nat_lt (digits_value 10 digits) (2 ^ bits) then digits_value 10 digits else 0
 
 -- 1 to 64: the command's rules accept no other number of workers
 abbrev pub in_range : ℕ → ℕ
@@ -14,11 +22,11 @@ in_range n = if nat_le 1 n && nat_le n worker_limit then n else 1
 
 -- the number of workers that is named; 1 if none is
 abbrev pub workers_in : List Row → ℕ
-workers_in rows = option_map_or (λ text. in_range (byte_or_zero text)) (one_of (codes "workers") rows) 1
+workers_in rows = option_map_or (λ text. in_range (number_or_zero 8 text)) (one_of (codes "workers") rows) 1
 
 -- the number after `--vm`
 abbrev pub slot_in : List Row → ℕ
-slot_in rows = option_map_or byte_or_zero (one_of (codes "vm") rows) 0
+slot_in rows = option_map_or (number_or_zero 16) (one_of (codes "vm") rows) 0
 
 -- the slot that is named, if one is
 abbrev pub vm_in : List Row → Option ℕ
@@ -41,6 +49,14 @@ abbrev pub HasInput : List Row → Option (Bor Text) → Type 0
 HasInput rows None = (first_of (codes "file") rows ≡ None) ⊎ (first_of (codes "file") rows ≡ Some (codes "-"))
 HasInput rows (Some name) = (first_of (codes "file") rows ≡ Some name.now) × (name.now ≢ codes "-")
 
+-- the files that are named, in order
+abbrev pub files_found : Option (List Text) → List Text
+files_found None = []
+files_found (Some files) = files
+
+abbrev pub files_named : List Row → List Text
+files_named rows = files_found (all_of (codes "file") rows)
+
 -- the files that come after the first of those that are named, in order
 abbrev pub files_after_first : Option (List Text) → List Text
 files_after_first None = []
@@ -61,9 +77,9 @@ has_several rows = are_several (all_of (codes "file") rows)
 abbrev pub IsFlag : Text → List Row → Bool → Type 0
 IsFlag flag rows given = IsTrue given ↔ IsSet flag rows
 
--- the options that the subcommand of this name is given, by their rows: there are `replay`, `live`, `custody`, `audit`, `redact` and `convert` alone
+-- the options that the subcommand of this name is given, by their rows: besides `measure` there are `replay`, `live`, `custody`, `audit`, `redact` and `convert` alone
 abbrev pub AreOptionsIn : Text → List Row → Options → Type 0
-AreOptionsIn name rows (Replay config from to workers lines dump state blank several) = (name ≢ codes "live") × (name ≢ codes "custody") × (name ≢ codes "audit") × (name ≢ codes "redact") × (name ≢ codes "convert")
+AreOptionsIn name rows (Replay config from to workers lines dump state blank several) = (name ≢ codes "live") × (name ≢ codes "custody") × (name ≢ codes "audit") × (name ≢ codes "redact") × (name ≢ codes "convert") × (name ≢ codes "measure")
     × HasOptions rows config workers × HasPath (codes "from") rows from × HasPath (codes "to") rows to
     × IsFlag (codes "lines") rows lines × IsFlag (codes "dump") rows dump × IsFlag (codes "state") rows state × IsFlag (codes "blank") rows blank
     × (several ≡ has_several rows)

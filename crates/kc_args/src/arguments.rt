@@ -1,18 +1,21 @@
 //! What the program's arguments ask for.
-ghost use Rattle.std.specs.Prelude.{◌≡◌, IfOk, IfErr, map};
+ghost use Rattle.std.specs.Prelude.{◌≡◌, ◌≢◌, IfOk, IfErr, codes, map};
 ghost use Rattle.clap.specs.Words.{found_of, rows_of};
 ghost use Rattle.clap.specs.Values.{kind_of};
 ghost use Rattle.kc_args.specs.Jobs.{plain_job};
-ghost use Rattle.kc_args.specs.Arguments.{IsJobIn, IsClashIn, IsRequest, IsRefusal, HasStatus};
+ghost use Rattle.kc_args.specs.Images.{IsMeasuringIn};
+ghost use Rattle.kc_args.specs.Arguments.{IsJobIn, IsClashIn, IsImageRefusalIn, IsWantedIn, IsRefusalIn, IsRequest, IsRefusal, HasStatus};
 
 use crate::clash::Clash;
 use crate::commands::command;
-use crate::job::{Action, Job, Request, Start};
+use crate::images::images_of;
+use crate::job::{Action, Job, Measuring, Request, Start, Wanted};
 use crate::judging::action_of;
-use crate::options::{files_after, input_in, is_set, options_in};
+use crate::options::{files_after, files_in, input_in, is_named, is_set, options_in};
 use clap::error::ErrorKind;
 use clap::{ArgMatches, Error};
 use kc_texts::ReplayForm;
+use kc_types::IMAGE_LIMIT;
 use std::alloc::{AllocError, Global};
 
 /// Why there is no job.
@@ -51,8 +54,9 @@ fn refused(alloc: Global, error: &Error) -> ArgFault
     }
 }
 
-/// What the subcommand of this name asks for, or what contradicts itself in its options.
+/// What the subcommand of this name asks for, which is not `measure`, or what contradicts itself in its options.
 fn job_in<'a>(name: &str, found: &ArgMatches<'a>) -> Result<Job<'a>, Clash>
+    requires { name.now ≢ codes "measure" }
     ensures job { IfOk result (IsJobIn name.now (rows_of (found_of found.now))) }
     ensures clash { IfErr result (IsClashIn name.now (rows_of (found_of found.now))) }
 {
@@ -62,6 +66,50 @@ fn job_in<'a>(name: &str, found: &ArgMatches<'a>) -> Result<Job<'a>, Clash>
         action,
         explain: is_set(found, "explain"),
     })
+}
+
+/// What `measure` asks for, or what is wrong with its images.
+fn measuring_in<'a>(alloc: Global, found: &ArgMatches<'a>) -> Result<Measuring<'a>, ArgFault>
+    ensures measuring { IfOk result (IsMeasuringIn (rows_of (found_of found.now))) }
+    ensures refused { IfErr result (IsImageRefusalIn (rows_of (found_of found.now))) }
+{
+    let Some(words) = files_in(found) else {
+        return Err(ArgFault::Clash(Clash::MeasureAlone));
+    };
+    if words.is_empty() {
+        return Err(ArgFault::Clash(Clash::MeasureAlone));
+    }
+    if words.len() > IMAGE_LIMIT {
+        return Err(ArgFault::Clash(Clash::ManyImages));
+    }
+    match images_of(alloc, words)? {
+        Some(images) => Ok(Measuring {
+            images,
+            json: is_set(found, "json"),
+            explain: is_set(found, "explain"),
+        }),
+        None => Err(ArgFault::Clash(Clash::NoImage)),
+    }
+}
+
+/// What the subcommand of this name asks for, or what is wrong with its options.
+fn wanted_in<'a>(alloc: Global, name: &str, found: &ArgMatches<'a>) -> Result<Wanted<'a>, ArgFault>
+    ensures wanted { IfOk result (IsWantedIn name.now (rows_of (found_of found.now))) }
+    ensures refused { IfErr result (IsRefusalIn name.now (rows_of (found_of found.now))) }
+{
+    if is_named(name, "measure") {
+        return match measuring_in(alloc, found) {
+            Ok(measuring) => Ok(Wanted::Measure(measuring)),
+            Err(fault) => Err(fault),
+        };
+    }
+    match job_in(name, found) {
+        Ok(job) => Ok(Wanted::Job(Request {
+            job,
+            after: files_after(alloc, found)?,
+        })),
+        Err(clash) => Err(ArgFault::Clash(clash)),
+    }
 }
 
 /// What no subcommand asks for: to replay standard input on one thread and write the replies.
@@ -87,8 +135,9 @@ fn plain_job<'a>() -> Job<'a>
 /// 63, `--summary`, `--svg`, `--html`, `--refused`, `--accesses`, `--unseen` and `--digests`; `audit`, also with
 /// `--all`; `redact`, also with `--config PATH`, `--from PATH` and `--host`; `convert` with `--config PATH` or `--after
 /// PATH`; each also with `--explain` and the file to be read, `custody` and `replay --lines` with more files to be read
-/// after it; and `replay` if there are no arguments.
-pub fn request_of<'a>(alloc: Global, arguments: &'a [&'a str]) -> Result<Request<'a>, ArgFault>
+/// after it; `measure`, with or without `--json` and `--explain`, and 1 to 16 words `GFN=FILE`; and `replay` if there are
+/// no arguments.
+pub fn request_of<'a>(alloc: Global, arguments: &'a [&'a str]) -> Result<Wanted<'a>, ArgFault>
     // The job, and the files after its input, are what the arguments say by the command's rules. Only a command line
     // that breaks them is refused, or one with options that contradict each other.
     ensures request { IfOk result (IsRequest (map (λ w. w.now) arguments.entry.now)) }
@@ -99,16 +148,10 @@ pub fn request_of<'a>(alloc: Global, arguments: &'a [&'a str]) -> Result<Request
         Err(error) => return Err(refused(alloc, &error)),
     };
     match matches.subcommand() {
-        Some((name, found)) => match job_in(name, found) {
-            Ok(job) => Ok(Request {
-                job,
-                after: files_after(alloc, found)?,
-            }),
-            Err(clash) => Err(ArgFault::Clash(clash)),
-        },
-        None => Ok(Request {
+        Some((name, found)) => wanted_in(alloc, name, found),
+        None => Ok(Wanted::Job(Request {
             job: plain_job(),
             after: Vec::new(alloc),
-        }),
+        })),
     }
 }

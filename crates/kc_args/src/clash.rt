@@ -53,6 +53,12 @@ pub enum Clash {
     ConfigAfter,
     /// `convert` with neither of these.
     ConvertAlone,
+    /// `measure` without an image.
+    MeasureAlone,
+    /// `measure` with more than 16 images.
+    ManyImages,
+    /// `measure` with a word that does not name an image.
+    NoImage,
 }
 
 impl Clash {
@@ -79,6 +85,8 @@ impl Clash {
             Clash::SvgRefused | Clash::SvgAccesses | Clash::SvgHtml => "--svg",
             Clash::UnseenAccesses => "--unseen",
             Clash::ConvertAlone => "convert",
+            Clash::MeasureAlone | Clash::ManyImages => "measure",
+            Clash::NoImage => "GFN=FILE",
         }
     }
 
@@ -87,7 +95,11 @@ impl Clash {
     {
         match self {
             Clash::BlankAlone | Clash::ConvertAlone => "' needs one of '",
-            Clash::VolumesAlone | Clash::ConfigAlone | Clash::FromAlone => "' needs '",
+            Clash::VolumesAlone
+            | Clash::ConfigAlone
+            | Clash::FromAlone
+            | Clash::MeasureAlone
+            | Clash::NoImage => "' needs '",
             _ => "' cannot be used with '",
         }
     }
@@ -110,6 +122,9 @@ impl Clash {
             Clash::SummaryHtml | Clash::SvgHtml => "--html",
             Clash::ConfigAfter => "--after",
             Clash::ConvertAlone => "--config' and '--after",
+            Clash::MeasureAlone => "GFN=FILE",
+            Clash::ManyImages => "more than 16 images",
+            Clash::NoImage => "a frame number from 0 to 134217727, = and a path",
         }
     }
 
@@ -129,6 +144,8 @@ impl Clash {
             Clash::RedactConfigFrom | Clash::ConfigAlone | Clash::FromAlone =>
                 "redact [OPTIONS] [FILE]",
             Clash::ConfigAfter | Clash::ConvertAlone => "convert [OPTIONS] [FILE]",
+            Clash::MeasureAlone | Clash::ManyImages | Clash::NoImage =>
+                "measure [OPTIONS] GFN=FILE...",
             _ => "custody [OPTIONS] [FILE]...",
         }
     }

@@ -2,10 +2,10 @@
 ghost use Rattle.std.specs.Prelude.{◌≡◌, IfOk, codes, false};
 ghost use Rattle.clap.specs.declared.builder.command.Command.TheViews.{out-Command as fields_of};
 ghost use Rattle.clap.specs.Words.{app_of, rule_of, new_app, with_rule};
-ghost use Rattle.kc_args.specs.Commands.{kcore, replay, live, custody, audit, redact, convert, with_start, with_outputs, with_forms, with_contents, ended, path_rule, flag_rule, workers_rule, vm_rule, file_rule, files_rule};
+ghost use Rattle.kc_args.specs.Commands.{kcore, replay, live, custody, audit, redact, convert, measure, with_start, with_outputs, with_forms, with_contents, ended, path_rule, flag_rule, workers_rule, vm_rule, file_rule, files_rule};
 
 use clap::{Arg, ArgAction, Command};
-use kc_types::{SECOND_SLOT_LIMIT, WORKER_LIMIT};
+use kc_types::{SLOT_LIMIT, WORKER_LIMIT};
 use std::alloc::{AllocError, Global};
 
 /// What `--version` prints after the program's name: the version, which the first line of custody names too, and on a
@@ -21,6 +21,9 @@ const VOLUMES_HELP: &str =
     "The trace, or the volumes of a life in order; standard input if the first is - or not given";
 
 const DUMP_HELP: &str = "The dump; standard input if this is - or not given";
+
+const IMAGES_HELP: &str =
+    "Each boot image: its first guest frame (0 to 134217727), = and its file; up to 16, in the order in which they are set";
 
 const EXAMPLES: &str =
     "Examples:\n  kcore replay run.trace\n  kcore replay --dump run.trace | kcore audit\n  kcore custody --summary --config machine.json run.trace";
@@ -67,8 +70,8 @@ fn vm_arg<'a>(alloc: Global) -> Arg<'a>
     Arg::new(alloc, "vm")
         .long("vm")
         .value_name("V")
-        .value_parser(clap::value_parser!(u8).range(0..=i64::from(SECOND_SLOT_LIMIT) - 1))
-        .help("Report only the VM in slot V (0 to 63)")
+        .value_parser(clap::value_parser!(u16).range(0..=i64::from(SLOT_LIMIT) - 1))
+        .help("Report only the VM in slot V (0 to 1023)")
 }
 
 /// Makes the argument without a name: the file to be read.
@@ -308,6 +311,26 @@ fn convert_command<'a>(alloc: Global) -> Result<Command<'a>, AllocError>
     ended(alloc, command, file_arg(alloc, TRACE_HELP))
 }
 
+fn measure_command<'a>(alloc: Global) -> Result<Command<'a>, AllocError>
+    ensures app { IfOk result (λ c. app_of c ≡ measure) }
+    ensures local { IfOk result (λ c. (fields_of c).has_globals ≡ false) }
+{
+    let command = subcommand(
+        alloc,
+        "measure",
+        "Write the launch measurement of boot images, which a machine of version 3 approves",
+        "kcore measure [OPTIONS] GFN=FILE...",
+        "Example: kcore measure 16=kernel.bin 4096=initrd.bin",
+    );
+    let help = "Write it as the key approved of a configuration";
+    let command = with_flag(alloc, command, "json", help)?;
+    ended(
+        alloc,
+        command,
+        files_arg(alloc, IMAGES_HELP).value_name("GFN=FILE"),
+    )
+}
+
 /// Makes the whole command.
 pub fn command<'a>(alloc: Global) -> Result<Command<'a>, AllocError>
     ensures app { IfOk result (λ c. app_of c ≡ kcore) }
@@ -318,6 +341,7 @@ pub fn command<'a>(alloc: Global) -> Result<Command<'a>, AllocError>
     let audit = audit_command(alloc)?;
     let redact = redact_command(alloc)?;
     let convert = convert_command(alloc)?;
+    let measure = measure_command(alloc)?;
     let base = Command::new(alloc, "kcore")
         .no_binary_name(true)
         .version(VERSION)
@@ -328,5 +352,6 @@ pub fn command<'a>(alloc: Global) -> Result<Command<'a>, AllocError>
         .subcommand(custody)?
         .subcommand(audit)?
         .subcommand(redact)?
-        .subcommand(convert)
+        .subcommand(convert)?
+        .subcommand(measure)
 }

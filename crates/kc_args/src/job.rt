@@ -80,6 +80,32 @@ pub struct Request<'a> {
     pub after: Vec<&'a str>,
 }
 
+/// A boot image in a file.
+#[derive(Clone, Copy, Debug, PartialEq, Eq)]
+pub struct ImageFile<'a> {
+    /// Its first guest frame.
+    pub base: u32,
+    pub path: &'a str,
+}
+
+/// Boot images that are to be measured as a whole.
+#[derive(Drop)]
+pub struct Measuring<'a> {
+    /// 1 to 16 images, in the order in which they are set.
+    pub images: Vec<ImageFile<'a>>,
+    /// Whether the digest is written as a key of a configuration.
+    pub json: bool,
+    /// Whether more is to be said of a fault.
+    pub explain: bool,
+}
+
+/// What a command line asks for.
+#[derive(Drop)]
+pub enum Wanted<'a> {
+    Job(Request<'a>),
+    Measure(Measuring<'a>),
+}
+
 impl<'a> Start<'a> {
     /// The file that holds what calls begin with, if one is named.
     pub fn path(self) -> Option<&'a str>

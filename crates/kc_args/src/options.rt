@@ -1,5 +1,5 @@
 //! The options of a subcommand, as they are given.
-ghost use Rattle.std.specs.Prelude.{◌≡◌, ◌↔◌, IsTrue, IfOk, codes, map, option_map};
+ghost use Rattle.std.specs.Prelude.{◌≡◌, ◌≢◌, ◌↔◌, IsTrue, IfOk, codes, map, option_map};
 ghost use Rattle.clap.specs.Words.{found_of, rows_of, first_of, all_of};
 ghost use Rattle.kc_args.specs.Options.{in_range, workers_in, slot_in, vm_in, IsSet, HasInput, has_several, files_after, AreOptionsIn};
 
@@ -94,7 +94,7 @@ fn workers_in(matches: &ArgMatches<'_>) -> u32
 fn slot_in(matches: &ArgMatches<'_>) -> u32
     ensures { result ≡ slot_in (rows_of (found_of matches.now)) }
 {
-    match matches.get_one::<u8>("vm") {
+    match matches.get_one::<u16>("vm") {
         Some(vm) => u32::from(vm),
         None => 0,
     }
@@ -110,7 +110,7 @@ fn vm_in(matches: &ArgMatches<'_>) -> Option<u32>
     }
 }
 
-fn is_named(name: &str, command: &str) -> bool
+pub(crate) fn is_named(name: &str, command: &str) -> bool
     ensures { IsTrue result ↔ (name.now ≡ command.now) }
 {
     name == command
@@ -129,7 +129,7 @@ pub(crate) fn input_in<'a>(matches: &ArgMatches<'a>) -> Option<&'a str>
 }
 
 /// All files that are named, in order.
-fn files_in<'b, 'a>(matches: &'b ArgMatches<'a>) -> Option<&'b [&'a str]>
+pub(crate) fn files_in<'b, 'a>(matches: &'b ArgMatches<'a>) -> Option<&'b [&'a str]>
     ensures { option_map (λ files. map (λ file. file.now) files.now) result ≡ all_of (codes "file") (rows_of (found_of matches.now)) }
 {
     matches.get_strs("file")
@@ -161,8 +161,9 @@ pub(crate) fn files_after<'a>(
     }
 }
 
-/// The options that the subcommand of this name is given.
+/// The options that the subcommand of this name is given, which is not `measure`.
 pub(crate) fn options_in<'a>(name: &str, found: &ArgMatches<'a>) -> Options<'a>
+    requires { name.now ≢ codes "measure" }
     ensures { AreOptionsIn name.now (rows_of (found_of found.now)) result }
 {
     if is_named(name, "audit") {

@@ -18,3 +18,4 @@ mod Numbered
 mod Volumes
 mod Chained
 mod Commas
+mod Launch

@@ -13,6 +13,7 @@
 //! - that of each call with its reply: `specs/Lines.antt`, `src/answering.rt`; how it is written: `src/placing.rt`
 //! - a live run: `specs/Live.antt`, `src/live.rt`; what it reads: `src/reading.rt`, `specs/Reading.antt`; its history
 //!   replayed: `src/history.rt`
+//! - the launch measurement of boot images: `specs/Measuring.antt`, `src/measuring.rt`
 //! - an audit of a dump: `specs/Audit.antt`, `src/auditing.rt`
 #![tactic(auto)]
 
@@ -27,6 +28,7 @@ mod ledger;
 mod life;
 mod lined;
 mod live;
+mod measuring;
 mod order;
 mod placing;
 mod reading;
@@ -41,6 +43,7 @@ pub use custody::{CustodyAccount, CustodyOrder};
 pub use history::replay_history;
 pub use life::Account;
 pub use live::live_text;
+pub use measuring::LaunchMeasure;
 pub use order::ReplayOrder;
 pub use reading::{DEFAULT_CONFIG, read_both, read_configuration};
 pub use replaying::{Compared, replay_text, replay_to_text};

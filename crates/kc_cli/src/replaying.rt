@@ -61,7 +61,7 @@ fn wants_text(form: ReplayForm) -> bool
     }
 }
 
-/// Whether a text is wanted that the version of a core's machine has not.
+/// Whether a text is wanted that machines of the core's version do not have.
 fn lacks_text(core: &KCore, wants_text: bool) -> bool
     ensures lacks { result ≡ true → (wants_text ≡ true) × (has_dump core.now.state.config.version ≡ false) }
     ensures has { result ≡ false → wants_text ≡ true → has_dump core.now.state.config.version ≡ true }

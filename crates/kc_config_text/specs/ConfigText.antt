@@ -7,7 +7,7 @@ use Rattle.serde_json.specs.Find.{get, as_number, as_u64, as_str, as_array, as_o
 use Rattle.serde_json.specs.Read.{read as read_text}
 use Rattle.hex.specs.Hex.{decode_sized}
 use Rattle.kc_types.specs.declared.version.Version.{Version}
-use Rattle.kc_types.specs.declared.version.Version.TheVariants.{One, Two}
+use Rattle.kc_types.specs.declared.version.Version.TheVariants.{One, Two, Three}
 use Rattle.kc_types.specs.Configuration.{Configuration}
 use Rattle.kc_types.specs.ConfigFaults.{fault_of}
 use Rattle.kc_types.specs.declared.config.ConfigFault.{ConfigFault}
@@ -52,7 +52,7 @@ member_count (member key value members) = suc (member_count members)
 
 abbrev pub version_numbered : Option ℕ → Option Version
 version_numbered None = None
-version_numbered (Some n) = if n == 1 then Some One else if n == 2 then Some Two else None
+version_numbered (Some n) = if n == 1 then Some One else if n == 2 then Some Two else if n == 3 then Some Three else None
 
 -- the version of an object with this many members: with five the first, with six the one under `version`
 abbrev pub version_in : Data → Option ℕ → Option Version

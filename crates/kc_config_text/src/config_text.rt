@@ -218,6 +218,7 @@ fn version_of_value(value: &Value) -> Option<Version>
         6 => match number_under(value, "version")? {
             1 => Some(Version::One),
             2 => Some(Version::Two),
+            3 => Some(Version::Three),
             _ => None,
         },
         _ => None,
@@ -226,7 +227,7 @@ fn version_of_value(value: &Value) -> Option<Version>
 
 /// Reads a configuration: a JSON object with exactly the keys `frames`, `core`, `host` and `leaves`, each a whole
 /// number of 32 bits, and `approved`, an array of texts of 64 hexadecimal digits each, upper or lower case. There may
-/// also be a key `version`, which is 1 or 2; without it the version is 1. If a key appears twice, the last value
+/// also be a key `version`, which is 1, 2 or 3; without it the version is 1. If a key appears twice, the last value
 /// counts. A number with a fraction or an exponent is not a whole number. No more of the text is kept than a
 /// configuration can hold.
 #[tactic(auto, unfolding(crate::specs::ConfigText::config_in))]

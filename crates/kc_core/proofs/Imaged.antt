@@ -10,10 +10,9 @@ use Rattle.kc_types.specs.declared.call.Call.TheVariants.{Verify}
 use Rattle.kc_types.specs.declared.resource.Resource.TheVariants as resource
 use Rattle.kc_model.specs.State.{State, Image, Slot, slot_at, mapped_at, frame_at, with_frame}
 use Rattle.kc_model.specs.Refusals.{refusal, backing, pages_of, is_short}
-use Rattle.kc_model.specs.Effects.{bytes_at, image_bytes, trimmed, all_trimmed, first_failing, is_approved, launch_digest, is_launch_approved, unapproved}
-use Rattle.kc_model.specs.Custody.{measured_image, measured_images}
+use Rattle.kc_model.specs.Effects.{bytes_at, image_bytes, trimmed, all_trimmed, first_failing, is_approved, unapproved}
+use Rattle.kc_model.specs.Custody.{measured_image, measured_images, launch_of}
 use Rattle.kc_model.proofs.Lawful.Verifies.{verify-served, backing-of}
-use Rattle.kc_model.proofs.States.Approvals.{rejected_by}
 use Rattle.kc_model.proofs.States.Slots.{none-at}
 use Rattle.kc_model.proofs.Local.Needs.{not_short}
 use Rattle.kc_page.specs.declared.page.Page.{Page}
@@ -26,7 +25,7 @@ use Rattle.kc_parts.specs.States.{slot_in, state_of, IsLinked}
 use Rattle.kc_parts.proofs.Seen.{frame-seen, slot-seen}
 use Rattle.kc_links.specs.Chain.{Links}
 use Rattle.kc_core.specs.Applying.{KeepsPlaces, IsAble}
-use Rattle.kc_core.specs.Verifying.{mapped_in, page_under, bytes_under, bytes_of_image, is_approved_digest, IsImageHere}
+use Rattle.kc_core.specs.Verifying.{mapped_in, page_under, bytes_under, bytes_of_image, is_approved_digest, rejected_for, IsImageHere}
 use Rattle.kc_core.proofs.Frames.{changed}
 use Rattle.kc_core.proofs.FirstFailing.{fails-map}
 use Rattle.kc_parts.proofs.Looked.{slot-is}
@@ -53,18 +52,18 @@ unapproved-seen : (config : Configuration) (h : Held) (v : ℕ) → first_failin
 unapproved-seen config h v =
     fails-map (is_approved (state_of config h) v) (λ (image : MeasuredImage). is_approved_digest config image.digest) (measured_image (state_of config h) v) (slot_at (state_of config h) v).images (λ i d low. refl)
 
--- the image for which a boot is rejected, if each image is approved, and if the boot is as a whole
-pub unapproved-each : (config : Configuration) (h : Held) (v : ℕ) → measures_launch config.version ≡ false
-    → first_failing (λ (image : MeasuredImage). is_approved_digest config image.digest) (measured_images (state_of config h) v) ≡ unapproved (state_of config h) v
-unapproved-each config h v each =
-    unapproved-seen config h v
-    ∙ sym (ap (λ whole. rejected_by whole (is_launch_approved (state_of config h) v) (first_failing (is_approved (state_of config h) v) (slot_at (state_of config h) v).images)) each)
+-- a boot is rejected by what was measured of it
+pub rejected-is : (config : Configuration) (h : Held) (v : ℕ) → rejected_for config (measured_images (state_of config h) v) (launch_of (state_of config h) v) ≡ unapproved (state_of config h) v
+rejected-is config h v = by_rule (measures_launch config.version) refl
+  where
+    by_rule : (whole : Bool) → measures_launch config.version ≡ whole → rejected_for config (measured_images (state_of config h) v) (launch_of (state_of config h) v) ≡ unapproved (state_of config h) v
+    by_rule false each = rw each (unapproved-seen config h v)
+    by_rule true whole = rw whole refl
 
-pub unapproved-whole : (config : Configuration) (h : Held) (v : ℕ) (approves : Bool) → measures_launch config.version ≡ true → approves ≡ is_approved_digest config (launch_digest (state_of config h) v)
-    → rejected_by true approves None ≡ unapproved (state_of config h) v
-unapproved-whole config h v approves whole is =
-    ap (λ launch. rejected_by true launch None) is
-    ∙ sym (ap (λ whole. rejected_by whole (is_launch_approved (state_of config h) v) (first_failing (is_approved (state_of config h) v) (slot_at (state_of config h) v).images)) whole)
+-- and by its launch measurement alone, if there is one
+pub rejected-whole : (config : Configuration) (h : Held) (v : ℕ) (images : List MeasuredImage) (launch : Option (List ℕ)) → is_some launch ≡ true → launch ≡ launch_of (state_of config h) v → rejected_for config images launch ≡ unapproved (state_of config h) v
+rejected-whole config h v images None whole is = absurd cc
+rejected-whole config h v images (Some launch) whole is = ap (rejected_for config (measured_images (state_of config h) v)) is ∙ rejected-is config h v
 
 -- the images of a slot that is here, through its table
 pub image-through : (h : Held) (v : ℕ) (vm : VmSlot) (table : Table) (image : Image) → vm_at h v ≡ Some vm → table ≡ slot_table vm → IsImageHere h (mapped_in (vm_at h v)) image → IsImageHere h (map.get table.mapped) image

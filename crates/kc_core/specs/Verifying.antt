@@ -1,12 +1,13 @@
 -- What verifying a slot reads of parts.
-use Rattle.std.specs.Prelude.{ℕ, ◌≡◌, ◌<◌, ◌≤◌, ◌+◌, List, [], ◌∷◌, All, Bool, true, is_some, Option, Some, None, length, take}
+use Rattle.std.specs.Prelude.{ℕ, ◌≡◌, ◌<◌, ◌≤◌, ◌+◌, List, [], ◌∷◌, All, Bool, true, is_some, Option, Some, None, length, take, if◌then◌else◌}
 use Rattle.std.specs.List.{flat_map, list_any}
 use Rattle.std.specs.FinMap as map
 use Rattle.kc_types.specs.Configuration.{Configuration}
 use Rattle.kc_types.specs.Limits.{gfn_limit}
+use Rattle.kc_types.specs.declared.custody.MeasuredImage.{MeasuredImage}
 use Rattle.kc_model.specs.State.{Image}
 use Rattle.kc_model.specs.Refusals.{backing, pages_of}
-use Rattle.kc_model.specs.Effects.{gfns_of, same_bytes}
+use Rattle.kc_model.specs.Effects.{gfns_of, same_bytes, first_failing}
 use Rattle.kc_page.specs.declared.page.Page.{Page}
 use Rattle.kc_vms.specs.Vm.{VmSlot}
 use Rattle.kc_parts.specs.Parts.{Held, page_at}
@@ -50,3 +51,9 @@ AreFourAlike images = (length images ≡ 4) × All (λ image. image.len ≡ firs
 -- the configuration approves a digest
 abbrev pub is_approved_digest : Configuration → List ℕ → Bool
 is_approved_digest config digest = list_any (λ approved. same_bytes approved digest) config.approved
+
+-- the image for which a boot with these measurements is rejected: the first that is not approved, or the first of all if
+-- boots are approved as a whole
+abbrev pub rejected_for : Configuration → List MeasuredImage → Option (List ℕ) → Option ℕ
+rejected_for config images None = first_failing (λ image. is_approved_digest config image.digest) images
+rejected_for config images (Some launch) = if is_approved_digest config launch then None else Some 0

@@ -4,7 +4,7 @@ ghost use Rattle.kc_types.specs.ReplyBytes.{is_data, may_lack, most_bytes};
 ghost use Rattle.kc_types.specs.declared.call.Call.TheVariants.{Verify};
 ghost use Rattle.kc_model.specs.Boot.{boot};
 ghost use Rattle.kc_model.specs.Next.{next, replies_from, state_after};
-ghost use Rattle.kc_model.specs.Custody.{images_by};
+ghost use Rattle.kc_model.specs.Custody.{measurement_by};
 ghost use Rattle.kc_model.specs.Lawful.{IsLawful};
 ghost use Rattle.kc_core.specs.Runs.{StopsAfter};
 ghost use Rattle.kc_model.specs.Promises.{KeepsPromises};
@@ -149,10 +149,11 @@ impl KCore {
         apply(&mut self.parts, &self.config, call, buffer)
     }
 
-    /// Answers `verify` of a VM slot as `call` does, and returns the images that it measured.
+    /// Answers `verify` of a VM slot as `call` does, and returns what it measured.
     pub fn verify(&mut self, vm: u32) -> Verified
         ensures reply { result.reply ≡ (next self.old.state (Verify vm)).0 }
-        ensures images { result.images.items ≡ images_by self.old.state (Verify vm) }
+        ensures images { result.images.items ≡ (measurement_by self.old.state (Verify vm)).images }
+        ensures launch { result.launch ≡ (measurement_by self.old.state (Verify vm)).launch }
         ensures state { self.new.state ≡ (next self.old.state (Verify vm)).1 }
         ensures lawful { IsLawful self.new.state }
         ensures reserved { self.new.is_reserved ≡ self.old.is_reserved }

@@ -1,5 +1,5 @@
 //! Verifying a VM: its boot images are measured, and it becomes active or dead.
-ghost use Rattle.std.specs.Prelude.{ℕ, List, ◌++◌, ◌≡◌, ◌+◌, ◌<◌, ◌≤◌, ◌↔◌, ◌||◌, ◌==◌, [], All, IsTrue, IfOk, IsSome, MatchResult, Some, None, true, is_some, length, map};
+ghost use Rattle.std.specs.Prelude.{ℕ, List, ◌++◌, ◌≡◌, ◌+◌, ◌<◌, ◌≤◌, ◌↔◌, ◌||◌, ◌==◌, [], All, IsTrue, IfOk, IsSome, MatchResult, OnErr, Some, None, true, is_some, length, map};
 ghost use Rattle.std.specs.List.{list_any};
 ghost use Rattle.std.specs.FinMap as finite;
 ghost use Rattle.sha2.specs.Sha256.{sha256};
@@ -10,14 +10,14 @@ ghost use Rattle.kc_types.specs.declared.reply.Reply.TheVariants.{Refused};
 ghost use Rattle.kc_types.specs.Refusals.{Answers};
 ghost use Rattle.kc_model.specs.State.{slot_at};
 ghost use Rattle.kc_model.specs.Refusals.{refusal, backing, pages_of, is_short};
-ghost use Rattle.kc_model.specs.Effects.{effect, first_failing, launch_digest, unapproved, trimmed, all_trimmed};
-ghost use Rattle.kc_model.specs.Custody.{measured_images, images_by};
+ghost use Rattle.kc_model.specs.Effects.{first_failing, launch_digest, unapproved, trimmed, all_trimmed};
+ghost use Rattle.kc_model.specs.Custody.{measured_images, launch_of, measurement_by, nothing_measured};
 ghost use Rattle.kc_types.specs.declared.custody.MeasuredImage.{MeasuredImage};
 ghost use Rattle.kc_vms.specs.Measure.{WasFed};
 ghost use Rattle.kc_parts.specs.Parts.{vm_at};
 ghost use Rattle.kc_parts.specs.States.{state_of, IsLinked};
 ghost use Rattle.kc_core.specs.Applying.{IsAble, IsAnswer, KeepsPlaces, reply_of};
-ghost use Rattle.kc_core.specs.Verifying.{mapped_in, page_under, bytes_under, bytes_of_image, is_approved_digest, AreFourAlike, IsImageHere, IsMeasurable};
+ghost use Rattle.kc_core.specs.Verifying.{mapped_in, page_under, bytes_under, bytes_of_image, is_approved_digest, rejected_for, AreFourAlike, IsImageHere, IsMeasurable};
 
 use arrayvec::ArrayVec;
 use kc_digests::MeasureFour;
@@ -201,24 +201,38 @@ fn first_unapproved(config: &Config, images: &[MeasuredImage]) -> Option<u32>
     None
 }
 
-/// The number of the image for which a slot's boot is rejected, if it is: in version 3 that of the first, for all.
-fn unapproved(parts: &Parts, config: &Config, vm: VmId, images: &[MeasuredImage]) -> Option<u32>
+/// The launch measurement of what a slot boots, if its version approves boots as a whole.
+fn launch_of(parts: &Parts, config: &Config, vm: VmId) -> Option<[u8; 32]>
     requires low { vm < slot_count config.now }
     requires linked { IsLinked config.now parts.now }
     requires slot { IsSome (vm_at parts.now vm) }
     requires here { All (IsImageHere parts.now (mapped_in (vm_at parts.now vm))) (slot_at (state_of config.now parts.now) vm).images }
-    requires images { images.now ≡ measured_images (state_of config.now parts.now) vm }
-    requires few { length images.now ≤ image_limit }
-    ensures { result ≡ unapproved (state_of config.now parts.now) vm }
+    ensures { result ≡ launch_of (state_of config.now parts.now) vm }
 {
-    if !config.version().measures_launch() {
-        return first_unapproved(config, images);
-    }
-    let digest = launch_digest(parts, config, vm);
-    if Approved::new(config.approved()).is_approved(&digest) {
-        None
+    if config.version().measures_launch() {
+        Some(launch_digest(parts, config, vm))
     } else {
-        Some(0)
+        None
+    }
+}
+
+/// Whether a digest is approved.
+fn approves(config: &Config, digest: &[u8; 32]) -> bool
+    ensures { result ≡ is_approved_digest config.now digest.now }
+{
+    Approved::new(config.approved()).is_approved(digest)
+}
+
+/// The number of the image for which a boot is rejected, if it is: the first that is not approved, or the first of all if
+/// boots are approved as a whole.
+fn unapproved(config: &Config, images: &[MeasuredImage], launch: &Option<[u8; 32]>) -> Option<u32>
+    requires { length images.now ≤ image_limit }
+    ensures { result ≡ rejected_for config.now images.now launch.now }
+{
+    match launch {
+        None => first_unapproved(config, images),
+        Some(digest) if approves(config, digest) => None,
+        Some(_) => Some(0),
     }
 }
 
@@ -302,12 +316,14 @@ pub(crate) fn booted_slot(parts: &Parts, config: &Config, vm: u32) -> Result<VmI
     }
 }
 
-/// The reply to `verify`, and the images that it measured.
+/// The reply to `verify`, and what it measured.
 #[derive(Drop)]
 pub struct Verified {
     pub reply: Reply,
     /// The slot's images, in the order of their numbers, if the call was not refused.
     pub images: ArrayVec<MeasuredImage, IMAGE_LIMIT>,
+    /// The launch measurement, if the call was not refused and the version approves boots as a whole.
+    pub launch: Option<[u8; 32]>,
 }
 
 impl Verified {
@@ -315,40 +331,51 @@ impl Verified {
     pub(crate) fn refused(refusal: Refusal) -> Verified
         ensures reply { result.reply ≡ Refused refusal }
         ensures images { result.images.items ≡ [] }
+        ensures launch { result.launch ≡ None }
     {
         Verified {
             reply: Reply::Refused(refusal),
             images: ArrayVec::new(),
+            launch: None,
         }
     }
 }
 
-/// Measures the images of a slot, which is booting and has all their pages: it becomes active if its boot is approved,
-/// and dead if it is not. This is a function of its own, since it needs more of the slot than one value that the function
-/// that judges the call could return: that no condition for a refusal holds.
-fn measure_slot(parts: &mut Parts, config: &Config, vm: VmId) -> Verified
+/// The number of the image for which a slot's boot is rejected, if it is. Of a boot that is approved as a whole, nothing but
+/// the whole is measured.
+fn rejected(parts: &Parts, config: &Config, vm: VmId) -> Option<u32>
+    requires low { vm < slot_count config.now }
+    requires linked { IsLinked config.now parts.now }
+    requires slot { IsSome (vm_at parts.now vm) }
+    requires here { All (IsImageHere parts.now (mapped_in (vm_at parts.now vm))) (slot_at (state_of config.now parts.now) vm).images }
+    ensures { result ≡ unapproved (state_of config.now parts.now) vm }
+{
+    let launch = launch_of(parts, config, vm);
+    if launch.is_some() {
+        return unapproved(config, &[], &launch);
+    }
+    unapproved(
+        config,
+        measured_images(parts, config, vm).as_slice(),
+        &launch,
+    )
+}
+
+/// Ends the boot of a slot, which is booting and has all pages of its images: it becomes dead if an image is rejected,
+/// and active if none is.
+fn end_boot(parts: &mut Parts, config: &Config, vm: VmId, rejected: Option<u32>) -> Reply
     requires served { refusal (state_of config.now parts.old) (Verify vm) ≡ None }
     requires able { IsAble config.now parts.old (Verify vm) }
-    ensures reply { result.reply ≡ (effect (state_of config.now parts.old) (Verify vm)).0 }
-    ensures images { result.images.items ≡ measured_images (state_of config.now parts.old) vm }
-    ensures state { state_of config.now parts.new ≡ (effect (state_of config.now parts.old) (Verify vm)).1 }
-    ensures linked { IsLinked config.now parts.new }
-    ensures places { KeepsPlaces parts.old parts.new }
+    requires rejected { rejected ≡ unapproved (state_of config.now parts.old) vm }
+    ensures { IsAnswer config.now parts.old parts.new (Verify vm) result }
 {
-    let images = measured_images(parts, config, vm);
-    if let Some(image) = unapproved(parts, config, vm, images.as_slice()) {
+    if let Some(image) = rejected {
         parts.slot_mut(vm).kill();
-        return Verified {
-            reply: Reply::Rejected(image),
-            images,
-        };
+        return Reply::Rejected(image);
     }
     trim_images(parts, config, vm);
     parts.slot_mut(vm).activate();
-    Verified {
-        reply: Reply::Done,
-        images,
-    }
+    Reply::Done
 }
 
 /// Verifies a slot: it becomes active if what it boots is approved, and dead if it is not.
@@ -356,10 +383,20 @@ fn measure_slot(parts: &mut Parts, config: &Config, vm: VmId) -> Verified
 pub fn verify(parts: &mut Parts, config: &Config, vm: u32) -> Result<Verified, Refusal>
     requires { IsAble config.now parts.old (Verify vm) }
     ensures answer { MatchResult result (λ verified. IsAnswer config.now parts.old parts.new (Verify vm) verified.reply) (λ why. IsAnswer config.now parts.old parts.new (Verify vm) (Refused why)) }
-    ensures images { MatchResult result (λ verified. verified.images.items ≡ images_by (state_of config.now parts.old) (Verify vm)) (λ why. images_by (state_of config.now parts.old) (Verify vm) ≡ []) }
+    ensures images { IfOk result (λ verified. verified.images.items ≡ (measurement_by (state_of config.now parts.old) (Verify vm)).images) }
+    ensures launch { IfOk result (λ verified. verified.launch ≡ (measurement_by (state_of config.now parts.old) (Verify vm)).launch) }
+    ensures nothing { OnErr result (measurement_by (state_of config.now parts.old) (Verify vm) ≡ nothing_measured) }
 {
     let vm = booted_slot(parts, config, vm)?;
-    Ok(measure_slot(parts, config, vm))
+    let images = measured_images(parts, config, vm);
+    let launch = launch_of(parts, config, vm);
+    let rejected = unapproved(config, images.as_slice(), &launch);
+    let reply = end_boot(parts, config, vm, rejected);
+    Ok(Verified {
+        reply,
+        images,
+        launch,
+    })
 }
 
 /// Verifies a slot for the reply alone. This is a function of its own, so that no other call clears room for images.
@@ -368,5 +405,7 @@ pub fn verify_slot(parts: &mut Parts, config: &Config, vm: u32) -> Result<Reply,
     requires { IsAble config.now parts.old (Verify vm) }
     ensures { IsAnswer config.now parts.old parts.new (Verify vm) (reply_of result) }
 {
-    Ok(verify(parts, config, vm)?.reply)
+    let vm = booted_slot(parts, config, vm)?;
+    let rejected = rejected(parts, config, vm);
+    Ok(end_boot(parts, config, vm, rejected))
 }

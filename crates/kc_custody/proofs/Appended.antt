@@ -12,9 +12,9 @@ use Rattle.kc_types.specs.declared.custody.Event.{Event}
 use Rattle.kc_types.specs.declared.custody.Event.TheVariants as event
 use Rattle.kc_types.specs.declared.custody.Sharing.{Sharing}
 use Rattle.kc_model.specs.Resources.{is_in}
-use Rattle.kc_model.specs.Custody.{same_phase}
-use Rattle.kc_model.specs.Lives.{is_turn, life_in, line_of_turn, images_told, is_gain, is_loss, frames_gained, count_different, most_beyond, end_of_sharing, sharing_from, sharings}
-use Rattle.kc_custody.specs.Growing.{first_images, is_open, has_member, with_member, AreMembers}
+use Rattle.kc_model.specs.Custody.{same_phase, nothing_measured}
+use Rattle.kc_model.specs.Lives.{is_turn, life_in, line_of_turn, measurement_told, is_gain, is_loss, frames_gained, count_different, most_beyond, end_of_sharing, sharing_from, sharings}
+use Rattle.kc_custody.specs.Growing.{first_measurement, is_open, has_member, with_member, AreMembers}
 
 pub or-none : {X : Type 0} (o : Option X) → option_or o None ≡ o
 or-none None = refl
@@ -51,7 +51,7 @@ life-closed v (x ∷ xs) e closed = by_turns (is_turn v Booting x) (is_turn v Em
     by_turns false true closed rest = refl
     by_turns false false closed rest = ap (λ ys. x ∷ ys) (rest closed)
 
--- lines and images come from the events before, if there are any
+-- lines and measurements come from the events before, if there are any
 pub line-more : (v : ℕ) (phase : Phase) (xs zs : List Event) → line_of_turn v phase (xs ++ zs) ≡ option_or (line_of_turn v phase xs) (line_of_turn v phase zs)
 line-more v phase [] zs = refl
 line-more v phase (event.Change (change.Phase told) ∷ xs) zs = by_turn ((told.vm == v) && same_phase told.phase phase) (line-more v phase xs zs)
@@ -64,27 +64,27 @@ line-more v phase (event.Change (change.Frame told) ∷ xs) zs = line-more v pha
 line-more v phase (event.Read w ∷ xs) zs = line-more v phase xs zs
 line-more v phase (event.Write w ∷ xs) zs = line-more v phase xs zs
 
-pub images-more : (v : ℕ) (xs zs : List Event) → images_told v (xs ++ zs) ≡ first_images (line_of_turn v Active xs) (line_of_turn v Dead xs) (images_told v xs) (images_told v zs)
-images-more v [] zs = refl
-images-more v (event.Change (change.Phase told) ∷ xs) zs = by_turns ((told.vm == v) && same_phase told.phase Active) ((told.vm == v) && same_phase told.phase Dead) (images-more v xs zs)
+pub measurement-more : (v : ℕ) (xs zs : List Event) → measurement_told v (xs ++ zs) ≡ first_measurement (line_of_turn v Active xs) (line_of_turn v Dead xs) (measurement_told v xs) (measurement_told v zs)
+measurement-more v [] zs = refl
+measurement-more v (event.Change (change.Phase told) ∷ xs) zs = by_turns ((told.vm == v) && same_phase told.phase Active) ((told.vm == v) && same_phase told.phase Dead) (measurement-more v xs zs)
   where
-    by_turns : (active dead : Bool) → images_told v (xs ++ zs) ≡ first_images (line_of_turn v Active xs) (line_of_turn v Dead xs) (images_told v xs) (images_told v zs)
-        → cond (cond active true dead) told.images (images_told v (xs ++ zs))
-        ≡ first_images (cond active (Some told.line) (line_of_turn v Active xs)) (cond dead (Some told.line) (line_of_turn v Dead xs)) (cond (cond active true dead) told.images (images_told v xs)) (images_told v zs)
+    by_turns : (active dead : Bool) → measurement_told v (xs ++ zs) ≡ first_measurement (line_of_turn v Active xs) (line_of_turn v Dead xs) (measurement_told v xs) (measurement_told v zs)
+        → cond (cond active true dead) told.measurement (measurement_told v (xs ++ zs))
+        ≡ first_measurement (cond active (Some told.line) (line_of_turn v Active xs)) (cond dead (Some told.line) (line_of_turn v Dead xs)) (cond (cond active true dead) told.measurement (measurement_told v xs)) (measurement_told v zs)
     by_turns true dead rest = refl
     by_turns false true rest = by_line (line_of_turn v Active xs)
       where
-        by_line : (line : Option ℕ) → told.images ≡ first_images line (Some told.line) told.images (images_told v zs)
+        by_line : (line : Option ℕ) → told.measurement ≡ first_measurement line (Some told.line) told.measurement (measurement_told v zs)
         by_line None = refl
         by_line (Some n) = refl
     by_turns false false rest = rest
-images-more v (event.Change (change.Frame told) ∷ xs) zs = images-more v xs zs
-images-more v (event.Read w ∷ xs) zs = images-more v xs zs
-images-more v (event.Write w ∷ xs) zs = images-more v xs zs
+measurement-more v (event.Change (change.Frame told) ∷ xs) zs = measurement-more v xs zs
+measurement-more v (event.Read w ∷ xs) zs = measurement-more v xs zs
+measurement-more v (event.Write w ∷ xs) zs = measurement-more v xs zs
 
--- events without images after the others
-pub images-kept : (v : ℕ) (xs : List Event) → first_images (line_of_turn v Active xs) (line_of_turn v Dead xs) (images_told v xs) [] ≡ images_told v xs
-images-kept v xs = sym (images-more v xs []) ∙ ap (images_told v) (append-nil xs)
+-- events without a measurement after the others
+pub measurement-kept : (v : ℕ) (xs : List Event) → first_measurement (line_of_turn v Active xs) (line_of_turn v Dead xs) (measurement_told v xs) nothing_measured ≡ measurement_told v xs
+measurement-kept v xs = sym (measurement-more v xs []) ∙ ap (measurement_told v) (append-nil xs)
 
 pub counted-more : (p : Event → Bool) (xs zs : List Event) → length (filter p (xs ++ zs)) ≡ length (filter p xs) + length (filter p zs)
 counted-more p xs zs = ap length (filter-append p xs zs) ∙ length-append (filter p xs) (filter p zs)

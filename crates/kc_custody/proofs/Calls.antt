@@ -9,7 +9,7 @@ use Rattle.kc_types.specs.declared.reply.Reply.TheVariants as reply
 use Rattle.kc_types.specs.declared.owner.Owner.{Owner}
 use Rattle.kc_types.specs.declared.owner.Owner.TheVariants.{Core, Host, Free, Vm}
 use Rattle.kc_types.specs.declared.custody.FrameChange.{FrameChange}
-use Rattle.kc_types.specs.declared.custody.MeasuredImage.{MeasuredImage}
+use Rattle.kc_types.specs.declared.custody.Measurement.{Measurement}
 use Rattle.kc_types.specs.declared.custody.PhaseChange.{PhaseChange}
 use Rattle.kc_types.specs.declared.custody.Event.{Event}
 use Rattle.kc_types.specs.declared.custody.Event.TheVariants as event
@@ -19,7 +19,7 @@ use Rattle.kc_model.specs.State.{State, frame_at}
 use Rattle.kc_model.specs.Lawful.{IsLawful}
 use Rattle.kc_model.specs.Next.{next}
 use Rattle.kc_model.specs.Resources.{is_in}
-use Rattle.kc_model.specs.Custody.{frame_changes_by, phase_changes_by, changes_by, images_by}
+use Rattle.kc_model.specs.Custody.{frame_changes_by, phase_changes_by, changes_by, measurement_by}
 use Rattle.kc_model.specs.Events.{of_owner, access_by, events_by}
 use Rattle.kc_custody.specs.Movable.{movable}
 use Rattle.kc_custody.specs.Marks.{mark_of, settled, differs, frame_event, turning, phase_mark, phase_told, phase_event, accessed, access_told}
@@ -65,16 +65,16 @@ events-of-changes line m new =
     ∙ ap₂ (λ (xs ys : List Event). xs ++ ys) (map-map event.Change change.Frame (frame_changes_by line m new)) (map-map event.Change change.Phase (phase_changes_by line m new))
 
 -- the events that the marks report are those of the call
-pub call-told : (line : ℕ) (m new : State) (call : Call) (vm : Option ℕ) (reply : Reply) (marks : List FrameChange) (mark : Option PhaseChange) (images : List MeasuredImage) (before accesses frames after : List Event)
-    → IsLawful m → IsMarked line m call marks mark → vm ≡ accessed m call → reply ≡ (next m call).0 → new ≡ (next m call).1 → images ≡ images_by m call
-    → accesses ≡ before ++ access_told call vm reply → frames ≡ accesses ++ map frame_event (filter differs (map (settled new) marks)) → after ≡ frames ++ phase_told new images mark → after ≡ before ++ events_by line m call
-call-told line m new call vm reply marks mark images before accesses frames after is marked at answered left measured told-access told-frames told-slot =
+pub call-told : (line : ℕ) (m new : State) (call : Call) (vm : Option ℕ) (reply : Reply) (marks : List FrameChange) (mark : Option PhaseChange) (found : Measurement) (before accesses frames after : List Event)
+    → IsLawful m → IsMarked line m call marks mark → vm ≡ accessed m call → reply ≡ (next m call).0 → new ≡ (next m call).1 → found ≡ measurement_by m call
+    → accesses ≡ before ++ access_told call vm reply → frames ≡ accesses ++ map frame_event (filter differs (map (settled new) marks)) → after ≡ frames ++ phase_told new found mark → after ≡ before ++ events_by line m call
+call-told line m new call vm reply marks mark found before accesses frames after is marked at answered left measured told-access told-frames told-slot =
     let told : filter differs (map (settled new) marks) ≡ frame_changes_by line m (next m call).1 =
     ap₂ (λ (s : State) (all : List FrameChange). filter differs (map (settled s) all)) left marked.each
     ∙ told-is line m call marked.frames is marked.rising marked.held in
-    let turned : phase_told new images mark ≡ map phase_event (phase_changes_by line m (next m call).1) =
-    ap₂ (λ (s : State) (at : Option PhaseChange). phase_told s images at) left marked.slot
-    ∙ phases-told line m call images is measured in
+    let turned : phase_told new found mark ≡ map phase_event (phase_changes_by line m (next m call).1) =
+    ap₂ (λ (s : State) (at : Option PhaseChange). phase_told s found at) left marked.slot
+    ∙ phases-told line m call found is measured in
     let served : access_told call vm reply ≡ access_by m call (next m call).0 = ap₂ (access_told call) at answered ∙ access-is m call (next m call).0 in
     told-slot
     ∙ ap₂ (λ (xs ys : List Event). xs ++ ys) (told-frames ∙ ap₂ (λ (xs : List Event) (fs : List FrameChange). xs ++ map frame_event fs) (told-access ∙ ap (λ xs. before ++ xs) served) told) turned

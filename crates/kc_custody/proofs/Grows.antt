@@ -4,19 +4,20 @@ use Rattle.std.specs.Option.{option_or}
 use Rattle.std.proofs.lemmas.List.{map-append}
 use Rattle.std.proofs.lemmas.Bool.{eq-eqb}
 use Rattle.kc_types.specs.declared.slot.Phase.TheVariants.{Empty, Booting, Active, Dead}
-use Rattle.kc_types.specs.declared.custody.MeasuredImage.{MeasuredImage}
+use Rattle.kc_types.specs.declared.custody.Measurement.{Measurement}
 use Rattle.kc_types.specs.declared.custody.Change.TheVariants as change
 use Rattle.kc_types.specs.declared.custody.Event.{Event}
 use Rattle.kc_types.specs.declared.custody.Event.TheVariants as event
 use Rattle.kc_types.specs.declared.custody.FrameChange.{FrameChange}
 use Rattle.kc_types.specs.declared.custody.PhaseChange.{PhaseChange}
 use Rattle.kc_types.specs.declared.custody.Sharing.{Sharing}
-use Rattle.kc_model.specs.Lives.{life_in, is_owned_by, is_measuring, line_of_turn, images_told, is_gain, is_loss, is_read, is_write, frames_gained, count_different, sharings}
+use Rattle.kc_model.specs.Custody.{nothing_measured}
+use Rattle.kc_model.specs.Lives.{life_in, is_owned_by, is_measuring, line_of_turn, measurement_told, is_gain, is_loss, is_read, is_write, frames_gained, count_different, sharings}
 use Rattle.kc_custody.specs.declared.open_life.Stretch.{Stretch}
 use Rattle.kc_custody.specs.Endings.{FrameEndings, HasEndingOf, line_of_ending, NotesEvent, NumbersStretches, begins_sharing}
-use Rattle.kc_custody.specs.Growing.{Growing, with_member, gaining, losing, owning, sharing, sharing_of, stretch_from, first_images, is_open, Start, is_open_since, life_since, with_event, counted, AreMembers, HaveEndings, IsGrowing, HasRoomFor, EndsBy, concerns, TakesIn}
+use Rattle.kc_custody.specs.Growing.{Growing, with_member, gaining, losing, owning, sharing, sharing_of, stretch_from, first_measurement, is_open, Start, is_open_since, life_since, with_event, counted, AreMembers, HaveEndings, IsGrowing, HasRoomFor, EndsBy, concerns, TakesIn}
 use Rattle.kc_custody.proofs.Counts.{counted-short}
-use Rattle.kc_custody.proofs.Appended.{or-none, open-more, life-open, life-closed, line-more, images-more, images-kept, counted-more, gained-more, most-covers, most-more, members-more, ended_with, shared-more}
+use Rattle.kc_custody.proofs.Appended.{or-none, open-more, life-open, life-closed, line-more, measurement-more, measurement-kept, counted-more, gained-more, most-covers, most-more, members-more, ended_with, shared-more}
 
 -- what is said of a life with one event more
 abbrev pub counted_with : ℕ → Event → Growing → Growing
@@ -24,7 +25,7 @@ counted_with v e life = record life {
   active = option_or life.active (line_of_turn v Active (e ∷ []));
   dead = option_or life.dead (line_of_turn v Dead (e ∷ []));
   cleared = option_or life.cleared (line_of_turn v Empty (e ∷ []));
-  images = first_images life.active life.dead life.images (images_told v (e ∷ []));
+  measurement = first_measurement life.active life.dead life.measurement (measurement_told v (e ∷ []));
   gained = life.gained + length (filter (is_gain v) (e ∷ []));
   lost = life.lost + length (filter (is_loss v) (e ∷ []));
   most = max life.most (life.gained + length (filter (is_gain v) (e ∷ [])) - (life.lost + length (filter (is_loss v) (e ∷ []))));
@@ -35,13 +36,13 @@ counted_with v e life = record life {
 pub counted-with : (v line : ℕ) (xs : List Event) (e : Event) → counted v line (xs ++ e ∷ []) ≡ counted_with v e (counted v line xs)
 unfolding counted
 counted-with v line xs e =
-    rw (line-more v Active xs (e ∷ []), line-more v Dead xs (e ∷ []), line-more v Empty xs (e ∷ []), images-more v xs (e ∷ []), counted-more (is_gain v) xs (e ∷ []), counted-more (is_loss v) xs (e ∷ []), most-more v xs e, counted-more (is_read v) xs (e ∷ []), counted-more (is_write v) xs (e ∷ [])) refl
+    rw (line-more v Active xs (e ∷ []), line-more v Dead xs (e ∷ []), line-more v Empty xs (e ∷ []), measurement-more v xs (e ∷ []), counted-more (is_gain v) xs (e ∷ []), counted-more (is_loss v) xs (e ∷ []), most-more v xs e, counted-more (is_read v) xs (e ∷ []), counted-more (is_write v) xs (e ∷ [])) refl
 
 -- an event that says nothing of these
 pub lines-kept : (v line : ℕ) (xs : List Event) → (l : Growing) → l ≡ counted v line xs
-    → record l { active = option_or l.active None; dead = option_or l.dead None; cleared = option_or l.cleared None; images = first_images l.active l.dead l.images [] } ≡ l
+    → record l { active = option_or l.active None; dead = option_or l.dead None; cleared = option_or l.cleared None; measurement = first_measurement l.active l.dead l.measurement nothing_measured } ≡ l
 unfolding counted
-lines-kept v line xs l is = rw is (rw (or-none (line_of_turn v Active xs), or-none (line_of_turn v Dead xs), or-none (line_of_turn v Empty xs), images-kept v xs) refl)
+lines-kept v line xs l is = rw is (rw (or-none (line_of_turn v Active xs), or-none (line_of_turn v Dead xs), or-none (line_of_turn v Empty xs), measurement-kept v xs) refl)
 
 most-kept : (v line : ℕ) (xs : List Event) (n : ℕ) → max (counted v line xs).most ((counted v line xs).gained - ((counted v line xs).lost + n)) ≡ (counted v line xs).most
 unfolding counted
@@ -110,34 +111,34 @@ add-zero : (n : ℕ) → n + 0 ≡ n
 add-zero n = omega arith
 
 -- an event by which no frame is gained
-counted-by : (v line : ℕ) (xs : List Event) (e : Event) (a d c : Option ℕ) (images : List MeasuredImage) (l r w : ℕ)
-    → line_of_turn v Active (e ∷ []) ≡ a → line_of_turn v Dead (e ∷ []) ≡ d → line_of_turn v Empty (e ∷ []) ≡ c → images_told v (e ∷ []) ≡ images
+counted-by : (v line : ℕ) (xs : List Event) (e : Event) (a d c : Option ℕ) (measured : Measurement) (l r w : ℕ)
+    → line_of_turn v Active (e ∷ []) ≡ a → line_of_turn v Dead (e ∷ []) ≡ d → line_of_turn v Empty (e ∷ []) ≡ c → measurement_told v (e ∷ []) ≡ measured
     → length (filter (is_gain v) (e ∷ [])) ≡ 0 → length (filter (is_loss v) (e ∷ [])) ≡ l → length (filter (is_read v) (e ∷ [])) ≡ r → length (filter (is_write v) (e ∷ [])) ≡ w
     → counted v line (xs ++ e ∷ []) ≡ record (counted v line xs) {
       active = option_or (counted v line xs).active a;
       dead = option_or (counted v line xs).dead d;
       cleared = option_or (counted v line xs).cleared c;
-      images = first_images (counted v line xs).active (counted v line xs).dead (counted v line xs).images images;
+      measurement = first_measurement (counted v line xs).active (counted v line xs).dead (counted v line xs).measurement measured;
       lost = (counted v line xs).lost + l;
       reads = (counted v line xs).reads + r;
       writes = (counted v line xs).writes + w;
     }
-counted-by v line xs e a d c images l r w ea ed ec ei eg el er ew =
+counted-by v line xs e a d c measured l r w ea ed ec ei eg el er ew =
     counted-with v line xs e ∙ rw (ea, ed, ec, ei, eg, el, er, ew, add-zero (counted v line xs).gained, most-kept v line xs l) refl
 
 -- and which is no turn of the slot
 counted-plain : (v line : ℕ) (xs : List Event) (e : Event) (l r w : ℕ)
-    → line_of_turn v Active (e ∷ []) ≡ None → line_of_turn v Dead (e ∷ []) ≡ None → line_of_turn v Empty (e ∷ []) ≡ None → images_told v (e ∷ []) ≡ []
+    → line_of_turn v Active (e ∷ []) ≡ None → line_of_turn v Dead (e ∷ []) ≡ None → line_of_turn v Empty (e ∷ []) ≡ None → measurement_told v (e ∷ []) ≡ nothing_measured
     → length (filter (is_gain v) (e ∷ [])) ≡ 0 → length (filter (is_loss v) (e ∷ [])) ≡ l → length (filter (is_read v) (e ∷ [])) ≡ r → length (filter (is_write v) (e ∷ [])) ≡ w
     → counted v line (xs ++ e ∷ []) ≡ record (counted v line xs) { lost = (counted v line xs).lost + l; reads = (counted v line xs).reads + r; writes = (counted v line xs).writes + w }
 counted-plain v line xs e l r w ea ed ec ei eg el er ew =
-    counted-by v line xs e None None None [] l r w ea ed ec ei eg el er ew
+    counted-by v line xs e None None None nothing_measured l r w ea ed ec ei eg el er ew
     ∙ ap (λ (g : Growing). record g { lost = (counted v line xs).lost + l; reads = (counted v line xs).reads + r; writes = (counted v line xs).writes + w }) (lines-kept v line xs (counted v line xs) refl)
 
 -- an event that says nothing of the slot
 quiet-left : (e : Event) (start : Start) (before after : List FrameEndings) (life : Growing) → NotesEvent e before after → is_open_since start ≡ true
     → life_in start.vm (e ∷ []) ≡ e ∷ []
-    → line_of_turn start.vm Active (e ∷ []) ≡ None → line_of_turn start.vm Dead (e ∷ []) ≡ None → line_of_turn start.vm Empty (e ∷ []) ≡ None → images_told start.vm (e ∷ []) ≡ []
+    → line_of_turn start.vm Active (e ∷ []) ≡ None → line_of_turn start.vm Dead (e ∷ []) ≡ None → line_of_turn start.vm Empty (e ∷ []) ≡ None → measurement_told start.vm (e ∷ []) ≡ nothing_measured
     → length (filter (is_gain start.vm) (e ∷ [])) ≡ 0 → length (filter (is_loss start.vm) (e ∷ [])) ≡ 0 → length (filter (is_read start.vm) (e ∷ [])) ≡ 0 → length (filter (is_write start.vm) (e ∷ [])) ≡ 0
     → frames_gained start.vm (e ∷ []) ≡ [] → sharings start.vm (e ∷ []) ≡ []
     → IsGrowing before start life → IsGrowing after (with_event e start) life
@@ -223,36 +224,36 @@ turn-own : (v : ℕ) (told : PhaseChange) → told.vm ≡ v → (told.vm == v) �
 turn-own v told of = eq-eqb told.vm v of
 
 pub takes-active : (told : PhaseChange) (ending : ℕ) (old new : Growing) → told.phase ≡ Active
-    → new ≡ record old { active = option_or old.active (Some told.line); images = first_images old.active old.dead old.images told.images } → TakesIn (event.Change (change.Phase told)) ending old new
+    → new ≡ record old { active = option_or old.active (Some told.line); measurement = first_measurement old.active old.dead old.measurement told.measurement } → TakesIn (event.Change (change.Phase told)) ending old new
 takes-active told ending old new phase made = λ start before after room ends alive of is.
     let v = start.vm in
     let e = event.Change (change.Phase told) in
     let c = counted v start.line (life_since start) in
     let same = turn-own v told of in
-    let step : counted v start.line (life_since start ++ e ∷ []) ≡ record c { active = option_or c.active (Some told.line); images = first_images c.active c.dead c.images told.images } =
-    counted-by v start.line (life_since start) e (Some told.line) None None told.images 0 0 0 (rw (same, phase) refl) (rw (same, phase) refl) (rw (same, phase) refl) (rw (is_measuring, same, phase) refl) refl refl refl refl
+    let step : counted v start.line (life_since start ++ e ∷ []) ≡ record c { active = option_or c.active (Some told.line); measurement = first_measurement c.active c.dead c.measurement told.measurement } =
+    counted-by v start.line (life_since start) e (Some told.line) None None told.measurement 0 0 0 (rw (same, phase) refl) (rw (same, phase) refl) (rw (same, phase) refl) (rw (is_measuring, same, phase) refl) refl refl refl refl
     ∙ rw (or-none c.dead, or-none c.cleared, add-zero c.lost, add-zero c.reads, add-zero c.writes) refl in
-    rw made (grows-counts e start before after old (record old { active = option_or old.active (Some told.line); images = first_images old.active old.dead old.images told.images }) ends.noted alive (rw (same, phase) refl)
-    (ap (λ (g : Growing). record g { active = option_or g.active (Some told.line); images = first_images g.active g.dead g.images told.images }) is.counts ∙ ap (λ (g : Growing). record g { frames = old.frames; members = old.members; shared = old.shared }) (sym step))
+    rw made (grows-counts e start before after old (record old { active = option_or old.active (Some told.line); measurement = first_measurement old.active old.dead old.measurement told.measurement }) ends.noted alive (rw (same, phase) refl)
+    (ap (λ (g : Growing). record g { active = option_or g.active (Some told.line); measurement = first_measurement g.active g.dead g.measurement told.measurement }) is.counts ∙ ap (λ (g : Growing). record g { frames = old.frames; members = old.members; shared = old.shared }) (sym step))
     refl (λ still. refl) refl refl (rw (same, phase) refl) is)
 
 pub takes-dead : (told : PhaseChange) (ending : ℕ) (old new : Growing) → told.phase ≡ Dead
-    → new ≡ record old { dead = option_or old.dead (Some told.line); images = first_images old.active old.dead old.images told.images } → TakesIn (event.Change (change.Phase told)) ending old new
+    → new ≡ record old { dead = option_or old.dead (Some told.line); measurement = first_measurement old.active old.dead old.measurement told.measurement } → TakesIn (event.Change (change.Phase told)) ending old new
 takes-dead told ending old new phase made = λ start before after room ends alive of is.
     let v = start.vm in
     let e = event.Change (change.Phase told) in
     let c = counted v start.line (life_since start) in
     let same = turn-own v told of in
-    let step : counted v start.line (life_since start ++ e ∷ []) ≡ record c { dead = option_or c.dead (Some told.line); images = first_images c.active c.dead c.images told.images } =
-    counted-by v start.line (life_since start) e None (Some told.line) None told.images 0 0 0 (rw (same, phase) refl) (rw (same, phase) refl) (rw (same, phase) refl) (rw (is_measuring, same, phase) refl) refl refl refl refl
+    let step : counted v start.line (life_since start ++ e ∷ []) ≡ record c { dead = option_or c.dead (Some told.line); measurement = first_measurement c.active c.dead c.measurement told.measurement } =
+    counted-by v start.line (life_since start) e None (Some told.line) None told.measurement 0 0 0 (rw (same, phase) refl) (rw (same, phase) refl) (rw (same, phase) refl) (rw (is_measuring, same, phase) refl) refl refl refl refl
     ∙ rw (or-none c.active, or-none c.cleared, add-zero c.lost, add-zero c.reads, add-zero c.writes) refl in
-    rw made (grows-counts e start before after old (record old { dead = option_or old.dead (Some told.line); images = first_images old.active old.dead old.images told.images }) ends.noted alive (rw (same, phase) refl)
-    (ap (λ (g : Growing). record g { dead = option_or g.dead (Some told.line); images = first_images g.active g.dead g.images told.images }) is.counts ∙ ap (λ (g : Growing). record g { frames = old.frames; members = old.members; shared = old.shared }) (sym step))
+    rw made (grows-counts e start before after old (record old { dead = option_or old.dead (Some told.line); measurement = first_measurement old.active old.dead old.measurement told.measurement }) ends.noted alive (rw (same, phase) refl)
+    (ap (λ (g : Growing). record g { dead = option_or g.dead (Some told.line); measurement = first_measurement g.active g.dead g.measurement told.measurement }) is.counts ∙ ap (λ (g : Growing). record g { frames = old.frames; members = old.members; shared = old.shared }) (sym step))
     refl (λ still. refl) refl refl (rw (same, phase) refl) is)
 
-images-none : (v line : ℕ) (xs : List Event) → first_images (counted v line xs).active (counted v line xs).dead (counted v line xs).images [] ≡ (counted v line xs).images
+measurement-none : (v line : ℕ) (xs : List Event) → first_measurement (counted v line xs).active (counted v line xs).dead (counted v line xs).measurement nothing_measured ≡ (counted v line xs).measurement
 unfolding counted
-images-none v line xs = images-kept v xs
+measurement-none v line xs = measurement-kept v xs
 
 pub takes-empty : (told : PhaseChange) (ending : ℕ) (old new : Growing) → told.phase ≡ Empty
     → new ≡ record old { cleared = option_or old.cleared (Some told.line); members = [] } → TakesIn (event.Change (change.Phase told)) ending old new
@@ -262,8 +263,8 @@ takes-empty told ending old new phase made = λ start before after room ends ali
     let c = counted v start.line (life_since start) in
     let same = turn-own v told of in
     let step : counted v start.line (life_since start ++ e ∷ []) ≡ record c { cleared = option_or c.cleared (Some told.line) } =
-    counted-by v start.line (life_since start) e None None (Some told.line) [] 0 0 0 (rw (same, phase) refl) (rw (same, phase) refl) (rw (same, phase) refl) (rw (is_measuring, same, phase) refl) refl refl refl refl
-    ∙ rw (or-none c.active, or-none c.dead, images-none v start.line (life_since start), add-zero c.lost, add-zero c.reads, add-zero c.writes) refl in
+    counted-by v start.line (life_since start) e None None (Some told.line) nothing_measured 0 0 0 (rw (same, phase) refl) (rw (same, phase) refl) (rw (same, phase) refl) (rw (is_measuring, same, phase) refl) refl refl refl refl
+    ∙ rw (or-none c.active, or-none c.dead, measurement-none v start.line (life_since start), add-zero c.lost, add-zero c.reads, add-zero c.writes) refl in
     rw made (grows-counts e start before after old (record old { cleared = option_or old.cleared (Some told.line); members = [] }) ends.noted alive (rw (same, phase) refl)
     (ap (λ (g : Growing). record g { cleared = option_or g.cleared (Some told.line); members = [] }) is.counts ∙ ap (λ (g : Growing). record g { frames = old.frames; members = []; shared = old.shared }) (sym step))
     refl (λ still. let ended : is_open v (e ∷ []) ≡ false = rw (same, phase) refl in let never = sym ended ∙ still in cc) refl refl (rw (same, phase) refl) is)

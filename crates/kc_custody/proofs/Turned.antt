@@ -9,7 +9,7 @@ use Rattle.kc_types.specs.declared.call.Call.{Call}
 use Rattle.kc_types.specs.declared.call.Call.TheVariants.{Take, Give, HostFault, HostRead, HostWrite, RegisterVm, RegisterVcpu, SetBoot, Remap, Verify, Map, GuestRead, GuestWrite, Grant, Revoke, GrantRange, RevokeRange, Drop, Clear}
 use Rattle.kc_types.specs.declared.slot.Phase.{Phase}
 use Rattle.kc_types.specs.declared.slot.Phase.TheVariants.{Empty}
-use Rattle.kc_types.specs.declared.custody.MeasuredImage.{MeasuredImage}
+use Rattle.kc_types.specs.declared.custody.Measurement.{Measurement}
 use Rattle.kc_types.specs.declared.custody.PhaseChange.{PhaseChange}
 use Rattle.kc_model.specs.State.{State, Slot, slot_at, with_slot, no_slot, empty_slot}
 use Rattle.kc_model.specs.Lawful.{IsLawful}
@@ -17,7 +17,7 @@ use Rattle.kc_model.specs.Refusals.{refusal, next_gfn, pending}
 use Rattle.kc_model.specs.Effects.{effect, host_takes, hand, guest_read, guest_written, verified, all_trimmed, unapproved}
 use Rattle.kc_model.specs.Next.{next, unless_refused}
 use Rattle.kc_model.specs.Resources.{is_in}
-use Rattle.kc_model.specs.Custody.{same_phase, has_turned, phase_change, phase_changes_by, images_for, measured_images, images_unless, images_by}
+use Rattle.kc_model.specs.Custody.{same_phase, has_turned, phase_change, phase_changes_by, measurement_for, measurement, measurement_unless, measurement_by}
 use Rattle.kc_model.proofs.States.Frames.{part-set}
 use Rattle.kc_model.proofs.States.Sizes.{sized-next}
 use Rattle.kc_model.proofs.States.Slots.{slot-past}
@@ -111,71 +111,71 @@ written m w slot = elim (set-here m.slots w slot no_slot) [
 ]
 
 -- a slot that is measured becomes active or dead
-measured : (m : State) (w : ℕ) (first : Option ℕ) → IsLawful m → w < slot_count m.config → (images : List MeasuredImage) → images ≡ images_for (phase_of (verified m w first).1 w) images
-measured m w None is low images =
+measured : (m : State) (w : ℕ) (first : Option ℕ) → IsLawful m → w < slot_count m.config → (found : Measurement) → found ≡ measurement_for (phase_of (verified m w first).1 w) found
+measured m w None is low found =
     let there : w < length (all_trimmed m w (slot_at m w).images).slots = rw (slots-trimmed m w (slot_at m w).images, is.slots) low in
-    sym (ap (λ (s : Slot). images_for s.phase images) (get_or-set_same (all_trimmed m w (slot_at m w).images).slots w _ no_slot there))
-measured m w (Some i) is low images =
+    sym (ap (λ (s : Slot). measurement_for s.phase found) (get_or-set_same (all_trimmed m w (slot_at m w).images).slots w _ no_slot there))
+measured m w (Some i) is low found =
     let there : w < length m.slots = rw is.slots low in
-    sym (ap (λ (s : Slot). images_for s.phase images) (get_or-set_same m.slots w _ no_slot there))
+    sym (ap (λ (s : Slot). measurement_for s.phase found) (get_or-set_same m.slots w _ no_slot there))
 
--- if a call turns a slot, the images that it measured are those of its new phase
-ImagesFit : State → State → ℕ → List MeasuredImage → Type 0
-ImagesFit m new v images = has_turned m new v ≡ true → images ≡ images_for (phase_of new v) (measured_images m v)
+-- if a call turns a slot, the found that it measured are those of its new phase
+MeasurementFits : State → State → ℕ → Measurement → Type 0
+MeasurementFits m new v found = has_turned m new v ≡ true → found ≡ measurement_for (phase_of new v) (measurement m v)
 
-fit-effect : (m : State) (call : Call) (v : ℕ) (images : List MeasuredImage) → IsLawful m → refusal m call ≡ None → images ≡ images_by m call → turning call ≡ Some v → images ≡ images_for (phase_of (effect m call).1 v) (measured_images m v)
-fit-effect m (RegisterVm w) v images is served none turns =
+fit-effect : (m : State) (call : Call) (v : ℕ) (found : Measurement) → IsLawful m → refusal m call ≡ None → found ≡ measurement_by m call → turning call ≡ Some v → found ≡ measurement_for (phase_of (effect m call).1 v) (measurement m v)
+fit-effect m (RegisterVm w) v found is served none turns =
     let same : w ≡ v = cc in
-    subst (λ k. images ≡ images_for (phase_of (effect m (RegisterVm w)).1 k) (measured_images m k)) same
+    subst (λ k. found ≡ measurement_for (phase_of (effect m (RegisterVm w)).1 k) (measurement m k)) same
     (none ∙ elim (written m w _) [
-      | inl booting ↦ sym (ap (λ p. images_for p (measured_images m w)) booting)
-      | inr empty ↦ sym (ap (λ p. images_for p (measured_images m w)) empty)
+      | inl booting ↦ sym (ap (λ p. measurement_for p (measurement m w)) booting)
+      | inr empty ↦ sym (ap (λ p. measurement_for p (measurement m w)) empty)
     ])
-fit-effect m (Verify w) v images is served measures turns =
+fit-effect m (Verify w) v found is served measures turns =
     let same : w ≡ v = cc in
-    subst (λ k. images ≡ images_for (phase_of (effect m (Verify w)).1 k) (measured_images m k)) same
-    (measures ∙ ap (λ refused. images_unless refused (measured_images m w)) served ∙ measured m w (unapproved m w) is (verify-served m w served).0 (measured_images m w))
-fit-effect m (Clear w) v images is served none turns =
+    subst (λ k. found ≡ measurement_for (phase_of (effect m (Verify w)).1 k) (measurement m k)) same
+    (measures ∙ ap (λ refused. measurement_unless refused (measurement m w)) served ∙ measured m w (unapproved m w) is (verify-served m w served).0 (measurement m w))
+fit-effect m (Clear w) v found is served none turns =
     let same : w ≡ v = cc in
-    subst (λ k. images ≡ images_for (phase_of (effect m (Clear w)).1 k) (measured_images m k)) same
+    subst (λ k. found ≡ measurement_for (phase_of (effect m (Clear w)).1 k) (measurement m k)) same
     (none ∙ elim (written m w (empty_slot m.config.version)) [
-      | inl empty ↦ sym (ap (λ p. images_for p (measured_images m w)) empty)
-      | inr empty ↦ sym (ap (λ p. images_for p (measured_images m w)) empty)
+      | inl empty ↦ sym (ap (λ p. measurement_for p (measurement m w)) empty)
+      | inr empty ↦ sym (ap (λ p. measurement_for p (measurement m w)) empty)
     ])
-fit-effect m _ v images is served none turns = cc
+fit-effect m _ v found is served none turns = cc
 
-fit-unless : (refused : Option Refusal) (m : State) (call : Call) (v : ℕ) (images : List MeasuredImage) → IsLawful m → refusal m call ≡ refused → images ≡ images_by m call → turning call ≡ Some v → ImagesFit m (unless_refused refused m call).1 v images
-unfolding ImagesFit
-fit-unless None m call v images is served measures turns turned = fit-effect m call v images is served measures turns
-fit-unless (Some r) m call v images is refused measures turns turned = let still = not-turned m m v refl in absurd cc
+fit-unless : (refused : Option Refusal) (m : State) (call : Call) (v : ℕ) (found : Measurement) → IsLawful m → refusal m call ≡ refused → found ≡ measurement_by m call → turning call ≡ Some v → MeasurementFits m (unless_refused refused m call).1 v found
+unfolding MeasurementFits
+fit-unless None m call v found is served measures turns turned = fit-effect m call v found is served measures turns
+fit-unless (Some r) m call v found is refused measures turns turned = let still = not-turned m m v refl in absurd cc
 
-fit : (m : State) (call : Call) (v : ℕ) (images : List MeasuredImage) → IsLawful m → images ≡ images_by m call → turning call ≡ Some v → ImagesFit m (next m call).1 v images
+fit : (m : State) (call : Call) (v : ℕ) (found : Measurement) → IsLawful m → found ≡ measurement_by m call → turning call ≡ Some v → MeasurementFits m (next m call).1 v found
 unfolding next
-fit m call v images is measures turns = fit-unless (refusal m call) m call v images is refl measures turns
+fit m call v found is measures turns = fit-unless (refusal m call) m call v found is refl measures turns
 
 -- one slot that turned is reported, and one that did not is not
 one-told : (same : Bool) (told : PhaseChange) (change_of : ℕ → PhaseChange) (v : ℕ) → (not same ≡ true → told ≡ change_of v) → cond same [] (phase_event told ∷ []) ≡ map phase_event (map change_of (cond (not same) (v ∷ []) []))
 one-told true told change_of v is = refl
 one-told false told change_of v is = ap (λ t. phase_event t ∷ []) (is refl)
 
-told-at : (line : ℕ) (m new : State) (images : List MeasuredImage) (at : Option ℕ) → ((v : ℕ) → at ≡ Some v → ImagesFit m new v images)
-    → phase_told new images (option_map (phase_mark line m) at) ≡ map phase_event (map (phase_change line m new) (filter (has_turned m new) (option_to_list at)))
-unfolding ImagesFit
-told-at line m new images None fits = refl
-told-at line m new images (Some v) fits =
-    one-told (same_phase (phase_of m v) (phase_of new v)) (record { line = line; vm = v; phase = phase_of new v; images = images }) (phase_change line m new) v
-    (λ turned. ap (λ is. record { line = line; vm = v; phase = phase_of new v; images = is }) (fits v refl turned))
+told-at : (line : ℕ) (m new : State) (found : Measurement) (at : Option ℕ) → ((v : ℕ) → at ≡ Some v → MeasurementFits m new v found)
+    → phase_told new found (option_map (phase_mark line m) at) ≡ map phase_event (map (phase_change line m new) (filter (has_turned m new) (option_to_list at)))
+unfolding MeasurementFits
+told-at line m new found None fits = refl
+told-at line m new found (Some v) fits =
+    one-told (same_phase (phase_of m v) (phase_of new v)) (record { line = line; vm = v; phase = phase_of new v; measurement = found }) (phase_change line m new) v
+    (λ turned. ap (λ is. record { line = line; vm = v; phase = phase_of new v; measurement = is }) (fits v refl turned))
 
 rising-one : (at : Option ℕ) → IsRisingFrom 0 (option_to_list at)
 rising-one None = tt
 rising-one (Some v) = (omega arith, tt)
 
 -- what is reported of the slot whose phase a call may change is what the call changed of all slots
-pub phases-told : (line : ℕ) (m : State) (call : Call) (images : List MeasuredImage) → IsLawful m → images ≡ images_by m call
-    → phase_told (next m call).1 images (option_map (phase_mark line m) (turning call)) ≡ map phase_event (phase_changes_by line m (next m call).1)
-phases-told line m call images is measures =
+pub phases-told : (line : ℕ) (m : State) (call : Call) (found : Measurement) → IsLawful m → found ≡ measurement_by m call
+    → phase_told (next m call).1 found (option_map (phase_mark line m) (turning call)) ≡ map phase_event (phase_changes_by line m (next m call).1)
+phases-told line m call found is measures =
     let new = (next m call).1 in
-    told-at line m new images (turning call) (λ v turns. fit m call v images is measures turns)
+    told-at line m new found (turning call) (λ v turns. fit m call v found is measures turns)
     ∙ ap (λ vs. map phase_event (map (phase_change line m new) vs)) (sym (filter-range (has_turned m new) 0 (slot_count m.config) (option_to_list (turning call)) (rising-one (turning call)) (λ v low turned.
     let at = turned-among m call v is turned in
     let lt = at.0 in

@@ -2,7 +2,7 @@
 use Rattle.std.specs.Prelude.{ℕ, ◌≡◌, ◌+◌, ◌-◌, ◌<◌, ◌^◌, ◌==◌, ◌||◌, Bool, true, false, List, [], ◌∷◌, ◌++◌, length, filter, map, max, eqb, Option, None, Some, if◌then◌else◌}
 use Rattle.std.specs.List.{list_any}
 use Rattle.kc_types.specs.declared.slot.Phase.TheVariants.{Empty, Booting, Active, Dead}
-use Rattle.kc_types.specs.declared.custody.MeasuredImage.{MeasuredImage}
+use Rattle.kc_types.specs.declared.custody.Measurement.{Measurement}
 use Rattle.kc_types.specs.declared.custody.FrameChange.{FrameChange}
 use Rattle.kc_types.specs.declared.custody.Change.TheVariants as change
 use Rattle.kc_types.specs.declared.custody.Event.{Event}
@@ -10,11 +10,12 @@ use Rattle.kc_types.specs.declared.custody.Event.TheVariants as event
 use Rattle.kc_types.specs.declared.custody.Sharing.{Sharing}
 use Rattle.kc_types.specs.declared.custody.Life.{Life}
 use Rattle.kc_model.specs.Resources.{is_in}
-use Rattle.kc_model.specs.Lives.{is_turn, is_owned_by, life_in, line_of_turn, images_told, frames_gained, count_different, most_beyond, is_gain, is_loss, is_read, is_write, sharings}
+use Rattle.kc_model.specs.Custody.{nothing_measured}
+use Rattle.kc_model.specs.Lives.{is_turn, is_owned_by, life_in, line_of_turn, measurement_told, frames_gained, count_different, most_beyond, is_gain, is_loss, is_read, is_write, sharings}
 use Rattle.kc_custody.specs.declared.open_life.Stretch.{Stretch}
 use Rattle.kc_custody.specs.Endings.{FrameEndings, HasEndingOf, line_of_ending, NotesEvent, NumbersStretches}
 
--- what is said of a life: its lines and images, how many different frames it gained and, while it is open, which, counts, and
+-- what is said of a life: its lines and what was measured, how many different frames it gained and, while it is open, which, counts, and
 -- the stretches begun
 pub record Growing : Type 0 where
   pub vm : ℕ
@@ -22,7 +23,7 @@ pub record Growing : Type 0 where
   pub active : Option ℕ
   pub dead : Option ℕ
   pub cleared : Option ℕ
-  pub images : List MeasuredImage
+  pub measurement : Measurement
   pub frames : ℕ
   pub members : List ℕ
   pub gained : ℕ
@@ -34,7 +35,7 @@ pub record Growing : Type 0 where
 
 -- the life of a VM that is registered, before any event
 abbrev pub new_life : ℕ → ℕ → Growing
-new_life v line = record { vm = v; registered = line; active = None; dead = None; cleared = None; images = []; frames = 0; members = []; gained = 0; lost = 0; most = 0; reads = 0; writes = 0; shared = [] }
+new_life v line = record { vm = v; registered = line; active = None; dead = None; cleared = None; measurement = nothing_measured; frames = 0; members = []; gained = 0; lost = 0; most = 0; reads = 0; writes = 0; shared = [] }
 
 -- whether the number is among these
 abbrev pub has_member : List ℕ → ℕ → Bool
@@ -44,11 +45,11 @@ has_member xs f = list_any (eqb f) xs
 abbrev pub with_member : List ℕ → ℕ → List ℕ
 with_member xs f = if has_member xs f then xs else xs ++ f ∷ []
 
--- the images of the first measuring, if the slot was active from one line on, and dead from another
-abbrev pub first_images : Option ℕ → Option ℕ → List MeasuredImage → List MeasuredImage → List MeasuredImage
-first_images None None old new = new
-first_images (Some line) dead old new = old
-first_images None (Some line) old new = old
+-- what the first measuring found, if the slot was active from one line on, and dead from another
+abbrev pub first_measurement : Option ℕ → Option ℕ → Measurement → Measurement → Measurement
+first_measurement None None old new = new
+first_measurement (Some line) dead old new = old
+first_measurement None (Some line) old new = old
 
 -- the VM gains a frame
 abbrev pub gaining : ℕ → Growing → Growing
@@ -95,7 +96,7 @@ finished endings life = record {
   active = life.active;
   dead = life.dead;
   cleared = life.cleared;
-  images = life.images;
+  measurement = life.measurement;
   frames = life.frames;
   most = life.most;
   left = life.gained - life.lost;
@@ -136,7 +137,7 @@ counted v line life = record {
   active = line_of_turn v Active life;
   dead = line_of_turn v Dead life;
   cleared = line_of_turn v Empty life;
-  images = images_told v life;
+  measurement = measurement_told v life;
   frames = 0;
   members = [];
   gained = length (filter (is_gain v) life);

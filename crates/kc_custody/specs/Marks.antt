@@ -10,12 +10,12 @@ use Rattle.kc_types.specs.declared.owner.Owner.{Owner}
 use Rattle.kc_types.specs.declared.owner.Owner.TheVariants.{Vm}
 use Rattle.kc_types.specs.declared.custody.FrameChange.{FrameChange}
 use Rattle.kc_types.specs.declared.custody.PhaseChange.{PhaseChange}
-use Rattle.kc_types.specs.declared.custody.MeasuredImage.{MeasuredImage}
+use Rattle.kc_types.specs.declared.custody.Measurement.{Measurement}
 use Rattle.kc_types.specs.declared.custody.Change.TheVariants as change
 use Rattle.kc_types.specs.declared.custody.Event.{Event}
 use Rattle.kc_types.specs.declared.custody.Event.TheVariants as event
 use Rattle.kc_model.specs.State.{State, frame_at, slot_at}
-use Rattle.kc_model.specs.Custody.{custody_at, same_custody, same_phase}
+use Rattle.kc_model.specs.Custody.{custody_at, same_custody, same_phase, nothing_measured}
 
 -- changes as events
 abbrev pub frame_event : FrameChange → Event
@@ -48,13 +48,13 @@ turning _ = None
 
 -- the slot's phase before the call
 abbrev pub phase_mark : ℕ → State → ℕ → PhaseChange
-phase_mark line m v = record { line = line; vm = v; phase = (slot_at m v).phase; images = [] }
+phase_mark line m v = record { line = line; vm = v; phase = (slot_at m v).phase; measurement = nothing_measured }
 
 -- the mark as a change, if the phase of the slot differs afterwards
-abbrev pub phase_told : State → List MeasuredImage → Option PhaseChange → List Event
-phase_told new images None = []
-phase_told new images (Some mark) =
-    if same_phase mark.phase (slot_at new mark.vm).phase then [] else phase_event (record mark { phase = (slot_at new mark.vm).phase; images = images }) ∷ []
+abbrev pub phase_told : State → Measurement → Option PhaseChange → List Event
+phase_told new measured None = []
+phase_told new measured (Some mark) =
+    if same_phase mark.phase (slot_at new mark.vm).phase then [] else phase_event (record mark { phase = (slot_at new mark.vm).phase; measurement = measured }) ∷ []
 
 -- the VM whose frame the host reads or writes
 abbrev pub accessed : State → Call → Option ℕ

@@ -8,7 +8,7 @@ ghost use Rattle.kc_model.specs.Before.{header_line, is_taken, is_measured, slot
 use crate::look_ups::{custody_at, phase_at, same_custody, same_phase};
 use kc_core::KCore;
 use kc_types::{
-    Change, Config, Custody, Event, FrameChange, MeasuredImages, Memory, Phase, PhaseChange,
+    Change, Config, Custody, Event, FrameChange, Measurement, Memory, Phase, PhaseChange,
 };
 use std::alloc::Global;
 
@@ -31,7 +31,7 @@ fn turn_before(alloc: Global, phase: Phase, vm: u32) -> Event
         line: HEADER_LINE,
         vm,
         phase,
-        images: MeasuredImages::none(alloc),
+        measurement: Measurement::none(alloc),
     }))
 }
 
@@ -97,7 +97,7 @@ fn tell_measured(alloc: Global, core: &KCore, told: &mut Vec<Event>) -> Result<(
 }
 
 /// What is so in a core, as events on the header's line that change the boot state of its configuration into it: VMs
-/// are registered, frames come to be as they are, and VMs that are active or dead come to be so, without images.
+/// are registered, frames come to be as they are, and VMs that are active or dead come to be so, without a measurement.
 /// `Memory` if memory runs out.
 pub fn events_before(alloc: Global, core: &KCore) -> Result<Vec<Event>, Memory>
     // No clause can rule out that memory runs out: a test makes them.

@@ -3,13 +3,13 @@ ghost use Rattle.std.specs.Prelude.{◌≡◌, ◌+◌, ◌∷◌, ◌++◌, ◌
 ghost use Rattle.std.specs.Option.{option_or};
 ghost use Rattle.kc_model.specs.Lives.{is_owned_by};
 ghost use Rattle.kc_custody.specs.Endings.{begins_sharing};
-ghost use Rattle.kc_custody.specs.Growing.{new_life, first_images, gaining, losing, owning, sharing, stretch_from, sharing_of, finished, HasRoomFor, TakesIn};
+ghost use Rattle.kc_custody.specs.Growing.{new_life, first_measurement, gaining, losing, owning, sharing, stretch_from, sharing_of, finished, HasRoomFor, TakesIn};
 
 use crate::endings::Endings;
 use indexmap::IndexSet;
 use kc_remarks::is_owned_by;
 use kc_types::{
-    Change, Event, FrameChange, Gfn, Life, MeasuredImages, Memory, Phase, Sharing, Sharings,
+    Change, Event, FrameChange, Gfn, Life, Measurement, Memory, Phase, Sharing, Sharings,
 };
 use std::alloc::Global;
 use std::marker::Model;
@@ -32,7 +32,7 @@ pub(crate) struct OpenLife {
     active: Option<u32>,
     dead: Option<u32>,
     cleared: Option<u32>,
-    images: MeasuredImages,
+    measurement: Measurement,
     /// How many different frames it gained.
     frames: usize,
     /// Those frames, while the life is open.
@@ -56,7 +56,7 @@ impl Model for OpenLife {
       active = l.active;
       dead = l.dead;
       cleared = l.cleared;
-      images = l.images;
+      measurement = l.measurement;
       frames = l.frames;
       members = l.members.keys;
       gained = l.gained;
@@ -79,7 +79,7 @@ impl OpenLife {
             active: None,
             dead: None,
             cleared: None,
-            images: MeasuredImages::none(alloc),
+            measurement: Measurement::none(alloc),
             frames: 0,
             members: IndexSet::new(alloc),
             gained: 0,
@@ -171,28 +171,28 @@ impl OpenLife {
         Ok(())
     }
 
-    /// Its images are measured.
-    fn measure(&mut self, images: MeasuredImages)
-        ensures { self.new ≡ record self.old { images = first_images self.old.active self.old.dead self.old.images images } }
+    /// It is measured.
+    fn measure(&mut self, measurement: Measurement)
+        ensures { self.new ≡ record self.old { measurement = first_measurement self.old.active self.old.dead self.old.measurement measurement } }
     {
         if self.active.is_none() && self.dead.is_none() {
-            self.images = images;
+            self.measurement = measurement;
         }
     }
 
     /// It becomes active.
-    fn approve(&mut self, line: u32, images: MeasuredImages)
-        ensures { self.new ≡ record self.old { active = option_or self.old.active (Some line); images = first_images self.old.active self.old.dead self.old.images images } }
+    fn approve(&mut self, line: u32, measurement: Measurement)
+        ensures { self.new ≡ record self.old { active = option_or self.old.active (Some line); measurement = first_measurement self.old.active self.old.dead self.old.measurement measurement } }
     {
-        self.measure(images);
+        self.measure(measurement);
         self.active = self.active.or(Some(line));
     }
 
     /// It becomes dead.
-    fn refuse(&mut self, line: u32, images: MeasuredImages)
-        ensures { self.new ≡ record self.old { dead = option_or self.old.dead (Some line); images = first_images self.old.active self.old.dead self.old.images images } }
+    fn refuse(&mut self, line: u32, measurement: Measurement)
+        ensures { self.new ≡ record self.old { dead = option_or self.old.dead (Some line); measurement = first_measurement self.old.active self.old.dead self.old.measurement measurement } }
     {
-        self.measure(images);
+        self.measure(measurement);
         self.dead = self.dead.or(Some(line));
     }
 
@@ -222,8 +222,8 @@ impl OpenLife {
             Event::Change(Change::Frame(told)) => self.change_frame(&told, ending)?,
             Event::Change(Change::Phase(told)) => match told.phase {
                 Phase::Booting => self.end(alloc),
-                Phase::Active => self.approve(told.line, told.images),
-                Phase::Dead => self.refuse(told.line, told.images),
+                Phase::Active => self.approve(told.line, told.measurement),
+                Phase::Dead => self.refuse(told.line, told.measurement),
                 Phase::Empty => self.clear(alloc, told.line),
             },
         }
@@ -240,7 +240,7 @@ impl OpenLife {
             active,
             dead,
             cleared,
-            images,
+            measurement,
             frames,
             members: _,
             gained,
@@ -256,7 +256,7 @@ impl OpenLife {
             active,
             dead,
             cleared,
-            images,
+            measurement,
             frames,
             most,
             left: gained.saturating_sub(lost),

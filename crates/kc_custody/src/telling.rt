@@ -3,7 +3,7 @@ ghost use Rattle.std.specs.Prelude.{◌≡◌, ◌≤◌, ◌+◌, ◌^◌, ◌+
 ghost use Rattle.kc_types.specs.declared.call.Call.TheVariants.{Verify};
 ghost use Rattle.kc_types.specs.declared.reply.Reply.{Reply};
 ghost use Rattle.kc_model.specs.Next.{next, replies_from, state_after};
-ghost use Rattle.kc_model.specs.Custody.{images_by};
+ghost use Rattle.kc_model.specs.Custody.{measurement_by};
 ghost use Rattle.kc_model.specs.Events.{events_by, events_from};
 ghost use Rattle.kc_remarks.specs.Remarks.{notes_from};
 ghost use Rattle.kc_remarks.specs.Denials.{is_denied, Counts};
@@ -15,8 +15,8 @@ use kc_core::KCore;
 use kc_parts::sort_once;
 use kc_remarks::Denials;
 use kc_types::{
-    Call, Change, Event, FrameChange, IMAGE_LIMIT, MeasuredImages, Memory, PhaseChange, Reply,
-    vm_of,
+    Call, Change, Event, FrameChange, IMAGE_LIMIT, Launch, MeasuredImages, Measurement, Memory,
+    PhaseChange, Reply, vm_of,
 };
 use std::alloc::Global;
 
@@ -62,7 +62,7 @@ fn phase_mark(alloc: Global, core: &KCore, line: u32, call: &Call) -> Option<Pha
         line,
         vm,
         phase: phase_at(core, vm),
-        images: MeasuredImages::none(alloc),
+        measurement: Measurement::none(alloc),
     })
 }
 
@@ -113,15 +113,15 @@ fn tell_frames(core: &KCore, marks: &[FrameChange], told: &mut Vec<Event>)
     }
 }
 
-/// Tells of a mark whose slot's phase differs now, with the images that the call measured. There is room for it.
+/// Reports a mark whose slot's phase differs now, with what the call measured. There is room for it.
 fn tell_phase(
     core: &KCore,
     mark: Option<PhaseChange>,
-    images: MeasuredImages,
+    measurement: Measurement,
     told: &mut Vec<Event>,
 )
     requires { vec_len told.old + 1 ≤ vec_capacity told.old }
-    ensures { told.new.items ≡ told.old.items ++ phase_told core.now.state images mark }
+    ensures { told.new.items ≡ told.old.items ++ phase_told core.now.state measurement mark }
 {
     let Some(mut change) = mark else {
         return;
@@ -129,28 +129,33 @@ fn tell_phase(
     let phase = phase_at(core, change.vm);
     if !same_phase(change.phase, phase) {
         change.phase = phase;
-        change.images = images;
+        change.measurement = measurement;
         told.push(Event::Change(Change::Phase(change))).unwrap();
     }
 }
 
-/// Makes a call: its reply, and the images that it measured, which are none but for `verify`.
-fn make(alloc: Global, core: &mut KCore, call: &Call) -> Result<(Reply, MeasuredImages), Memory>
+/// Makes a call: its reply, and what it measured, which is nothing but for `verify`.
+fn make(alloc: Global, core: &mut KCore, call: &Call) -> Result<(Reply, Measurement), Memory>
     ensures reply { IfOk result (λ made. made.0 ≡ (next core.old.state call.now).0) }
-    ensures images { IfOk result (λ made. made.1 ≡ images_by core.old.state call.now) }
+    ensures measurement { IfOk result (λ made. made.1 ≡ measurement_by core.old.state call.now) }
     ensures state { OnOk result (core.new.state ≡ (next core.old.state call.now).1) }
     ensures err { OnErr result (core.new ≡ core.old) }
 {
     match call {
         Call::Verify { vm } => {
             let mut images = Vec::with_capacity(alloc, IMAGE_LIMIT)?;
+            let room = Box::new(alloc, [0u8; 32])?;
             let verified = core.verify(*vm);
             images
                 .extend_from_slice(verified.images.as_slice())
                 .unwrap();
-            Ok((verified.reply, MeasuredImages::of(images)))
+            let measurement = Measurement {
+                images: MeasuredImages::of(images),
+                launch: Launch::of(room, verified.launch),
+            };
+            Ok((verified.reply, measurement))
         },
-        _ => Ok((core.call(call)?, MeasuredImages::none(alloc))),
+        _ => Ok((core.call(call)?, Measurement::none(alloc))),
     }
 }
 
@@ -174,10 +179,10 @@ pub fn tell_call(
     let mark = phase_mark(alloc, core, line, call);
     let accessed = accessed(core, call);
     told.reserve(marks.len() + 2)?;
-    let (reply, images) = make(alloc, core, call)?;
+    let (reply, measurement) = make(alloc, core, call)?;
     tell_access(call, accessed, &reply, told);
     tell_frames(core, &marks, told);
-    tell_phase(core, mark, images, told);
+    tell_phase(core, mark, measurement, told);
     Ok(reply)
 }
 

@@ -61,9 +61,9 @@ fn explain_digests<P: Eprint>(to: &P, value: &Value) -> bool {
 fn explain_version<P: Eprint>(to: &P, value: &Value) -> bool {
     match value.get("version") {
         Some(version) => match version.as_u64() {
-            Some(1) | Some(2) => false,
+            Some(1) | Some(2) | Some(3) => false,
             _ => {
-                let _ = to.eprintln("  version is neither 1 nor 2");
+                let _ = to.eprintln("  version is not 1, 2 or 3");
                 true
             },
         },

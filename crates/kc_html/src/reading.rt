@@ -25,7 +25,7 @@ function vm(number) {
 
 // A life of a VM, of which it may be under way before the first line.
 function life(of, registered) {
-  const begun = { vm: of.number, registered, active: null, dead: null, cleared: null, images: [], frames: new Set(), reads: 0, writes: 0, aimed: of.aimed };
+  const begun = { vm: of.number, registered, active: null, dead: null, cleared: null, images: [], launch: null, frames: new Set(), reads: 0, writes: 0, aimed: of.aimed };
   of.aimed = 0;
   of.lives.push(begun);
   return begun;
@@ -122,6 +122,7 @@ function readPhase(told) {
   else {
     now[told.phase] = told.line;
     now.images = told.images;
+    now.launch = told.measured ?? null;
   }
 }
 

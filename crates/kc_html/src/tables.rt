@@ -58,15 +58,18 @@ function fill(id, columns, data, add, caption, atOnce = 300) {
 
 const byLines = () => volumes.length ? "by volume and line, as 3:17" : "by lines of the trace";
 
-// The boot images of a life have a row of their own below it, so that there is room for their digests.
-function addImages(row, images) {
+// The boot images of a life have a row of their own below it, so that there is room for their digests and for the launch
+// measurement.
+function addImages(row, images, launch) {
   row.insertCell().colSpan = 8;
-  for (const image of images) {
+  const add = (words, sha256) => {
     const line = document.createElement("div"), digest = document.createElement("code");
-    digest.textContent = image.sha256;
-    line.append(`boot image: guest frame ${image.base}, ${numbered(image.len, "byte", "bytes")}, SHA-256 `, digest);
+    digest.textContent = sha256;
+    line.append(words, digest);
     row.cells[0].append(line);
-  }
+  };
+  for (const image of images) add(`boot image: guest frame ${image.base}, ${numbered(image.len, "byte", "bytes")}, SHA-256 `, image.sha256);
+  if (launch) add("launch measurement: ", launch);
 }
 
 function fillLives(atOnce) {
@@ -81,7 +84,7 @@ function fillLives(atOnce) {
     row.classList.add("measured");
     const images = row.parentNode.insertRow();
     images.className = kind;
-    addImages(images, it.images);
+    addImages(images, it.images, it.launch);
   };
   fill("lives", columns, shown.lives, add, `${numbered(shown.lives.length, "life", "lives")} of vm ${shown.number}, ${byLines()}`, atOnce);
 }

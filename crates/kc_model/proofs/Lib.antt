@@ -2,6 +2,7 @@ pub mod States
 pub mod Refusals
 pub mod Lawful
 pub mod Safe
+pub mod Launches
 pub mod Blind
 pub mod Views
 pub mod Redaction

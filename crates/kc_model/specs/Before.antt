@@ -1,5 +1,5 @@
 -- What is so before the first call: a state, as events that change the boot state of its configuration into it.
-use Rattle.std.specs.Prelude.{ℕ, Bool, not, ◌&&◌, List, [], ◌++◌, map, filter}
+use Rattle.std.specs.Prelude.{ℕ, Bool, not, ◌&&◌, List, ◌++◌, map, filter}
 use Rattle.std.specs.List.{range_with_len}
 use Rattle.kc_types.specs.Configuration.{slot_count}
 use Rattle.kc_types.specs.declared.slot.Phase.{Phase}
@@ -11,7 +11,7 @@ use Rattle.kc_types.specs.declared.custody.Event.TheVariants as event
 use Rattle.kc_types.specs.declared.custody.Life.{Life}
 use Rattle.kc_model.specs.State.{State, slot_at}
 use Rattle.kc_model.specs.Boot.{boot}
-use Rattle.kc_model.specs.Custody.{same_phase, frame_changes_by}
+use Rattle.kc_model.specs.Custody.{same_phase, frame_changes_by, nothing_measured}
 use Rattle.kc_model.specs.Lives.{lives}
 
 -- the line of a trace's header, on which no call is
@@ -26,9 +26,9 @@ is_taken m v = not (same_phase (slot_at m v).phase Empty)
 abbrev pub is_measured : State → ℕ → Bool
 is_measured m v = is_taken m v && not (same_phase (slot_at m v).phase Booting)
 
--- the slot comes to be in this phase; which images made it active or dead is not known
+-- the slot comes to be in this phase; what was measured when it became active or dead is not known
 abbrev pub turn_before : Phase → ℕ → Event
-turn_before phase v = event.Change (change.Phase (record { line = header_line; vm = v; phase = phase; images = [] }))
+turn_before phase v = event.Change (change.Phase (record { line = header_line; vm = v; phase = phase; measurement = nothing_measured }))
 
 abbrev pub frame_before : FrameChange → Event
 frame_before told = event.Change (change.Frame told)

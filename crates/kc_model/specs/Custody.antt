@@ -1,8 +1,8 @@
 -- Custody: what is reported of each frame and slot, and every change of it, call by call.
-use Rattle.std.specs.Prelude.{ℕ, ◌+◌, Bool, true, false, not, ◌&&◌, ◌==◌, List, [], ◌∷◌, ◌++◌, map, filter, Option, Some, None}
+use Rattle.std.specs.Prelude.{ℕ, ◌+◌, Bool, true, false, not, ◌&&◌, ◌==◌, List, [], ◌∷◌, ◌++◌, map, filter, Option, Some, None, if◌then◌else◌}
 use Rattle.std.specs.List.{range_with_len}
 use Rattle.sha2.specs.Sha256.{sha256}
-use Rattle.kc_types.specs.Configuration.{slot_count}
+use Rattle.kc_types.specs.Configuration.{slot_count, measures_launch}
 use Rattle.kc_types.specs.declared.call.Call.{Call}
 use Rattle.kc_types.specs.declared.call.Call.TheVariants.{Verify}
 use Rattle.kc_types.specs.declared.refusal.Refusal.{Refusal}
@@ -11,13 +11,14 @@ use Rattle.kc_types.specs.declared.slot.Phase.TheVariants.{Empty, Booting, Activ
 use Rattle.kc_types.specs.declared.custody.Custody.{Custody}
 use Rattle.kc_types.specs.declared.custody.FrameChange.{FrameChange}
 use Rattle.kc_types.specs.declared.custody.MeasuredImage.{MeasuredImage}
+use Rattle.kc_types.specs.declared.custody.Measurement.{Measurement}
 use Rattle.kc_types.specs.declared.custody.PhaseChange.{PhaseChange}
 use Rattle.kc_types.specs.declared.custody.Change.{Change}
 use Rattle.kc_types.specs.declared.custody.Change.TheVariants as change
 use Rattle.kc_model.specs.State.{State, Frame, Image, frame_at, slot_at}
 use Rattle.kc_model.specs.Lawful.{same_owner}
 use Rattle.kc_model.specs.Refusals.{refusal}
-use Rattle.kc_model.specs.Effects.{image_bytes}
+use Rattle.kc_model.specs.Effects.{image_bytes, launch_digest}
 use Rattle.kc_model.specs.Next.{next}
 
 -- the custody of a frame, which is all of it but its bytes: who owns it, where its VM sees it, how often it is shared,
@@ -70,24 +71,35 @@ measured_image m v image = record { base = image.base; len = image.len; digest =
 abbrev pub measured_images : State → ℕ → List MeasuredImage
 measured_images m v = map (measured_image m v) (slot_at m v).images
 
-abbrev pub images_unless : Option Refusal → List MeasuredImage → List MeasuredImage
-images_unless None images = images
-images_unless (Some refused) images = []
+-- the launch measurement of a slot, if its version approves boots as a whole
+abbrev pub launch_of : State → ℕ → Option (List ℕ)
+launch_of m v = if measures_launch m.config.version then Some (launch_digest m v) else None
 
--- the images that a call measures: the slot's, if the call is a `verify` that is not refused, and otherwise none
-abbrev pub images_by : State → Call → List MeasuredImage
-images_by m (Verify v) = images_unless (refusal m (Verify v)) (measured_images m v)
-images_by m _ = []
+-- what is measured of a slot
+abbrev pub measurement : State → ℕ → Measurement
+measurement m v = record { images = measured_images m v; launch = launch_of m v }
+
+abbrev pub nothing_measured : Measurement
+nothing_measured = record { images = []; launch = None }
+
+abbrev pub measurement_unless : Option Refusal → Measurement → Measurement
+measurement_unless None measured = measured
+measurement_unless (Some refused) measured = nothing_measured
+
+-- what a call measures: the slot, if the call is a `verify` that is not refused, and otherwise nothing
+abbrev pub measurement_by : State → Call → Measurement
+measurement_by m (Verify v) = measurement_unless (refusal m (Verify v)) (measurement m v)
+measurement_by m _ = nothing_measured
 
 -- a slot is measured when it becomes active or dead
-abbrev pub images_for : Phase → List MeasuredImage → List MeasuredImage
-images_for Active images = images
-images_for Dead images = images
-images_for _ images = []
+abbrev pub measurement_for : Phase → Measurement → Measurement
+measurement_for Active measured = measured
+measurement_for Dead measured = measured
+measurement_for _ measured = nothing_measured
 
--- the slot's phase after a call, with its images as they were before it if the call measured them
+-- the slot's phase after a call, with what is measured of it before the call if the call measured it
 abbrev pub phase_change : ℕ → State → State → ℕ → PhaseChange
-phase_change line old new v = record { line = line; vm = v; phase = (slot_at new v).phase; images = images_for (slot_at new v).phase (measured_images old v) }
+phase_change line old new v = record { line = line; vm = v; phase = (slot_at new v).phase; measurement = measurement_for (slot_at new v).phase (measurement old v) }
 
 -- the changes of slots by a call, in ascending order: those whose phase differs before and after it
 abbrev pub phase_changes_by : ℕ → State → State → List PhaseChange

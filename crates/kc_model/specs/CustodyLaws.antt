@@ -1,5 +1,5 @@
 -- What the changes of a trace say about the calls between them.
-use Rattle.std.specs.Prelude.{ℕ, ◌≡◌, ◌<◌, ◌≤◌, ◌+◌, ◌⊎◌, Bool, true, false, ◌&&◌, ◌==◌, List, [], ◌∷◌, length, All, Contains}
+use Rattle.std.specs.Prelude.{ℕ, ◌≡◌, ◌<◌, ◌≤◌, ◌+◌, ◌⊎◌, Bool, true, false, ◌&&◌, ◌==◌, List, [], ◌∷◌, length, All, Contains, Some}
 use Rattle.std.specs.List.{list_any}
 use Rattle.kc_types.specs.Configuration.{slot_count, measures_launch}
 use Rattle.kc_types.specs.declared.call.Call.{Call}
@@ -13,10 +13,9 @@ use Rattle.kc_types.specs.declared.custody.PhaseChange.{PhaseChange}
 use Rattle.kc_types.specs.declared.custody.Change.{Change}
 use Rattle.kc_types.specs.declared.custody.Change.TheVariants as change
 use Rattle.kc_model.specs.State.{State, frame_at, slot_at}
-use Rattle.kc_model.specs.Effects.{launch_digest}
 use Rattle.kc_model.specs.Footprints.{state_at, call_at, reply_at}
 use Rattle.kc_model.specs.Safety.{IsActive}
-use Rattle.kc_model.specs.Custody.{custody, custody_at, has_moved, has_turned, same_phase, images_for, measured_images, first_line}
+use Rattle.kc_model.specs.Custody.{custody, custody_at, has_moved, has_turned, same_phase, measurement_for, measurement, first_line}
 
 -- whether it is a change of the frame by the call on this line of the trace
 abbrev pub is_of_frame : ℕ → ℕ → Change → Bool
@@ -115,14 +114,13 @@ IsFrameTold m calls (change.Phase told) = Unit {0}
 abbrev pub TellsFrames : State → List Call → Type 0
 TellsFrames m calls = All (IsFrameTold m calls) (custody m calls)
 
--- a change of a slot gives its phase after the call on its line, and its images as they were before it if they were
--- measured; if the phase is active, the configuration approves the digest of each of them, or in version 3 the launch
--- measurement
+-- a change of a slot gives its phase after the call on its line, and what was measured of it before the call; if the phase
+-- is active, the configuration approves the digest of each image, or in version 3 the launch measurement
 pub record TellsPhase (m : State) (calls : List Call) (told : PhaseChange) : Type 0 where
   pub phase : (k : ℕ) → told.line ≡ first_line + k → (slot_at (state_at m calls (k + 1)) told.vm).phase ≡ told.phase
-  pub images : (k : ℕ) → told.line ≡ first_line + k → images_for told.phase (measured_images (state_at m calls k) told.vm) ≡ told.images
-  pub approved : measures_launch m.config.version ≡ false → told.phase ≡ Active → All (λ image. Contains m.config.approved image.digest) told.images
-  pub launch : measures_launch m.config.version ≡ true → (k : ℕ) → told.line ≡ first_line + k → told.phase ≡ Active → Contains m.config.approved (launch_digest (state_at m calls k) told.vm)
+  pub measurement : (k : ℕ) → told.line ≡ first_line + k → measurement_for told.phase (measurement (state_at m calls k) told.vm) ≡ told.measurement
+  pub approved : measures_launch m.config.version ≡ false → told.phase ≡ Active → All (λ image. Contains m.config.approved image.digest) told.measurement.images
+  pub launch : measures_launch m.config.version ≡ true → told.phase ≡ Active → (digest : List ℕ) × (told.measurement.launch ≡ Some digest) × Contains m.config.approved digest
 
 abbrev pub IsPhaseTold : State → List Call → Change → Type 0
 IsPhaseTold m calls (change.Frame told) = Unit {0}

@@ -28,6 +28,7 @@ pub mod Volumes
 pub mod Passing
 pub mod OwnMemory
 pub mod Starting
+pub mod Launches
 pub mod Availability
 pub mod CustodyBlind
 pub mod Undisturbed

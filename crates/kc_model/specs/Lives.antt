@@ -5,14 +5,14 @@ use Rattle.kc_types.specs.declared.owner.Owner.{Owner}
 use Rattle.kc_types.specs.declared.owner.Owner.TheVariants.{Vm}
 use Rattle.kc_types.specs.declared.slot.Phase.{Phase}
 use Rattle.kc_types.specs.declared.slot.Phase.TheVariants.{Empty, Booting, Active, Dead}
-use Rattle.kc_types.specs.declared.custody.MeasuredImage.{MeasuredImage}
+use Rattle.kc_types.specs.declared.custody.Measurement.{Measurement}
 use Rattle.kc_types.specs.declared.custody.Change.TheVariants as change
 use Rattle.kc_types.specs.declared.custody.Event.{Event}
 use Rattle.kc_types.specs.declared.custody.Event.TheVariants as event
 use Rattle.kc_types.specs.declared.custody.Sharing.{Sharing}
 use Rattle.kc_types.specs.declared.custody.Life.{Life}
 use Rattle.kc_model.specs.Resources.{is_in}
-use Rattle.kc_model.specs.Custody.{same_phase}
+use Rattle.kc_model.specs.Custody.{same_phase, nothing_measured}
 
 abbrev pub is_owned_by : ℕ → Owner → Bool
 is_owned_by v (Vm w) = w == v
@@ -39,11 +39,11 @@ line_of_turn v phase (_ ∷ more) = line_of_turn v phase more
 abbrev pub is_measuring : ℕ → Event → Bool
 is_measuring v told = if is_turn v Active told then true else is_turn v Dead told
 
--- the images given by the first event that measures the slot
-abbrev pub images_told : ℕ → List Event → List MeasuredImage
-images_told v [] = []
-images_told v (event.Change (change.Phase told) ∷ more) = if is_measuring v (event.Change (change.Phase told)) then told.images else images_told v more
-images_told v (_ ∷ more) = images_told v more
+-- what the first event that measures the slot says was measured
+abbrev pub measurement_told : ℕ → List Event → Measurement
+measurement_told v [] = nothing_measured
+measurement_told v (event.Change (change.Phase told) ∷ more) = if is_measuring v (event.Change (change.Phase told)) then told.measurement else measurement_told v more
+measurement_told v (_ ∷ more) = measurement_told v more
 
 -- whether the VM gains a frame by the event
 abbrev pub is_gain : ℕ → Event → Bool
@@ -109,7 +109,7 @@ life_of v line more = record {
   active = line_of_turn v Active (life_in v more);
   dead = line_of_turn v Dead (life_in v more);
   cleared = line_of_turn v Empty (life_in v more);
-  images = images_told v (life_in v more);
+  measurement = measurement_told v (life_in v more);
   frames = count_different (frames_gained v (life_in v more));
   most = most_beyond v (life_in v more);
   left = length (filter (is_gain v) (life_in v more)) - length (filter (is_loss v) (life_in v more));

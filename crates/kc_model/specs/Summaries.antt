@@ -2,7 +2,7 @@
 -- first k calls.
 use Rattle.std.specs.Prelude.{ℕ, ◌+◌, ◌-◌, ◌≡◌, ◌≢◌, ◌⊎◌, ◌≤◌, ◌<◌, Bool, false, not, ◌&&◌, ◌==◌, nat_lt, if◌then◌else◌, List, [], ◌++◌, length, map, filter, All, Option, Some, None, is_some}
 use Rattle.std.specs.List.{list_any, range_with_len, count_by, sum_by, flat_map, find}
-use Rattle.std.specs.Option.{option_map}
+use Rattle.std.specs.Option.{option_map, option_or}
 use Rattle.kc_types.specs.declared.call.Call.{Call}
 use Rattle.kc_types.specs.declared.call.Call.TheVariants.{HostRead, HostWrite, RegisterVm}
 use Rattle.kc_types.specs.declared.reply.Reply.{Reply}
@@ -10,11 +10,11 @@ use Rattle.kc_types.specs.declared.reply.Reply.TheVariants as reply
 use Rattle.kc_types.specs.declared.slot.Phase.{Phase}
 use Rattle.kc_types.specs.declared.slot.Phase.TheVariants.{Empty, Active, Dead}
 use Rattle.kc_types.specs.declared.custody.Life.{Life}
-use Rattle.kc_types.specs.declared.custody.MeasuredImage.{MeasuredImage}
+use Rattle.kc_types.specs.declared.custody.Measurement.{Measurement}
 use Rattle.kc_types.specs.declared.custody.Sharing.{Sharing}
 use Rattle.kc_model.specs.State.{State, frame_at, slot_at}
 use Rattle.kc_model.specs.Footprints.{state_at, call_at, reply_at}
-use Rattle.kc_model.specs.Custody.{first_line, measured_images}
+use Rattle.kc_model.specs.Custody.{first_line, measurement, nothing_measured}
 use Rattle.kc_model.specs.CustodyLaws.{IsStretch}
 use Rattle.kc_model.specs.Events.{events}
 use Rattle.kc_model.specs.Lives.{is_owned_by, lives}
@@ -64,10 +64,14 @@ calls_that test m calls i j = count_by (λ k. test (state_at m calls k) (call_at
 abbrev pub frames_that : (ℕ → Bool) → State → ℕ
 frames_that test m = count_by test (range_with_len 0 m.config.frames)
 
--- the images of the slot, as the call on this line measures them
-abbrev pub measured_on : State → List Call → ℕ → Option ℕ → List MeasuredImage
-measured_on m calls v None = []
-measured_on m calls v (Some line) = measured_images (state_at m calls (line - first_line)) v
+-- what the call on this line measures of the slot
+abbrev pub measured_on : State → List Call → ℕ → Option ℕ → Measurement
+measured_on m calls v None = nothing_measured
+measured_on m calls v (Some line) = measurement (state_at m calls (line - first_line)) v
+
+-- what either of two calls measures, if not both measure something
+abbrev pub either_measured : Measurement → Measurement → Measurement
+either_measured one two = record { images = one.images ++ two.images; launch = option_or one.launch two.launch }
 
 -- the number of grants of a frame at a place
 abbrev pub grants_at : State → List Call → ℕ → ℕ → ℕ
@@ -131,14 +135,14 @@ pub record IsSummary (m : State) (calls : List Call) (life : Life) (first last :
   -- the call on its first line registers the slot
   pub within : first_line ≤ life.registered
   pub registered : registered_by (call_at calls (life.registered - first_line)) (reply_at m calls (life.registered - first_line)) ≡ Some life.vm
-  -- its images are those that are measured
-  pub images : life.images ≡ measured_on m calls life.vm life.active ++ measured_on m calls life.vm life.dead
+  -- its measurement is that of the call that made it active or dead
+  pub measurement : life.measurement ≡ either_measured (measured_on m calls life.vm life.active) (measured_on m calls life.vm life.dead)
   pub shared : life.shared ≡ sharings_begun m calls life.vm first last
 
--- the images that a call on this line measures: none on the header's line
-abbrev pub measured_since : State → List Call → ℕ → Option ℕ → List MeasuredImage
-measured_since m calls v None = []
-measured_since m calls v (Some line) = if line == header_line then [] else measured_on m calls v (Some line)
+-- what a call on this line measures: nothing on the header's line
+abbrev pub measured_since : State → List Call → ℕ → Option ℕ → Measurement
+measured_since m calls v None = nothing_measured
+measured_since m calls v (Some line) = if line == header_line then nothing_measured else measured_on m calls v (Some line)
 
 -- a frame of the VM is shared before the first call
 abbrev pub is_shared_before : State → ℕ → ℕ → Bool
@@ -157,8 +161,8 @@ sharing_before m calls f = record {
 pub record IsUnderWay (m : State) (calls : List Call) (life : Life) (last : ℕ) : Type 0 where
   pub lived : IsLived m calls life 0 last
   pub registered : life.registered ≡ header_line
-  -- its images are those that calls measure
-  pub images : life.images ≡ measured_since m calls life.vm life.active ++ measured_since m calls life.vm life.dead
+  -- its measurement is that of a call
+  pub measurement : life.measurement ≡ either_measured (measured_since m calls life.vm life.active) (measured_since m calls life.vm life.dead)
   -- `shared` has first the sharings that are under way
   pub shared : life.shared ≡ map (sharing_before m calls) (filter (is_shared_before m life.vm) (range_with_len 0 m.config.frames)) ++ sharings_begun m calls life.vm 0 last
 

@@ -1,5 +1,5 @@
 //! Laws of the definitions, for every trace from every state that a core may be in.
-ghost use Rattle.std.specs.Prelude.{List};
+ghost use Rattle.std.specs.Prelude.{ℕ, List};
 ghost use Rattle.kc_types.specs.Configuration.{Configuration, IsConfiguration};
 ghost use Rattle.kc_types.specs.declared.call.Call.{Call};
 ghost use Rattle.kc_model.specs.State.{State};
@@ -8,6 +8,7 @@ ghost use Rattle.kc_model.specs.Safety.{IsSafe};
 ghost use Rattle.kc_model.specs.Passing.{IsPassedOn};
 ghost use Rattle.kc_model.specs.OwnMemory.{IsOwnMemory};
 ghost use Rattle.kc_model.specs.Starting.{IsStarted};
+ghost use Rattle.kc_model.specs.Launches.{AreLaunchedApart, IsLaunchOf};
 ghost use Rattle.kc_model.specs.Availability.{IsAvailable};
 ghost use Rattle.kc_model.specs.Arriving.{IsArrived};
 ghost use Rattle.kc_model.specs.Serving.{IsServing};
@@ -47,6 +48,13 @@ pub fn own_memory()
 /// and nothing else, and the digest of what each image then holds is approved.
 pub fn starting()
     ensures { (m : State) (calls : List Call) → IsLawful m → IsStarted m calls }
+{}
+
+/// A launch measurement is of one boot: images whose texts are the same are the same, each at its place and in its order.
+/// A measurement that is approved is thus that of another boot only if SHA-256 has a collision.
+pub fn launches()
+    ensures apart { AreLaunchedApart }
+    ensures digest { (m : State) (v : ℕ) → IsLaunchOf m v }
 {}
 
 /// A registered virtual processor of an active VM is never refused a read or a write of a mapped page, and `clear` is

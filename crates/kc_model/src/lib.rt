@@ -9,6 +9,7 @@
 //! - what every trace keeps: `specs/Promises.antt`, and the files that it names: `specs/Safety.antt`,
 //!   `specs/Passing.antt`, `specs/OwnMemory.antt`, `specs/Starting.antt`, `specs/Availability.antt`,
 //!   `specs/Blind.antt`, `specs/Undisturbed.antt`
+//! - that a launch measurement is of one boot: `specs/Launches.antt`
 //! - what custody is, and which changes a call and a trace make: `specs/Custody.antt`; what the changes say of the
 //!   calls between them: `specs/CustodyLaws.antt`
 //! - what is reported of a VM's life: `specs/Events.antt`, `specs/Lives.antt`; what states and replies say of the keys

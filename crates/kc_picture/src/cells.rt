@@ -7,11 +7,11 @@ use crate::coordinate::{Coordinate, Points};
 use crate::put;
 use crate::rows::{first_of_row, row_of};
 use crate::scale::{END, NAMES, PLOT, START, lines_of_column, nice};
-use crate::sums::{FIRST_VM, MOST_COLUMNS, OWNERS, Sums, at, sums_of, weigh};
+use crate::sums::{FIRST_VM, MOST_COLUMNS, Sums, at, owners_of, sums_of, weigh};
 use crate::svg::{Area, Paint, REMARK, Svg};
 use crate::titles::{Block, cell_title};
 use crate::words::{Count, Text};
-use kc_types::{Bar, Memory};
+use kc_types::{Bar, Memory, SLOT_LIMIT};
 use std::alloc::Global;
 
 /// The most rows of cells.
@@ -145,7 +145,7 @@ fn cell_of(weights: &[u64], size: u64) -> Cell {
     let whose = holder_of(&most, rest_of(weights));
     let paleness = paleness_of(most.of_vms, size);
     let colour = match whose {
-        Whose::Vm(vm) => Colour::of_vm(vm.min(63) as u32).paler(paleness),
+        Whose::Vm(vm) => Colour::of_vm(vm.min(SLOT_LIMIT as usize - 1) as u32).paler(paleness),
         Whose::Several => SEVERAL.paler(paleness),
         Whose::Rest(colour) => colour,
     };
@@ -154,8 +154,8 @@ fn cell_of(weights: &[u64], size: u64) -> Cell {
 
 /// Returns a row's cells, from left to right.
 fn cells_of(alloc: Global, sums: &Sums, size: u64) -> Result<Vec<Cell>, Memory> {
-    let mut running = [0u64; OWNERS];
-    let mut weights = [0u64; OWNERS];
+    let mut running = vec![in alloc; 0u64; sums.owners]?;
+    let mut weights = vec![in alloc; 0u64; sums.owners]?;
     let mut cells = Vec::new(alloc);
     for column in 0..sums.columns.min(MOST_COLUMNS) {
         weigh(sums, &mut running, &mut weights, column);
@@ -292,7 +292,7 @@ fn name_rows(svg: &mut Svg, top: Coordinate, grid: &Grid) {
     }
 }
 
-/// Writes at the right what a cell is, on a base line; of one slot's VM alone if one is named (0 to 63).
+/// Writes at the right what a cell is, on a base line; of one slot's VM alone if one is named (0 to 1,023).
 pub fn explain_cells(svg: &mut Svg, base: Coordinate, grid: &Grid, vm: Option<u32>) {
     let tall = grid.frames.div_ceil(grid.rows.max(1));
     let wide = lines_of_column(grid.lines, grid.columns);
@@ -323,6 +323,7 @@ pub fn draw_cells(
 ) -> Result<(), Memory> {
     name_rows(svg, top, grid);
     svg.begin_lines(grid.height);
+    let owners = owners_of(bars);
     for (i, list) in by_row.iter().enumerate() {
         let number = i as u64;
         let row = Row {
@@ -334,7 +335,7 @@ pub fn draw_cells(
         };
         row.draw(
             svg,
-            &sums_of(svg.alloc(), grid.columns, grid.lines, bars, list)?,
+            &sums_of(svg.alloc(), owners, grid.columns, grid.lines, bars, list)?,
         )?;
     }
     svg.end_group();

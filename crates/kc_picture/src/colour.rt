@@ -1,5 +1,5 @@
 //! The colours of a picture. Those of the first VMs are Okabe and Ito's, which the colour-blind can distinguish.
-ghost use Rattle.std.specs.Prelude.{◌≡◌, ◌<◌, ◌≤◌, slice_index_or};
+ghost use Rattle.std.specs.Prelude.{◌≡◌, ◌%◌, ◌≤◌, slice_index_or};
 
 use kc_types::Owner;
 use std::fmt;
@@ -8,7 +8,7 @@ use std::fmt;
 #[derive(Clone, Copy, PartialEq, Eq)]
 pub struct Colour(u32);
 
-/// One for each slot. Of the first eight, in this order, neighbours differ in lightness too, and the second eight are these,
+/// One for each slot up to 63, and again for those after. Of the first eight, in this order, neighbours differ in lightness too, and the second eight are these,
 /// darker. Each of the others is as far as it can be from all before it and from the colours below, by CIELAB's distance.
 const HUES: [u32; 64] = [
     0x0072b2, 0xe69f00, 0x009e73, 0xcc79a7, 0x56b4e9, 0xd55e00, 0xf0e442, 0x882255, 0x00446a,
@@ -52,14 +52,11 @@ fn nearer_white(number: u32, percent: u32) -> u32
 }
 
 impl Colour {
-    /// The colour of the VM in a slot, 0 to 63.
+    /// The colour of the VM in a slot, 0 to 1,023.
     pub fn of_vm(vm: u32) -> Colour
-        ensures { vm < 64 → result.0 ≡ slice_index_or HUES vm result.0 }
+        ensures { result.0 ≡ slice_index_or HUES (vm % 64) result.0 }
     {
-        match HUES.get(vm as usize) {
-            Some(hue) => Colour(*hue),
-            None => INK,
-        }
+        Colour(HUES[vm as usize % HUES.len()])
     }
 
     /// The colour of what an owner owns.

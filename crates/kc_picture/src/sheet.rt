@@ -83,7 +83,7 @@ pub struct Sheet {
 }
 
 impl Sheet {
-    /// Lays out a picture of a trace's events, of one slot's VM alone if one is named (0 to 63), with room of this height
+    /// Lays out a picture of a trace's events, of one slot's VM alone if one is named (0 to 1,023), with room of this height
     /// for frames. `Memory` if a growth was refused.
     pub fn new(
         alloc: Global,

@@ -10,10 +10,7 @@ const CELL_WIDTH: u64 = 400;
 /// The most columns.
 pub(crate) const MOST_COLUMNS: u64 = PLOT / CELL_WIDTH;
 
-/// The core, the host, nobody, and 64 VMs.
-pub(crate) const OWNERS: usize = 67;
-
-/// The number of the first VM among these.
+/// The number of the first VM among owners, after the core, the host and nobody.
 pub(crate) const FIRST_VM: usize = 3;
 
 /// The number of an owner.
@@ -24,6 +21,15 @@ fn number_of(owner: Owner) -> usize {
         Owner::Free => 2,
         Owner::Vm(vm) => FIRST_VM + vm.index(),
     }
+}
+
+/// How many owners there are, up to the last that some bar has.
+pub(crate) fn owners_of(bars: &[Bar]) -> usize {
+    let mut owners = FIRST_VM;
+    for bar in bars {
+        owners = owners.max(number_of(bar.custody.owner).saturating_add(1));
+    }
+    owners
 }
 
 /// Adds to a sum modulo 2^64, if it exists.
@@ -47,6 +53,7 @@ pub(crate) fn at(sums: &[u64], place: usize) -> u64 {
 /// weight is whole. A sum is taken modulo 2^64, in which what is added and taken away again leaves nothing.
 #[derive(Drop)]
 pub(crate) struct Sums {
+    pub owners: usize,
     pub columns: u64,
     last: u64,
     parts: Vec<u64>,
@@ -55,10 +62,11 @@ pub(crate) struct Sums {
 }
 
 impl Sums {
-    /// None, for this number of columns and this number of lines.
-    fn new(alloc: Global, columns: u64, last: u64) -> Result<Sums, Memory> {
-        let places = (columns.min(MOST_COLUMNS) as usize + 2) * OWNERS;
+    /// None, for these numbers of owners, columns and lines.
+    fn new(alloc: Global, owners: usize, columns: u64, last: u64) -> Result<Sums, Memory> {
+        let places = (columns.min(MOST_COLUMNS) as usize + 2).saturating_mul(owners);
         Ok(Sums {
+            owners,
             columns,
             last,
             parts: vec![in alloc; 0; places]?,
@@ -73,6 +81,13 @@ impl Sums {
         lines.saturating_mul(self.columns)
     }
 
+    /// The place of an owner's sum of a column.
+    fn place(&self, column: u64, owner: usize) -> usize {
+        (column as usize)
+            .saturating_mul(self.owners)
+            .saturating_add(owner)
+    }
+
     /// The column of a part of a line.
     fn column(&self, at: u64) -> u64 {
         (at / self.last.max(1)).min(self.columns)
@@ -81,11 +96,11 @@ impl Sums {
     /// Counts one frame more of an owner, or one fewer, from a part of a line on.
     fn change(&mut self, owner: usize, at: u64, frames: u64) {
         let column = self.column(at);
-        let place = place_of(column, owner);
+        let place = self.place(column, owner);
         let end = column.saturating_add(1).saturating_mul(self.last);
         let rest = end.saturating_sub(at);
         add(&mut self.parts, place, rest.wrapping_mul(frames));
-        let next = place.saturating_add(OWNERS);
+        let next = place.saturating_add(self.owners);
         add(&mut self.wholes, next, self.last.wrapping_mul(frames));
     }
 
@@ -110,22 +125,16 @@ impl Sums {
     }
 }
 
-/// The place of an owner's sum of a column.
-fn place_of(column: u64, owner: usize) -> usize {
-    (column as usize)
-        .saturating_mul(OWNERS)
-        .saturating_add(owner)
-}
-
-/// Adds up a row's bars. `Memory` if there was none for it.
+/// Adds up a row's bars, of this many owners. `Memory` if there was none for it.
 pub(crate) fn sums_of(
     alloc: Global,
+    owners: usize,
     columns: u64,
     last: u64,
     bars: &[Bar],
     row: &[usize],
 ) -> Result<Sums, Memory> {
-    let mut sums = Sums::new(alloc, columns, last)?;
+    let mut sums = Sums::new(alloc, owners, columns, last)?;
     for i in row {
         if let Some(bar) = bars.get(*i) {
             sums.add_bar(bar);
@@ -136,8 +145,8 @@ pub(crate) fn sums_of(
 
 /// Brings up to a column what each owner has of it; `running` holds how many frames each has, in lines.
 pub(crate) fn weigh(sums: &Sums, running: &mut [u64], weights: &mut [u64], column: u64) {
-    for owner in 0..OWNERS {
-        let place = place_of(column, owner);
+    for owner in 0..sums.owners {
+        let place = sums.place(column, owner);
         add(running, owner, at(&sums.wholes, place));
         let weight = at(running, owner).wrapping_add(at(&sums.parts, place));
         if let Some(old) = weights.get_mut(owner) {

@@ -9,6 +9,9 @@ const EARNED_BY_A_CALL: u64 = 3;
 /// What each frame that workers hash saves up for plans: about a fifth of what SHA-256 takes for it.
 const EARNED_BY_A_FRAME: u64 = 96;
 
+/// The most flags of a plan, one for each frame and principal: some 16 MB. A larger core's calls are made in order.
+const MOST_FLAGS: u64 = 1 << 24;
+
 /// What is there at the start: the price of a plan of 4,096 calls of a core of 65,536 frames, about 6 ms.
 const START: u64 = 65_536 + 4_096 * PLAN_FOR_A_CALL;
 
@@ -41,9 +44,12 @@ impl Budget {
         self.left = self.left.saturating_add(earned);
     }
 
-    /// Pays for a plan of some calls of a core of this many frames, if there is enough for it. The first plan is made
-    /// at any price, so that a trace that comes in one piece has one.
-    pub(crate) fn pay(&mut self, frames: u32, calls: usize) -> bool {
+    /// Pays for a plan of some calls of a core of this many frames and slots, if there is enough for it. The first plan
+    /// is made at any price, so that a trace that comes in one piece has one, unless it has too many flags.
+    pub(crate) fn pay(&mut self, frames: u32, slots: u32, calls: usize) -> bool {
+        if u64::from(frames).saturating_mul(u64::from(slots) + 1) > MOST_FLAGS {
+            return false;
+        }
         let price = PLAN_FOR_A_CALL
             .saturating_mul(calls as u64)
             .saturating_add(u64::from(frames));

@@ -316,7 +316,8 @@ fn hash_twice(calls: &[Call]) -> bool {
 
 /// Whether some calls are worth a plan, and the plan is paid for.
 fn is_planned<G: Gate>(core: &KCore, calls: &[Call], gate: &G, budget: &mut Budget) -> bool {
-    gate.may_wait() || hash_twice(calls) && budget.pay(core.config().frames(), calls.len())
+    let config = core.config();
+    gate.may_wait() || hash_twice(calls) && budget.pay(config.frames(), config.slots(), calls.len())
 }
 
 /// Answers one segment. Uses workers if there are at least two workers and two calls, and if either the gate may wait,

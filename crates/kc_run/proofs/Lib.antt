@@ -3,3 +3,4 @@ pub mod Unseen
 pub mod Unread
 pub mod Reading
 pub mod Reported
+pub mod Measured

@@ -73,6 +73,7 @@ ending_less report start after files ends less (Ok (endings.Refused volume fault
 ending_less report start after files ends less (Ok endings.Done) h = h
 ending_less report start after files ends less (Ok (endings.Another answered line)) h = h
 ending_less report start after files ends less (Ok endings.Unsound) h = h
+ending_less report start after files ends less (Ok (endings.EmptyImage number)) h = h
 ending_less report start after files ends less (Err fault) h = tt
 
 volumes_less : {S : Type 0} (left : S → Option (List ℕ)) (failed : S → Bool) (report : Report) (after : List Path) (start : Seen) (ends : Ends) (less : Type 0) (ended : Ended) → (ends.unread → less)

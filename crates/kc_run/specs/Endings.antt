@@ -11,6 +11,7 @@ use Rattle.kc_faults.specs.Faults.{status_of, fault_line, volume_fault_line}
 use Rattle.kc_cli.specs.declared.replaying.Compared.{Compared}
 use Rattle.kc_redact_text.specs.declared.convert.Converted.{Converted}
 use Rattle.kc_redact_text.specs.declared.convert.Converted.TheVariants as conversions
+use Rattle.kc_run.specs.Faults.{empty_line}
 use Rattle.kc_run.specs.declared.ending.Ending.{Ending}
 use Rattle.kc_run.specs.declared.ending.Ending.TheVariants as endings
 
@@ -57,14 +58,15 @@ abbrev pub converted_as : Result Converted TextFault → Ended
 converted_as (Ok converted) = Ok (ending_converted converted)
 converted_as (Err fault) = Err fault
 
--- the exit status: 0 if all is as it was asked, 1 if the state differs or something is found in the dump, and otherwise
--- that of the fault, or of the volume's fault
+-- the exit status: 0 if all is as it was asked, 1 if the state differs or something is found in the dump, 2 if a boot
+-- image is empty, and otherwise that of the fault, or of the volume's fault
 abbrev pub status_after : Ended → ℕ
 status_after (Ok endings.Done) = 0
 status_after (Ok (endings.Answered answered)) = 0
 status_after (Ok (endings.Another answered line)) = 1
 status_after (Ok endings.Unsound) = 1
 status_after (Ok (endings.Refused volume fault)) = status_of (texts.Trace fault)
+status_after (Ok (endings.EmptyImage number)) = 2
 status_after (Err fault) = status_of fault
 
 -- the fault, or that of the volume that is refused, if there is one
@@ -134,7 +136,7 @@ abbrev pub IsWarned : Bool → Answered → Took → Type 0 → Type 0
 IsWarned true answered err untouched = Takes err (warning_line answered)
 IsWarned false answered err untouched = untouched
 
--- the error sink takes the line of a fault or of a volume that is refused, the warning, or what is reported if the state
+-- the error sink takes the line of a fault, of a volume that is refused or of an image that is empty, the warning, or what is reported if the state
 -- differs, and nothing else
 abbrev pub IsReported : Ended → Took → Type 0 → Type 0
 IsReported (Ok endings.Done) err untouched = untouched
@@ -142,4 +144,5 @@ IsReported (Ok (endings.Answered answered)) err untouched = IsWarned (is_doubted
 IsReported (Ok (endings.Another answered line)) err untouched = Takes err (another_text answered)
 IsReported (Ok endings.Unsound) err untouched = untouched
 IsReported (Ok (endings.Refused volume fault)) err untouched = Takes err (volume_fault_line volume fault)
+IsReported (Ok (endings.EmptyImage number)) err untouched = Takes err (empty_line number)
 IsReported (Err fault) err untouched = Takes err (fault_line fault)

@@ -4,7 +4,7 @@ use std::fmt;
 use std::fs::metadata;
 
 /// Each option, the first command that has it, and the others.
-const OPTIONS: [(&str, &str, &str); 20] = [
+const OPTIONS: [(&str, &str, &str); 21] = [
     ("--config", "replay", ", live, custody, redact and convert"),
     ("--from", "replay", ", custody and redact"),
     ("--to", "replay", ""),
@@ -24,10 +24,11 @@ const OPTIONS: [(&str, &str, &str); 20] = [
     ("--all", "audit", ""),
     ("--host", "redact", ""),
     ("--after", "convert", ""),
+    ("--json", "measure", ""),
     (
         "--explain",
         "replay",
-        ", live, custody, audit, redact and convert",
+        ", live, custody, audit, redact, convert and measure",
     ),
 ];
 

@@ -15,6 +15,8 @@ pub enum Kind {
     State,
     /// A state that is compared with the one that the calls leave.
     Compared,
+    /// A boot image.
+    Image,
 }
 
 impl Kind {
@@ -25,6 +27,7 @@ impl Kind {
             Kind::Dump => "dump",
             Kind::Config => "configuration",
             Kind::State | Kind::Compared => "state",
+            Kind::Image => "boot image",
         }
     }
 
@@ -32,7 +35,12 @@ impl Kind {
     pub fn is_input(self) -> bool {
         match self {
             Kind::Trace | Kind::Dump => true,
-            Kind::Volume | Kind::Before | Kind::Config | Kind::State | Kind::Compared => false,
+            Kind::Volume
+            | Kind::Before
+            | Kind::Config
+            | Kind::State
+            | Kind::Compared
+            | Kind::Image => false,
         }
     }
 
@@ -43,7 +51,7 @@ impl Kind {
             Kind::Trace | Kind::Volume | Kind::Before | Kind::State => 64,
             Kind::Dump => 16_777_216,
             Kind::Config => 65_536,
-            Kind::Compared => 0,
+            Kind::Compared | Kind::Image => 0,
         }
     }
 }
@@ -93,6 +101,17 @@ impl<'a> Asked<'a> {
         }
     }
 
+    /// What is asked for to measure boot images.
+    pub fn of_images(explain: bool) -> Asked<'a> {
+        Asked {
+            kind: Kind::Image,
+            input: None,
+            after: &[],
+            start: None,
+            explain,
+        }
+    }
+
     /// Whether no file is named for what calls begin with.
     pub fn is_unnamed(&self) -> bool {
         self.start.is_none()
@@ -101,6 +120,9 @@ impl<'a> Asked<'a> {
     /// What the next file is to the job once this many were opened: the input comes first, if it is named, then what
     /// calls begin with, and then the volumes or what is compared. One path may be named for several of them.
     pub fn kind_after(&self, opened: usize) -> Kind {
+        if self.kind == Kind::Image {
+            return Kind::Image;
+        }
         let before_start = usize::from(self.input.is_some());
         if opened < before_start {
             return self.kind;

@@ -5,6 +5,7 @@ ghost use Rattle.std.specs.Io.KnownBytes.{Appends};
 ghost use Rattle.kc_texts.specs.Written.{AppendsBeginning};
 ghost use Rattle.kc_remarks.specs.Denials.{is_doubted};
 ghost use Rattle.kc_args.specs.Clashes.{clash_text};
+ghost use Rattle.kc_run.specs.Faults.{empty_line};
 ghost use Rattle.kc_run.specs.Endings.{Takes, took, status_after, fault_in, answered_in, difference_in, volume_in, warning_of, warning_line, warning_text, another_text, IsWarned, IsReported};
 
 use arrayvec::ArrayString;
@@ -29,6 +30,8 @@ pub enum Ending {
     Unsound,
     /// The volume of this number, from 1, is refused, and nothing is written.
     Refused { volume: usize, fault: TraceFault },
+    /// The boot image of this number, from 1, is empty, and nothing is written.
+    EmptyImage { number: usize },
 }
 
 /// How the program ends.
@@ -129,6 +132,17 @@ fn another_text(answered: &Answered) -> ArrayString<256>
     text
 }
 
+/// Returns the line of a boot image that is empty.
+fn empty_line(number: usize) -> ArrayString<256>
+    ensures { result.bytes ≡ empty_line number }
+{
+    let mut line = ArrayString::new();
+    line.push_str("kcore: boot image ");
+    line.push_str(Buffer::new().format(number));
+    line.push_str(" is empty\n");
+    line
+}
+
 /// Warns of a trace that is probably of another machine.
 fn warn<L: Sink>(answered: &Answered, err: &mut L)
     requires { L.failed err.old ≡ false }
@@ -139,7 +153,7 @@ fn warn<L: Sink>(answered: &Answered, err: &mut L)
     }
 }
 
-/// Reports the ending of a job that meets no fault, but perhaps a volume that is refused.
+/// Reports the ending of a job that meets no fault, but perhaps a volume or an image that is refused.
 fn end_well<L: Sink>(ending: Ending, err: &mut L) -> Exit
     requires { L.failed err.old ≡ false }
     ensures status { result.status ≡ status_after (Ok ending) }
@@ -171,6 +185,10 @@ fn end_well<L: Sink>(ending: Ending, err: &mut L) -> Exit
             fault: Some(TextFault::Trace(fault)),
             volume: Some(volume),
             ..Exit::with_status(tell_volume(volume, fault, err))
+        },
+        Ending::EmptyImage { number } => {
+            say(empty_line(number).as_str(), err);
+            Exit::with_status(2)
         },
     }
 }

@@ -170,7 +170,7 @@ fn explain_text_line(rt: &HostRuntime, file: &Named<'_>, number: u32) {
 fn explain_actor<S: Source + Drop>(rt: &HostRuntime, noted: &Noted<S>, program: usize) {
     if let Some((Actor::Vcpu(vm, vcpu), line)) = noted.actor(program) {
         let _ = eprintln!(rt;
-            "  line {line} is of virtual processor {vcpu} in slot {vm}: there are slots 0 to 15, with version 2 to 63, and in each virtual processors 0 to 7"
+            "  line {line} is of virtual processor {vcpu} in slot {vm}: there are slots 0 to 15, with version 2 to 63, with version 3 to 1023, and in each virtual processors 0 to 7, with version 3 to 255"
         );
     }
 }
@@ -338,14 +338,16 @@ impl<'a> Reading<'a> {
         match fault {
             ConfigTextFault::Config(ConfigFault::Frames) => {
                 let _ = eprintln!(rt;
-                    "  {config}: frames is from 1 to 8192, with version 2 to 65536"
+                    "  {config}: frames is from 1 to 8192, with version 2 to 65536, with version 3 to 268435456"
                 );
             },
             ConfigTextFault::Config(ConfigFault::CoreHost) => {
                 let _ = eprintln!(rt; "  {config}: core and host together are at most frames");
             },
             ConfigTextFault::Config(ConfigFault::Leaves) => {
-                let _ = eprintln!(rt; "  {config}: leaves is from 1 to 64");
+                let _ = eprintln!(rt;
+                    "  {config}: leaves is from 1 to 64, with version 3 to 262144"
+                );
             },
             ConfigTextFault::Config(ConfigFault::TooManyDigests) => {
                 let _ = eprintln!(rt; "  {config}: approved has at most 64 entries");

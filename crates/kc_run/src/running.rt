@@ -7,7 +7,8 @@ use crate::engines::System;
 use crate::explaining::{Reading, explain_open};
 use crate::folder::{Folder, Named};
 use crate::job::run_job;
-use kc_args::{ArgFault, Request, request_of};
+use crate::measuring::run_measure;
+use kc_args::{ArgFault, Measuring, Request, Wanted, request_of};
 use kc_digests::Lanes;
 use kc_explain::{Erasing, Progress};
 use kc_faults::{TextFault, tell};
@@ -100,7 +101,25 @@ fn run_with<'a, R: Threads + Wait + Sync>(
     exit.status
 }
 
-/// Reports a command line that asks for no job, and returns the exit status.
+/// Opens the streams, measures the boot images, and returns the exit status. A fault is explained if that is asked for,
+/// and at a terminal.
+fn measure_with(rt: &HostRuntime, measuring: &Measuring<'_>) -> u8 {
+    let asked = Asked::of_images(measuring.explain || rt.stderr().is_terminal());
+    let _standing_in = stand_in(rt);
+    let progress = Progress::new(rt);
+    let mut files = Folder::new(rt, asked, &progress);
+    let input = files.standard_input();
+    let mut out = Std::new(rt.stdout());
+    let mut err = Erasing::new(Std::new(rt.stderr()), &progress);
+    let exit = run_measure(rt.alloc(), &mut files, measuring, &mut out, &mut err);
+    progress.erase();
+    if asked.explain {
+        explain_exit(rt, &files, &input, &exit);
+    }
+    exit.status
+}
+
+/// Reports a command line that asks for nothing, and returns the exit status.
 fn refuse(rt: &HostRuntime, arguments: &[&str], fault: ArgFault) -> u8 {
     match fault {
         ArgFault::Memory => fail(rt, TextFault::Memory),
@@ -145,7 +164,8 @@ pub fn run<R: Threads + Wait + Sync>(rt: &HostRuntime, threads: &R, lanes: Lanes
         return fail(rt, TextFault::Memory);
     };
     match request_of(rt.alloc(), texts.as_slice()) {
-        Ok(request) => run_with(rt, threads, request, lanes),
+        Ok(Wanted::Job(request)) => run_with(rt, threads, request, lanes),
+        Ok(Wanted::Measure(measuring)) => measure_with(rt, &measuring),
         Err(fault) => refuse(rt, texts.as_slice(), fault),
     }
 }

@@ -12,6 +12,7 @@ use Rattle.kc_types.specs.declared.slot.Phase.TheVariants.{Empty, Booting, Activ
 use Rattle.kc_types.specs.declared.custody.Custody.{Custody}
 use Rattle.kc_types.specs.declared.custody.FrameChange.{FrameChange}
 use Rattle.kc_types.specs.declared.custody.MeasuredImage.{MeasuredImage}
+use Rattle.kc_types.specs.declared.custody.Measurement.{Measurement}
 use Rattle.kc_types.specs.declared.custody.PhaseChange.{PhaseChange}
 use Rattle.kc_types.specs.declared.custody.Change.{Change}
 use Rattle.kc_types.specs.declared.custody.Change.TheVariants as change
@@ -74,10 +75,23 @@ abbrev pub images_text : List MeasuredImage → List ℕ
 images_text [] = []
 images_text (image ∷ images) = image_text image ++ flat_map more_image_text images
 
+-- a digest in quotation marks
+abbrev pub digest_text : List ℕ → List ℕ
+digest_text digest = codes "\"" ++ (encode_lower digest ++ codes "\"")
+
+-- the launch measurement, if there is one
+abbrev pub launch_member : Option (List ℕ) → List ℕ
+launch_member None = []
+launch_member (Some digest) = codes ",\"measured\":" ++ digest_text digest
+
+-- what was measured: the images, and then the launch measurement
+abbrev pub measurement_text : Measurement → List ℕ
+measurement_text measured = codes ",\"images\":[" ++ (images_text measured.images ++ (codes "]" ++ launch_member measured.launch))
+
 -- the line of a slot's change, with its newline
 abbrev pub phase_line : PhaseChange → List ℕ
 phase_line told = member (codes "{\"line\":") told.line ++ (member (codes ",\"vm\":") told.vm
-    ++ (codes ",\"phase\":" ++ (phase_text told.phase ++ (codes ",\"images\":[" ++ (images_text told.images ++ (codes "]}" ++ 10 ∷ []))))))
+    ++ (codes ",\"phase\":" ++ (phase_text told.phase ++ (measurement_text told.measurement ++ (codes "}" ++ 10 ∷ [])))))
 
 abbrev pub change_line : Change → List ℕ
 change_line (change.Frame told) = frame_line told
@@ -115,10 +129,6 @@ placed_text volumes line (_ ∷ rest) = member (codes "{\"volume\":") (volume_of
 -- the version of kcore, which `kcore --version` prints too
 abbrev pub version_text : List ℕ
 version_text = codes "3.0.0"
-
--- a digest in quotation marks
-abbrev pub digest_text : List ℕ → List ℕ
-digest_text digest = codes "\"" ++ (encode_lower digest ++ codes "\"")
 
 -- the configuration, by its digest if it is that of a file, or the state
 abbrev pub start_text : StartDigest → List ℕ
@@ -218,7 +228,8 @@ abbrev pub custody_text_of : Heading → Configuration → List VolumeEntry → 
 custody_text_of heading config volumes calls refused changes = header_line heading config ++ (volumes_text volumes
     ++ (flat_map (λ change. placed_text volumes (line_of_change change) (change_line change)) changes ++ end_line calls (length changes) refused))
 
--- upper bounds for the text of a custody, of an image, of 16 images, and of a change
+-- upper bounds for the text of a custody, of an image, of 16 images, of a launch measurement, of what was measured, and of a
+-- change
 abbrev pub longest_custody : ℕ
 longest_custody = 100
 
@@ -227,6 +238,12 @@ longest_image = 135
 
 abbrev pub longest_images : ℕ
 longest_images = 2176
+
+abbrev pub longest_launch : ℕ
+longest_launch = 80
+
+abbrev pub longest_measurement : ℕ
+longest_measurement = 2270
 
 abbrev pub longest_change : ℕ
 longest_change = 2400

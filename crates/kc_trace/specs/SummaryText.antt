@@ -10,15 +10,12 @@ use Rattle.kc_remarks.specs.declared.attempt.Attempt.{Attempt}
 use Rattle.kc_remarks.specs.Attempts.{attempts_in_life, count_attempts, refusals}
 use Rattle.kc_trace.specs.declared.custody_writer.Heading.{Heading}
 use Rattle.kc_trace.specs.declared.volume_writer.VolumeEntry.{VolumeEntry}
-use Rattle.kc_trace.specs.CustodyText.{member, number_text, images_text, heading_text, volumes_text}
+use Rattle.kc_trace.specs.CustodyText.{member, number_text, measurement_text, heading_text, volumes_text}
 
 -- its slot, and the lines of its turns
 abbrev pub turns_text : Life → List ℕ
 turns_text life = member (codes "{\"vm\":") life.vm ++ (member (codes ",\"registered\":") life.registered ++ (codes ",\"active\":" ++ (number_text life.active
     ++ (codes ",\"dead\":" ++ (number_text life.dead ++ (codes ",\"cleared\":" ++ number_text life.cleared))))))
-
-abbrev pub life_images_text : Life → List ℕ
-life_images_text life = codes ",\"images\":[" ++ (images_text life.images ++ codes "]")
 
 -- how many reads and writes by the host were served, unless the machine's accesses are not in the trace
 abbrev pub accesses_counted : Bool → Life → List ℕ
@@ -62,7 +59,7 @@ refused_text attempts = codes ",\"refused\":{" ++ (reasons_text attempts ++ code
 
 -- the line of a life, with its newline, by all attempts at pages of VMs
 abbrev pub life_line : Bool → List Attempt → Life → List ℕ
-life_line unseen attempts life = turns_text life ++ (life_images_text life ++ (counts_text unseen life ++ (refused_text (attempts_in_life life attempts) ++ shared_text life)))
+life_line unseen attempts life = turns_text life ++ (measurement_text life.measurement ++ (counts_text unseen life ++ (refused_text (attempts_in_life life attempts) ++ shared_text life)))
 
 -- the first line, given the number of calls that were refused or rejected
 abbrev pub summary_header : Heading → Configuration → ℕ → List ℕ

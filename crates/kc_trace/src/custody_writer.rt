@@ -4,13 +4,14 @@ ghost use Rattle.std.specs.List.{flat_map};
 ghost use Rattle.std.specs.Fmt.{decimal};
 ghost use Rattle.kc_types.specs.Limits.{image_limit};
 ghost use Rattle.kc_types.specs.Configuration.{slot_count};
-ghost use Rattle.kc_trace.specs.CustodyText.{owner_text, number_text, flag_text, phase_text, custody_text, frame_line, image_text, more_image_text, images_text, phase_line, change_line, version_text, digest_text, trace_text, start_text, digests_text, accesses_text, versions_text, sizes_text, refused_count_text, heading_text, header_line, end_line, longest_custody, longest_image, longest_images, longest_change, longest_digest, longest_trace, longest_start, longest_digests};
+ghost use Rattle.kc_trace.specs.CustodyText.{owner_text, number_text, flag_text, phase_text, custody_text, frame_line, image_text, more_image_text, images_text, launch_member, measurement_text, phase_line, change_line, version_text, digest_text, trace_text, start_text, digests_text, accesses_text, versions_text, sizes_text, refused_count_text, heading_text, header_line, end_line, longest_custody, longest_image, longest_images, longest_launch, longest_measurement, longest_change, longest_digest, longest_trace, longest_start, longest_digests};
 
 use crate::volume_writer::{Chain, push_chain};
 use itoa::Buffer;
 use kc_lines::{push_bytes, push_digits};
 use kc_types::{
-    Change, Config, Custody, FrameChange, Gfn, MeasuredImage, Owner, Phase, PhaseChange,
+    Change, Config, Custody, FrameChange, Gfn, Launch, MeasuredImage, Measurement, Owner, Phase,
+    PhaseChange,
 };
 
 /// More bytes than the longest line of a change, and than the first and the last line, with their newlines.
@@ -195,7 +196,7 @@ fn push_more_images(text: &mut Vec<u8>, images: &[MeasuredImage])
 }
 
 /// Appends at most 16 images as objects with commas between them.
-pub(crate) fn push_images(text: &mut Vec<u8>, images: &[MeasuredImage])
+fn push_images(text: &mut Vec<u8>, images: &[MeasuredImage])
     requires few { length images.now ≤ image_limit }
     requires room { vec_len text.old + longest_images ≤ vec_capacity text.old }
     ensures items { text.new.items ≡ text.old.items ++ images_text images.now }
@@ -205,33 +206,6 @@ pub(crate) fn push_images(text: &mut Vec<u8>, images: &[MeasuredImage])
     if let Some((first, more)) = images.split_first() {
         push_image(text, first);
         push_more_images(text, more);
-    }
-}
-
-/// Appends the line of a slot's change.
-fn push_phase_change(text: &mut Vec<u8>, change: &PhaseChange)
-    requires { vec_len text.old + longest_change ≤ vec_capacity text.old }
-    ensures line { text.new.items ≡ text.old.items ++ phase_line change.now }
-    ensures capacity { vec_capacity text.old ≤ vec_capacity text.new }
-{
-    push_member(text, b"{\"line\":", change.line as usize);
-    push_member(text, b",\"vm\":", change.vm as usize);
-    push_bytes(text, b",\"phase\":");
-    push_phase(text, change.phase);
-    push_bytes(text, b",\"images\":[");
-    push_images(text, change.images.as_slice());
-    push_bytes(text, b"]}\n");
-}
-
-/// Appends the line of a change and its newline, for which there is room: memory does not grow.
-pub fn push_change(text: &mut Vec<u8>, change: &Change)
-    requires { vec_len text.old + longest_change ≤ vec_capacity text.old }
-    ensures line { text.new.items ≡ text.old.items ++ change_line change.now }
-    ensures capacity { vec_capacity text.old ≤ vec_capacity text.new }
-{
-    match change {
-        Change::Frame(change) => push_frame_change(text, change),
-        Change::Phase(change) => push_phase_change(text, change),
     }
 }
 
@@ -245,6 +219,58 @@ fn push_digest(text: &mut Vec<u8>, digest: &[u8; 32])
     push_bytes(text, b"\"");
     push_digits(text, digest);
     push_bytes(text, b"\"");
+}
+
+/// Appends the launch measurement, if there is one.
+fn push_launch(text: &mut Vec<u8>, launch: &Launch)
+    requires { vec_len text.old + longest_launch ≤ vec_capacity text.old }
+    ensures items { text.new.items ≡ text.old.items ++ launch_member launch.now }
+    ensures len { vec_len text.new ≤ vec_len text.old + longest_launch }
+    ensures capacity { vec_capacity text.old ≤ vec_capacity text.new }
+{
+    if let Some(digest) = launch.digest() {
+        push_bytes(text, b",\"measured\":");
+        push_digest(text, &digest);
+    }
+}
+
+/// Appends what was measured.
+pub(crate) fn push_measurement(text: &mut Vec<u8>, measurement: &Measurement)
+    requires { vec_len text.old + longest_measurement ≤ vec_capacity text.old }
+    ensures items { text.new.items ≡ text.old.items ++ measurement_text measurement.now }
+    ensures len { vec_len text.new ≤ vec_len text.old + longest_measurement }
+    ensures capacity { vec_capacity text.old ≤ vec_capacity text.new }
+{
+    push_bytes(text, b",\"images\":[");
+    push_images(text, measurement.images.as_slice());
+    push_bytes(text, b"]");
+    push_launch(text, &measurement.launch);
+}
+
+/// Appends the line of a slot's change.
+fn push_phase_change(text: &mut Vec<u8>, change: &PhaseChange)
+    requires { vec_len text.old + longest_change ≤ vec_capacity text.old }
+    ensures line { text.new.items ≡ text.old.items ++ phase_line change.now }
+    ensures capacity { vec_capacity text.old ≤ vec_capacity text.new }
+{
+    push_member(text, b"{\"line\":", change.line as usize);
+    push_member(text, b",\"vm\":", change.vm as usize);
+    push_bytes(text, b",\"phase\":");
+    push_phase(text, change.phase);
+    push_measurement(text, &change.measurement);
+    push_bytes(text, b"}\n");
+}
+
+/// Appends the line of a change and its newline, for which there is room: memory does not grow.
+pub fn push_change(text: &mut Vec<u8>, change: &Change)
+    requires { vec_len text.old + longest_change ≤ vec_capacity text.old }
+    ensures line { text.new.items ≡ text.old.items ++ change_line change.now }
+    ensures capacity { vec_capacity text.old ≤ vec_capacity text.new }
+{
+    match change {
+        Change::Frame(change) => push_frame_change(text, change),
+        Change::Phase(change) => push_phase_change(text, change),
+    }
 }
 
 /// Appends the digest of a trace, if it is named.

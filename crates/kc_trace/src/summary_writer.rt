@@ -2,10 +2,11 @@
 ghost use Rattle.std.specs.Prelude.{◌≡◌, ◌≤◌, ◌+◌, ◌++◌, drop, length, vec_len, vec_capacity, IfOk, OnOk};
 ghost use Rattle.std.specs.List.{flat_map};
 ghost use Rattle.kc_remarks.specs.Attempts.{AreInOrder, refusals};
-ghost use Rattle.kc_trace.specs.SummaryText.{turns_text, life_images_text, accesses_counted, counts_text, sharing_text, more_sharing_text, sharings_text, shared_text, reason_member, reason_text, refused_text, life_line, summary_header, summary_end, summary_text_of};
+ghost use Rattle.kc_trace.specs.CustodyText.{measurement_text};
+ghost use Rattle.kc_trace.specs.SummaryText.{turns_text, accesses_counted, counts_text, sharing_text, more_sharing_text, sharings_text, shared_text, reason_member, reason_text, refused_text, life_line, summary_header, summary_end, summary_text_of};
 
 use crate::custody_writer::{
-    Heading, push_gfn, push_heading, push_images, push_member, push_number,
+    Heading, push_gfn, push_heading, push_measurement, push_member, push_number,
 };
 use crate::remark_writer::push_refusal;
 use crate::volume_writer::{VolumeEntry, push_volumes};
@@ -34,14 +35,12 @@ fn push_turns(text: &mut Vec<u8>, life: &Life) -> Result<(), Memory>
     Ok(())
 }
 
-/// Appends the images of a life.
-fn push_life_images(text: &mut Vec<u8>, life: &Life) -> Result<(), Memory>
-    ensures { OnOk result (text.new.items ≡ text.old.items ++ life_images_text life.now) }
+/// Appends what was measured of a life.
+fn push_life_measurement(text: &mut Vec<u8>, life: &Life) -> Result<(), Memory>
+    ensures { OnOk result (text.new.items ≡ text.old.items ++ measurement_text life.now.measurement) }
 {
     text.reserve(LONGEST_PART)?;
-    push_bytes(text, b",\"images\":[");
-    push_images(text, life.images.as_slice());
-    push_bytes(text, b"]");
+    push_measurement(text, &life.measurement);
     Ok(())
 }
 
@@ -183,7 +182,7 @@ fn push_life(
     ensures { OnOk result (text.new.items ≡ text.old.items ++ life_line is_unseen attempts.now life.now) }
 {
     push_turns(text, life)?;
-    push_life_images(text, life)?;
+    push_life_measurement(text, life)?;
     push_counts(text, is_unseen, life)?;
     let own = attempts_in_life(alloc, life, attempts)?;
     push_refused(alloc, text, &own)?;

@@ -98,6 +98,72 @@ impl MeasuredImages {
     }
 }
 
+/// A launch measurement, SHA-256, or none. It is in memory of its own, so that events, which seldom have one, stay small.
+#[derive(Debug, Drop)]
+pub struct Launch {
+    digest: Option<Box<[u8; 32]>>,
+}
+
+impl Model for Launch {
+    ghost use Rattle.std.specs.Prelude.{ℕ, List, Option, option_map};
+    ghost use Rattle.std.specs.Box.{box_value};
+
+    ghost Value = { Option (List ℕ) };
+
+    ghost view = { λ l. option_map box_value l.digest };
+}
+
+impl Launch {
+    /// Makes none, which takes no memory.
+    pub fn none() -> Launch
+        ensures { result ≡ None }
+    {
+        Launch { digest: None }
+    }
+
+    /// Makes that of this digest, if there is one, in memory that was taken before.
+    pub fn of(room: Box<[u8; 32]>, digest: Option<[u8; 32]>) -> Launch
+        ensures { result ≡ digest }
+    {
+        let Some(digest) = digest else {
+            return Launch::none();
+        };
+        let mut room = room;
+        *room = digest;
+        Launch { digest: Some(room) }
+    }
+
+    /// The digest, if there is one.
+    pub fn digest(&self) -> Option<[u8; 32]>
+        ensures { result ≡ self.now }
+    {
+        match &self.digest {
+            Some(digest) => Some(**digest),
+            None => None,
+        }
+    }
+}
+
+/// What a `verify` measured of what a slot boots.
+#[derive(Debug, Drop)]
+pub struct Measurement {
+    pub images: MeasuredImages,
+    /// The launch measurement, if the version approves boots as a whole.
+    pub launch: Launch,
+}
+
+impl Measurement {
+    /// Makes the measurement of nothing, which takes no memory.
+    pub fn none(alloc: Global) -> Measurement
+        ensures { result ≡ record { images = []; launch = None } }
+    {
+        Measurement {
+            images: MeasuredImages::none(alloc),
+            launch: Launch::none(),
+        }
+    }
+}
+
 /// A change of a slot's phase by a call.
 #[derive(Debug, Drop)]
 pub struct PhaseChange {
@@ -106,8 +172,8 @@ pub struct PhaseChange {
     pub vm: u32,
     /// The phase after the call.
     pub phase: Phase,
-    /// The boot images, if the call measured them: the slot became active or dead.
-    pub images: MeasuredImages,
+    /// What the call measured, if the slot became active or dead by it; else nothing.
+    pub measurement: Measurement,
 }
 
 /// One change that a call makes.
@@ -172,7 +238,7 @@ impl Sharings {
 /// A life of a VM: what happened to it from the call that registered it to the one that cleared it.
 #[derive(Debug, Drop)]
 pub struct Life {
-    /// Its slot, 0 to 63.
+    /// Its slot, 0 to 1,023.
     pub vm: u32,
     /// The line of the call that registered it.
     pub registered: u32,
@@ -182,8 +248,8 @@ pub struct Life {
     pub dead: Option<u32>,
     /// The line of the `clear` that ended it; `None` if the VM is still there at the trace's end.
     pub cleared: Option<u32>,
-    /// Its boot images as they were measured.
-    pub images: MeasuredImages,
+    /// What was measured of what it booted.
+    pub measurement: Measurement,
     /// The number of frames it ever owned.
     pub frames: usize,
     /// The most frames it owned at once.

@@ -31,8 +31,8 @@ pub use call::{Actor, Call, actor_of, slot_of};
 pub use call_buffer::CallBuffer;
 pub use config::{Config, ConfigFault};
 pub use custody::{
-    Bar, Change, Custody, Event, FrameChange, Life, MeasuredImage, MeasuredImages, PhaseChange,
-    Sharing, Sharings,
+    Bar, Change, Custody, Event, FrameChange, Launch, Life, MeasuredImage, MeasuredImages,
+    Measurement, PhaseChange, Sharing, Sharings,
 };
 pub use data::{Data, SHORT_SIZE};
 pub use limits::{

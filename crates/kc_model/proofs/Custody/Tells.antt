@@ -1,5 +1,5 @@
 -- Each change is right: of a frame its custody, of a slot its phase, and that its boot is approved if it became active.
-use Rattle.std.proofs.Common.{ℕ, suc, ◌≡◌, ◌<◌, ◌+◌, true, false, List, [], ◌∷◌, length, map, filter, get_or, All, sym, ap, ap₂, subst, ◌∙◌, arith}
+use Rattle.std.proofs.Common.{ℕ, suc, ◌≡◌, ◌<◌, ◌+◌, true, false, List, [], ◌∷◌, length, map, filter, get_or, All, cond, Some, None, sym, ap, ap₂, subst, ◌∙◌, arith}
 use Rattle.std.specs.Prelude.{Contains}
 use Rattle.std.specs.List.{range_with_len}
 use Rattle.std.proofs.lemmas.List.Elements.{All-nil, All-append, All-map, filter_passes}
@@ -12,7 +12,7 @@ use Rattle.kc_model.specs.State.{State, slot_at}
 use Rattle.kc_model.specs.Next.{next}
 use Rattle.kc_model.specs.Effects.{launch_digest}
 use Rattle.kc_model.specs.Footprints.{state_at, call_at}
-use Rattle.kc_model.specs.Custody.{custody_at, has_moved, has_turned, frame_change, phase_change, frame_changes_by, phase_changes_by, changes_by, custody_from, images_for, measured_images, first_line}
+use Rattle.kc_model.specs.Custody.{custody_at, has_moved, has_turned, frame_change, phase_change, frame_changes_by, phase_changes_by, changes_by, custody_from, measurement_for, measured_images, measurement, first_line}
 use Rattle.kc_model.specs.CustodyLaws.{TellsFrame, IsFrameTold, TellsFrames, TellsPhase, IsPhaseTold, TellsPhases}
 use Rattle.kc_model.proofs.States.Places.{state_at-rest}
 use Rattle.kc_model.proofs.Footprints.Reaches.{config-at}
@@ -35,18 +35,20 @@ each-call P n m (call ∷ calls) each =
 tells : (m : State) (calls : List Call) (k v : ℕ) → has_turned (state_at m calls k) (state_at m calls (suc k)) v ≡ true → TellsPhase m calls (phase_change (first_line + k) (state_at m calls k) (state_at m calls (suc k)) v)
 tells m calls k v turned = record {
   phase = λ n at. let same : n + 1 ≡ suc k = omega (arith, at) in ap (λ i. (slot_at (state_at m calls i) v).phase) same;
-  images = λ n at. let same : n ≡ k = omega (arith, at) in ap (λ i. images_for (slot_at (state_at m calls (suc k)) v).phase (measured_images (state_at m calls i) v)) same;
+  measurement = λ n at. let same : n ≡ k = omega (arith, at) in ap (λ i. measurement_for (slot_at (state_at m calls (suc k)) v).phase (measurement (state_at m calls i) v)) same;
   approved = λ each active.
       let old = state_at m calls k in
       let each_old : measures_launch old.config.version ≡ false = rw (config-at m calls k) each in
       let approved = subst (λ (config : Configuration). All (λ (image : MeasuredImage). Contains config.approved image.digest) (measured_images old v)) (config-at m calls k) (all_approved old (call_at calls k) v each_old turned active) in
-      subst (λ phase. All (λ (image : MeasuredImage). Contains m.config.approved image.digest) (images_for phase (measured_images old v))) (sym active) approved;
-  launch = λ whole n at active.
+      subst (λ phase. All (λ (image : MeasuredImage). Contains m.config.approved image.digest) (measurement_for phase (measurement old v)).images) (sym active) approved;
+  launch = λ whole active.
       let old = state_at m calls k in
-      let same : n ≡ k = omega (arith, at) in
       let whole_old : measures_launch old.config.version ≡ true = rw (config-at m calls k) whole in
-      let approved = subst (λ (config : Configuration). Contains config.approved (launch_digest old v)) (config-at m calls k) (launch_approved old (call_at calls k) v whole_old turned active) in
-      subst (λ i. Contains m.config.approved (launch_digest (state_at m calls i) v)) (sym same) approved;
+      let approved = subst (λ (config : Configuration). Contains config.approved (launch_digest old v)) (config-at m calls k) (launch_approved old (call_at calls k) v whole_old turned active) in (
+        launch_digest old v,
+        ap (λ phase. (measurement_for phase (measurement old v)).launch) active ∙ ap (λ each. cond each (Some (launch_digest old v)) None) whole_old,
+        approved,
+      );
 }
 
 -- a change of a frame by the call

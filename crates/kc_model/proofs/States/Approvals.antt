@@ -41,13 +41,18 @@ module _ (m n : State) (v : ℕ) (alike : BootsAlike m n v) where
       ap (λ content. list_any (λ digest. same_bytes digest (sha256 content)) m.config.approved) (alike.bytes i d lt)
       ∙ ap (λ digests. list_any (λ digest. same_bytes digest (sha256 (image_bytes n v (get_or (slot_at m v).images i d)))) digests) alike.approved
 
-  launch-same : is_launch_approved m v ≡ is_launch_approved n v
-  launch-same =
+  -- the launch measurement is the same
+  pub digest-same : launch_digest m v ≡ launch_digest n v
+  digest-same =
       let part : (i : ℕ) (d : Image) → i < length (slot_at m v).images → launch_part m v (get_or (slot_at m v).images i d) ≡ launch_part n v (get_or (slot_at m v).images i d) = λ i d lt.
       ap (λ content. to_le_bytes w64 (get_or (slot_at m v).images i d).base ++ (to_le_bytes w64 (get_or (slot_at m v).images i d).len ++ content)) (alike.bytes i d lt) in
       let parts : flat_map (launch_part m v) (slot_at m v).images ≡ flat_map (launch_part n v) (slot_at n v).images =
       parts-same (launch_part m v) (launch_part n v) (slot_at m v).images part ∙ ap (flat_map (launch_part n v)) alike.images in
-      ap (λ text. list_any (λ digest. same_bytes digest (sha256 text)) m.config.approved) parts
+      ap sha256 parts
+
+  launch-same : is_launch_approved m v ≡ is_launch_approved n v
+  launch-same =
+      ap (λ launch. list_any (λ digest. same_bytes digest launch) m.config.approved) digest-same
       ∙ ap (λ digests. list_any (λ digest. same_bytes digest (launch_digest n v)) digests) alike.approved
 
   pub unapproved-same : unapproved m v ≡ unapproved n v

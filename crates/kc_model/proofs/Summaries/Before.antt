@@ -16,15 +16,15 @@ use Rattle.kc_model.specs.State.{State, frame_at, slot_at}
 use Rattle.kc_model.specs.Boot.{boot}
 use Rattle.kc_model.specs.Lawful.{IsLawful}
 use Rattle.kc_model.specs.Resources.{is_in}
-use Rattle.kc_model.specs.Custody.{same_phase, frame_changes_by}
-use Rattle.kc_model.specs.Lives.{is_owned_by, is_turn, is_measuring, is_gain, is_loss, is_read, is_write, line_of_turn, images_told, frame_gained, frames_gained}
+use Rattle.kc_model.specs.Custody.{same_phase, frame_changes_by, nothing_measured}
+use Rattle.kc_model.specs.Lives.{is_owned_by, is_turn, is_measuring, is_gain, is_loss, is_read, is_write, line_of_turn, measurement_told, frame_gained, frames_gained}
 use Rattle.kc_model.specs.Before.{header_line, is_measured, turn_before, slots_that}
 use Rattle.kc_model.proofs.Lawful.AtBoot.{frame_at-boot, frame_at-past}
 use Rattle.kc_model.proofs.Custody.Same.{same_phase-refl}
 use Rattle.kc_model.proofs.Summaries.Counts.{count, count-append, count-none, count-same}
 use Rattle.kc_model.proofs.Summaries.Owned.{has, all_frames, gained, lost, owned-count}
 use Rattle.kc_model.proofs.Summaries.Called.{IsQuiet, frames-all, frames-gain, frames-lose, frames-bring, frames-within, none-gained}
-use Rattle.kc_model.proofs.Summaries.Lived.{other-phase, line-more, images-more, measures-not}
+use Rattle.kc_model.proofs.Summaries.Lived.{other-phase, line-more, measurement-more, measures-not}
 use Rattle.kc_model.proofs.Summaries.Brought.{Brings}
 
 -- at boot no VM owns a frame
@@ -66,7 +66,7 @@ turns-other v of phase ws differ = All-map (λ told. is_turn v phase told ≡ fa
 turns-quiet : (v : ℕ) (of : ℕ → Phase) (ws : List ℕ) → All (IsQuiet v) (turns_before of ws)
 turns-quiet v of ws = All-map (IsQuiet v) (λ w. turn_before (of w) w) ws (λ i d lt. record { gain = refl; loss = refl; read = refl; write = refl })
 
--- if the slot is among them, they say that it turned, with no images
+-- if the slot is among them, they say that it turned, and nothing of what was measured
 pub turns-line : (v : ℕ) (of : ℕ → Phase) (phase : Phase) (ws : List ℕ) (ys : List Event) → list_any (λ w. nat_eq w v) ws ≡ true → of v ≡ phase → line_of_turn v phase (turns_before of ws ++ ys) ≡ Some header_line
 turns-line v of phase [] ys any is = cc
 turns-line v of phase (w ∷ ws) ys any is = elim (cases_eq w v) [
@@ -74,13 +74,13 @@ turns-line v of phase (w ∷ ws) ys any is = elim (cases_eq w v) [
   | inr other ↦ line-more v phase (turn_before (of w) w) (turns_before of ws ++ ys) (turn-other v w (of w) phase (λ same. absurd (other same))) ∙ turns-line v of phase ws ys (rw (ne_eqb w v other) at any) is
 ]
 
-pub turns-images : (v : ℕ) (of : ℕ → Phase) (ws : List ℕ) (ys : List Event) → list_any (λ w. nat_eq w v) ws ≡ true → is_measuring v (turn_before (of v) v) ≡ true → images_told v (turns_before of ws ++ ys) ≡ []
-turns-images v of [] ys any measures = cc
-turns-images v of (w ∷ ws) ys any measures = elim (cases_eq w v) [
-  | inl same ↦ cond-true (is_measuring v (turn_before (of w) w)) [] _ (subst (λ k. is_measuring v (turn_before (of k) k) ≡ true) (sym same) measures)
+pub turns-measurement : (v : ℕ) (of : ℕ → Phase) (ws : List ℕ) (ys : List Event) → list_any (λ w. nat_eq w v) ws ≡ true → is_measuring v (turn_before (of v) v) ≡ true → measurement_told v (turns_before of ws ++ ys) ≡ nothing_measured
+turns-measurement v of [] ys any measures = cc
+turns-measurement v of (w ∷ ws) ys any measures = elim (cases_eq w v) [
+  | inl same ↦ cond-true (is_measuring v (turn_before (of w) w)) nothing_measured _ (subst (λ k. is_measuring v (turn_before (of k) k) ≡ true) (sym same) measures)
   | inr other ↦
-      images-more v (turn_before (of w) w) (turns_before of ws ++ ys) (measures-not v (turn_before (of w) w) (turn-other v w (of w) Active (λ same. absurd (other same))) (turn-other v w (of w) Dead (λ same. absurd (other same))))
-      ∙ turns-images v of ws ys (rw (ne_eqb w v other) at any) measures
+      measurement-more v (turn_before (of w) w) (turns_before of ws ++ ys) (measures-not v (turn_before (of w) w) (turn-other v w (of w) Active (λ same. absurd (other same))) (turn-other v w (of w) Dead (λ same. absurd (other same))))
+      ∙ turns-measurement v of ws ys (rw (ne_eqb w v other) at any) measures
 ]
 
 -- the events of the frames, and of the VMs that have been measured

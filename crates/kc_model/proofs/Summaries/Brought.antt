@@ -13,7 +13,7 @@ use Rattle.kc_types.specs.declared.custody.Life.{Life}
 use Rattle.kc_model.specs.State.{State}
 use Rattle.kc_model.specs.Lawful.{IsLawful}
 use Rattle.kc_model.specs.Resources.{is_in}
-use Rattle.kc_model.specs.Lives.{is_gain, is_loss, is_read, is_write, line_of_turn, images_told, count_different, frame_gained, frames_gained, most_beyond, sharings}
+use Rattle.kc_model.specs.Lives.{is_gain, is_loss, is_read, is_write, line_of_turn, measurement_told, count_different, frame_gained, frames_gained, most_beyond, sharings}
 use Rattle.kc_model.specs.Summaries.{last_place, listed_at, owns_at, IsFirstIn, IsLived}
 use Rattle.kc_model.proofs.Custody.Ordered.{in-range}
 use Rattle.kc_model.proofs.Summaries.Counts.{count, count-append, count-same, is_in-both, different}
@@ -28,7 +28,7 @@ life_by v line told more = record {
   active = line_of_turn v Active told;
   dead = line_of_turn v Dead told;
   cleared = line_of_turn v Empty told;
-  images = images_told v told;
+  measurement = measurement_told v told;
   frames = count_different (frames_gained v told);
   most = most_beyond v told;
   left = count (is_gain v) told - count (is_loss v) told;

@@ -11,8 +11,8 @@ use Rattle.kc_types.specs.declared.custody.Event.{Event}
 use Rattle.kc_types.specs.declared.custody.Event.TheVariants as event
 use Rattle.kc_types.specs.declared.custody.Life.{Life}
 use Rattle.kc_model.specs.State.{State, slot_at}
-use Rattle.kc_model.specs.Custody.{has_turned, same_phase, phase_change, images_for, measured_images}
-use Rattle.kc_model.specs.Lives.{is_turn, life_in, line_of_turn, is_measuring, images_told, life_from, lives}
+use Rattle.kc_model.specs.Custody.{has_turned, same_phase, phase_change, measurement_for, measurement, nothing_measured}
+use Rattle.kc_model.specs.Lives.{is_turn, life_in, line_of_turn, is_measuring, measurement_told, life_from, lives}
 use Rattle.kc_model.proofs.Custody.Same.{same_phase-refl}
 use Rattle.kc_model.proofs.Custody.Told.{turned, among-range}
 use Rattle.kc_model.proofs.Summaries.Called.{slot_event, IsQuiet, slot-quiet}
@@ -63,17 +63,17 @@ lives-through (x ∷ xs) ys none =
     ap (λ (first : List Life). first ++ lives (xs ++ ys)) (All-head (λ told. (more : List Event) → life_from told more ≡ []) x xs none (xs ++ ys))
     ∙ lives-through xs ys (All-tail (λ told. (more : List Event) → life_from told more ≡ []) x xs none)
 
--- an event that does not measure the slot gives none of its images
-pub images-more : (v : ℕ) (told : Event) (more : List Event) → is_measuring v told ≡ false → images_told v (told ∷ more) ≡ images_told v more
-images-more v (event.Change (change.Phase told)) more not = cond-false (is_measuring v (event.Change (change.Phase told))) told.images _ not
-images-more v (event.Change (change.Frame told)) more not = refl
-images-more v (event.Read w) more not = refl
-images-more v (event.Write w) more not = refl
+-- an event that does not measure the slot does not say what was measured
+pub measurement-more : (v : ℕ) (told : Event) (more : List Event) → is_measuring v told ≡ false → measurement_told v (told ∷ more) ≡ measurement_told v more
+measurement-more v (event.Change (change.Phase told)) more not = cond-false (is_measuring v (event.Change (change.Phase told))) told.measurement _ not
+measurement-more v (event.Change (change.Frame told)) more not = refl
+measurement-more v (event.Read w) more not = refl
+measurement-more v (event.Write w) more not = refl
 
-pub images-through : (v : ℕ) (xs ys : List Event) → All (λ told. is_measuring v told ≡ false) xs → images_told v (xs ++ ys) ≡ images_told v ys
-images-through v [] ys not = refl
-images-through v (x ∷ xs) ys not =
-    images-more v x (xs ++ ys) (All-head (λ told. is_measuring v told ≡ false) x xs not) ∙ images-through v xs ys (All-tail (λ told. is_measuring v told ≡ false) x xs not)
+pub measurement-through : (v : ℕ) (xs ys : List Event) → All (λ told. is_measuring v told ≡ false) xs → measurement_told v (xs ++ ys) ≡ measurement_told v ys
+measurement-through v [] ys not = refl
+measurement-through v (x ∷ xs) ys not =
+    measurement-more v x (xs ++ ys) (All-head (λ told. is_measuring v told ≡ false) x xs not) ∙ measurement-through v xs ys (All-tail (λ told. is_measuring v told ≡ false) x xs not)
 
 pub measures-not : (v : ℕ) (told : Event) → is_turn v Active told ≡ false → is_turn v Dead told ≡ false → is_measuring v told ≡ false
 measures-not v told active dead = cond-false (is_turn v Active told) true _ active ∙ dead
@@ -130,18 +130,18 @@ line-here v n old new phase (w ∷ ws) ys any is = elim (cases_eq w v) [
       ∙ line-here v n old new phase ws ys (rw (ne_eqb w v other) at any) is
 ]
 
--- the images that are reported of a slot that turned and is measured are those from before the call
-pub images-here : (v n : ℕ) (old new : State) (phase : Phase) (vs : List ℕ) (ys : List Event) → list_any (λ w. nat_eq w v) vs ≡ true → ((told : Event) → is_turn v phase told ≡ true → is_measuring v told ≡ true) → (slot_at new v).phase ≡ phase
-    → images_told v (map (slot_event n old new) vs ++ ys) ≡ images_for phase (measured_images old v)
-images-here v n old new phase [] ys any measures is = cc
-images-here v n old new phase (w ∷ ws) ys any measures is = elim (cases_eq w v) [
+-- what is reported as measured of a slot that turned is what was there before the call
+pub measurement-here : (v n : ℕ) (old new : State) (phase : Phase) (vs : List ℕ) (ys : List Event) → list_any (λ w. nat_eq w v) vs ≡ true → ((told : Event) → is_turn v phase told ≡ true → is_measuring v told ≡ true) → (slot_at new v).phase ≡ phase
+    → measurement_told v (map (slot_event n old new) vs ++ ys) ≡ measurement_for phase (measurement old v)
+measurement-here v n old new phase [] ys any measures is = cc
+measurement-here v n old new phase (w ∷ ws) ys any measures is = elim (cases_eq w v) [
   | inl same ↦
-      cond-true (is_measuring v (slot_event n old new w)) (phase_change n old new w).images _ (measures (slot_event n old new w) (turn-here v n old new w phase same is))
-      ∙ ap (λ k. images_for (slot_at new k).phase (measured_images old k)) same ∙ ap (λ p. images_for p (measured_images old v)) is
+      cond-true (is_measuring v (slot_event n old new w)) (phase_change n old new w).measurement _ (measures (slot_event n old new w) (turn-here v n old new w phase same is))
+      ∙ ap (λ k. measurement_for (slot_at new k).phase (measurement old k)) same ∙ ap (λ p. measurement_for p (measurement old v)) is
   | inr other ↦
-      images-more v (slot_event n old new w) (map (slot_event n old new) ws ++ ys)
+      measurement-more v (slot_event n old new w) (map (slot_event n old new) ws ++ ys)
       (measures-not v (slot_event n old new w) (turn-not v n old new w Active (λ same. absurd (other same))) (turn-not v n old new w Dead (λ same. absurd (other same))))
-      ∙ images-here v n old new phase ws ys (rw (ne_eqb w v other) at any) measures is
+      ∙ measurement-here v n old new phase ws ys (rw (ne_eqb w v other) at any) measures is
 ]
 
 -- the last events of a life
@@ -149,7 +149,7 @@ pub record IsEnd (v n : ℕ) (told : List Event) : Type 0 where
   pub quiet : All (IsQuiet v) told
   pub ended : line_of_turn v Empty told ≡ Some n
   pub unturned : (phase : Phase) → (phase ≡ Empty → ⊥) → line_of_turn v phase told ≡ None
-  pub unmeasured : images_told v told ≡ []
+  pub unmeasured : measurement_told v told ≡ nothing_measured
 
 -- if a call empties the slot, the slot's life ends among the call's events of slots
 pub life-ends : (v n : ℕ) (old new : State) (vs : List ℕ) (ys : List Event) → list_any (λ w. nat_eq w v) vs ≡ true → (slot_at new v).phase ≡ Empty → IsEnd v n (life_in v (map (slot_event n old new) vs ++ ys))
@@ -164,7 +164,7 @@ life-ends v n old new (w ∷ ws) ys any is =
             quiet = All-cons (IsQuiet v) told [] (slot-quiet v n old new w) (All-nil (IsQuiet v));
             ended = cond-true ((nat_eq w v) && same_phase (slot_at new w).phase Empty) (Some n) None (turn-here v n old new w Empty same is);
             unturned = λ phase differs. line-more v phase told [] (turn-not v n old new w phase (λ e there. differs (sym there ∙ is)));
-            unmeasured = images-more v told [] (measures-not v told (turn-not v n old new w Active (λ e there. let h = sym is ∙ there in cc)) (turn-not v n old new w Dead (λ e there. let h = sym is ∙ there in cc)));
+            unmeasured = measurement-more v told [] (measures-not v told (turn-not v n old new w Active (λ e there. let h = sym is ∙ there in cc)) (turn-not v n old new w Dead (λ e there. let h = sym is ∙ there in cc)));
           })
       | inr other ↦
           let rest = life-ends v n old new ws ys (rw (ne_eqb w v other) at any) is in
@@ -174,6 +174,6 @@ life-ends v n old new (w ∷ ws) ys any is =
             quiet = All-cons (IsQuiet v) told (life_in v more) (slot-quiet v n old new w) rest.quiet;
             ended = line-more v Empty told (life_in v more) (not_here Empty) ∙ rest.ended;
             unturned = λ phase differs. line-more v phase told (life_in v more) (not_here phase) ∙ rest.unturned phase differs;
-            unmeasured = images-more v told (life_in v more) (measures-not v told (not_here Active) (not_here Dead)) ∙ rest.unmeasured;
+            unmeasured = measurement-more v told (life_in v more) (measures-not v told (not_here Active) (not_here Dead)) ∙ rest.unmeasured;
           })
     ]

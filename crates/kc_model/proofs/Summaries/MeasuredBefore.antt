@@ -1,4 +1,4 @@
--- The turns of a slot, and the images, that are told of a VM that is there before the first call: what its state says
+-- The turns of a slot, and the measurement, that are reported of a VM that is there before the first call: what its state says
 -- on the header's line, and then what calls do.
 use Rattle.std.proofs.Common.{ℕ, ◌≡◌, ◌<◌, inl, inr, Bool, true, false, not, ◌&&◌, nat_eq, List, [], ◌++◌, All, Option, Some, None, refl, sym, ap, ap₂, subst, ◌∙◌, arith, append_assoc}
 use Rattle.std.specs.List.{list_any, range_with_len}
@@ -12,17 +12,17 @@ use Rattle.kc_types.specs.declared.custody.Event.{Event}
 use Rattle.kc_model.specs.State.{State, slot_at}
 use Rattle.kc_model.specs.Boot.{boot}
 use Rattle.kc_model.specs.Lawful.{IsLawful}
-use Rattle.kc_model.specs.Custody.{same_phase, frame_changes_by}
-use Rattle.kc_model.specs.Lives.{is_turn, is_measuring, line_of_turn, images_told}
+use Rattle.kc_model.specs.Custody.{same_phase, frame_changes_by, nothing_measured}
+use Rattle.kc_model.specs.Lives.{is_turn, is_measuring, line_of_turn, measurement_told}
 use Rattle.kc_model.specs.Before.{header_line, is_taken, is_measured, turn_before, slots_that}
-use Rattle.kc_model.specs.Summaries.{last_place, place_after, phase_at, measured_on, measured_since, IsFirstIn}
+use Rattle.kc_model.specs.Summaries.{last_place, place_after, phase_at, measured_on, measured_since, either_measured, IsFirstIn}
 use Rattle.kc_model.proofs.Custody.Told.{among-range}
 use Rattle.kc_model.proofs.Summaries.Called.{frames-all}
-use Rattle.kc_model.proofs.Summaries.Lived.{IsInLife, line-through, images-through, measure-not}
+use Rattle.kc_model.proofs.Summaries.Lived.{IsInLife, line-through, measurement-through, measure-not}
 use Rattle.kc_model.proofs.Summaries.Lives.{IsLife}
 use Rattle.kc_model.proofs.Summaries.Images.{IsMeasuredOnce}
 use Rattle.kc_model.proofs.Summaries.Brought.{AreTurns}
-use Rattle.kc_model.proofs.Summaries.Before.{turns_before, frames_before, measured_before, registered_before, told_before, turn-is, turn-other, turns-other, turns-line, turns-images}
+use Rattle.kc_model.proofs.Summaries.Before.{turns_before, frames_before, measured_before, registered_before, told_before, turn-is, turn-other, turns-other, turns-line, turns-measurement}
 
 -- a phase in which a slot has been measured
 abbrev is_settled : Phase → Bool
@@ -87,33 +87,33 @@ module _ (m : State) (v : ℕ) (low : v < slot_count m.config) (ws : List ℕ) (
       ∙ line-through v phase (registered_before m ws) (measured_before m ++ rest) (registered-none phase)
       ∙ turns-line v phase_of phase (slots_that is_measured m) rest (among phase settled so) so
 
-  images-before : (phase : Phase) (rest : List Event) → is_settled phase ≡ true → phase_of v ≡ phase → is_measuring v (turn_before (phase_of v) v) ≡ true → images_told v (told_before m ws ++ rest) ≡ []
-  images-before phase rest settled so measures =
-      ap (images_told v) (append_assoc (registered_before m ws) (measured_before m) rest)
-      ∙ images-through v (registered_before m ws) (measured_before m ++ rest) (measure-not v (registered_before m ws) (registered-none Active) (registered-none Dead))
-      ∙ turns-images v phase_of (slots_that is_measured m) rest (among phase settled so) measures
+  measurement-before : (phase : Phase) (rest : List Event) → is_settled phase ≡ true → phase_of v ≡ phase → is_measuring v (turn_before (phase_of v) v) ≡ true → measurement_told v (told_before m ws ++ rest) ≡ nothing_measured
+  measurement-before phase rest settled so measures =
+      ap (measurement_told v) (append_assoc (registered_before m ws) (measured_before m) rest)
+      ∙ measurement-through v (registered_before m ws) (measured_before m ++ rest) (measure-not v (registered_before m ws) (registered-none Active) (registered-none Dead))
+      ∙ turns-measurement v phase_of (slots_that is_measured m) rest (among phase settled so) measures
 
   -- or else later events say when it turns
   line-after : (phase : Phase) (rest : List Event) → (phase_of v ≡ phase → ⊥) → line_of_turn v phase (told_before m ws ++ rest) ≡ line_of_turn v phase rest
   line-after phase rest differs = line-through v phase (told_before m ws) rest (told-none phase differs)
 
-  images-after : (rest : List Event) → (phase_of v ≡ Active → ⊥) → (phase_of v ≡ Dead → ⊥) → images_told v (told_before m ws ++ rest) ≡ images_told v rest
-  images-after rest active dead = images-through v (told_before m ws) rest (measure-not v (told_before m ws) (told-none Active active) (told-none Dead dead))
+  measurement-after : (rest : List Event) → (phase_of v ≡ Active → ⊥) → (phase_of v ≡ Dead → ⊥) → measurement_told v (told_before m ws ++ rest) ≡ measurement_told v rest
+  measurement-after rest active dead = measurement-through v (told_before m ws) rest (measure-not v (told_before m ws) (told-none Active active) (told-none Dead dead))
 
 module _ (m : State) (calls : List Call) (is : IsLawful m) (v : ℕ) (low : v < slot_count m.config) (ws : List ℕ) (others : All (λ w. w ≡ v → ⊥) ws) where
   abbrev starts_in : Phase → Type 0
   starts_in phase = (slot_at m v).phase ≡ phase
 
-  -- the turns and the images of a life that is under way, by what its calls tell
+  -- the turns and the measurement of a life that is under way, by what its calls tell
   pub record IsSettled (end : Option ℕ) (rest : List Event) : Type 0 where
     pub turns : AreTurns m calls v 0 end (told_before m ws ++ rest)
-    pub images : images_told v (told_before m ws ++ rest) ≡ measured_since m calls v (line_of_turn v Active (told_before m ws ++ rest)) ++ measured_since m calls v (line_of_turn v Dead (told_before m ws ++ rest))
+    pub measurement : measurement_told v (told_before m ws ++ rest) ≡ either_measured (measured_since m calls v (line_of_turn v Active (told_before m ws ++ rest))) (measured_since m calls v (line_of_turn v Dead (told_before m ws ++ rest)))
 
   -- a turn by a call is not on the header's line
   since-is : (phase : Phase) (j : ℕ) (line : Option ℕ) → (starts_in phase → ⊥) → IsFirstIn m calls v phase 0 j line → measured_since m calls v line ≡ measured_on m calls v line
   since-is phase j None differs first = refl
   since-is phase j (Some line) differs first =
-      cond-false (nat_eq line header_line) [] (measured_on m calls v (Some line)) (ne_eqb line header_line (λ same. differs (subst (λ n. phase_at m calls v (place_after n) ≡ phase) same first.2)))
+      cond-false (nat_eq line header_line) nothing_measured (measured_on m calls v (Some line)) (ne_eqb line header_line (λ same. differs (subst (λ n. phase_at m calls v (place_after n) ≡ phase) same first.2)))
 
   module _ (some : starts_in Empty → ⊥) (end : Option ℕ) (rest : List Event) (life : IsLife m calls is v low 0 rest end) (measured : IsMeasuredOnce m calls is v low 0 rest) where
     abbrev all : List Event
@@ -148,7 +148,7 @@ module _ (m : State) (calls : List Call) (is : IsLawful m) (v : ℕ) (low : v < 
               | inr none ↦ inr (line-after m v low ws others Dead rest alive ∙ none)
             ];
           };
-          images = images-after m v low ws others rest inactive alive ∙ measured.images ∙ sym (ap₂ ◌++◌ (since-after Active (λ e. cc) inactive) (since-after Dead (λ e. cc) alive));
+          measurement = measurement-after m v low ws others rest inactive alive ∙ measured.measurement ∙ sym (ap₂ either_measured (since-after Active (λ e. cc) inactive) (since-after Dead (λ e. cc) alive));
         }
     settled-in Active so =
         let alive : starts_in Dead → ⊥ = λ e. (let h = sym so ∙ e in cc) in
@@ -162,9 +162,9 @@ module _ (m : State) (calls : List Call) (is : IsLawful m) (v : ℕ) (low : v < 
             dead = first-after Dead (λ e. cc) alive;
             once = inr dead;
           };
-          images =
-              images-before m v low ws others Active rest refl so (cond-true (is_turn v Active told) true _ (turn-is v v (slot_at m v).phase Active refl so))
-              ∙ sym (ap₂ (λ a d. measured_since m calls v a ++ measured_since m calls v d) active dead);
+          measurement =
+              measurement-before m v low ws others Active rest refl so (cond-true (is_turn v Active told) true _ (turn-is v v (slot_at m v).phase Active refl so))
+              ∙ sym (ap₂ (λ a d. either_measured (measured_since m calls v a) (measured_since m calls v d)) active dead);
         }
     settled-in Dead so =
         let inactive : starts_in Active → ⊥ = λ e. (let h = sym so ∙ e in cc) in
@@ -178,10 +178,10 @@ module _ (m : State) (calls : List Call) (is : IsLawful m) (v : ℕ) (low : v < 
             dead = first-before Dead refl so;
             once = inl active;
           };
-          images =
-              images-before m v low ws others Dead rest refl so
+          measurement =
+              measurement-before m v low ws others Dead rest refl so
               (cond-false (is_turn v Active told) true _ (turn-other v v (slot_at m v).phase Active (λ same. inactive)) ∙ turn-is v v (slot_at m v).phase Dead refl so)
-              ∙ sym (ap₂ (λ a d. measured_since m calls v a ++ measured_since m calls v d) active dead);
+              ∙ sym (ap₂ (λ a d. either_measured (measured_since m calls v a) (measured_since m calls v d)) active dead);
         }
 
     pub settled-before : IsSettled end rest

@@ -95,7 +95,7 @@ module _ (m : State) (calls : List Call) (is : IsLawful m) where
         lived = lived m calls is v low (first_line + k) (suc k) [] (life_in v more) more line brings life turns;
         within = omega arith;
         registered = subst (λ i. registered_by (call_at calls i) (reply_at m calls i) ≡ Some v) call by.by;
-        images = measured.images;
+        measurement = measured.measurement;
         shared = shared ∙ ap (λ end. begun_from m calls v (suc k) (last_place calls end)) life.ended;
       } in
       subst (λ i. IsSummary m calls (life_of v (first_line + k) more) i (last_place calls (line_of_turn v Empty (life_in v more)))) place

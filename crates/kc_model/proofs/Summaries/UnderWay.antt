@@ -62,7 +62,7 @@ module _ (m : State) (calls : List Call) (is : IsLawful m) where
       let all : IsUnderWay m calls (life_by v header_line (first ++ rest) (first ++ later)) (last_place calls life.0) = record {
         lived = lived m calls is v low header_line 0 first rest (first ++ later) life.0 (brings-before m calls is v low ws) life.1 settled.turns;
         registered = refl;
-        images = settled.images;
+        measurement = settled.measurement;
         shared = shared-before m calls v low ws others some
             ∙ ap (λ (begun : List Sharing). map (sharing_before m calls) (filter (is_shared_before m v) (range_with_len 0 m.config.frames)) ++ begun) (shared ∙ ap (λ end. begun_from m calls v 0 (last_place calls end)) life.1.ended);
       } in

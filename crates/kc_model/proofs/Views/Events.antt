@@ -3,7 +3,7 @@ use Rattle.std.proofs.Common.{ℕ, zero, suc, ◌≡◌, ◌<◌, ◌⊎◌, inl
 use Rattle.std.proofs.lemmas.Bool.{cases_eq}
 use Rattle.std.specs.List.{range_with_len}
 use Rattle.sha2.specs.Sha256.{sha256}
-use Rattle.kc_types.specs.Configuration.{Configuration, slot_count}
+use Rattle.kc_types.specs.Configuration.{Configuration, slot_count, measures_launch}
 use Rattle.kc_types.specs.declared.call.Call.{Call}
 use Rattle.kc_types.specs.declared.call.Call.TheVariants.{HostRead, HostWrite, RegisterVm, Verify, GuestWrite, Clear}
 use Rattle.kc_types.specs.declared.reply.Reply.{Reply}
@@ -11,15 +11,16 @@ use Rattle.kc_types.specs.declared.reply.Reply.TheVariants as reply
 use Rattle.kc_types.specs.declared.refusal.Refusal.{Refusal}
 use Rattle.kc_types.specs.declared.custody.Event.TheVariants as event
 use Rattle.kc_types.specs.declared.custody.Change.TheVariants as change
-use Rattle.kc_types.specs.declared.custody.MeasuredImage.{MeasuredImage}
+use Rattle.kc_types.specs.declared.custody.Measurement.{Measurement}
 use Rattle.kc_model.specs.State.{State, Frame, Slot, frame_at, slot_at, with_slot, no_slot, empty_slot}
 use Rattle.kc_model.specs.Refusals.{refusal}
 use Rattle.kc_model.specs.Effects.{effect}
 use Rattle.kc_model.specs.Next.{next, unless_refused}
 use Rattle.kc_model.specs.Lawful.{IsLawful}
-use Rattle.kc_model.specs.Custody.{same_custody, has_moved, frame_change, frame_changes_by, same_phase, has_turned, measured_image, measured_images, images_for, phase_change, phase_changes_by, changes_by}
+use Rattle.kc_model.specs.Custody.{same_custody, has_moved, frame_change, frame_changes_by, same_phase, has_turned, measured_image, measured_images, measurement, nothing_measured, measurement_for, phase_change, phase_changes_by, changes_by}
 use Rattle.kc_model.specs.Events.{of_owner, access_by, events_by}
 use Rattle.kc_model.specs.Redaction.{keeps_images, redacted_reply}
+use Rattle.kc_model.proofs.States.Approvals.{digest-same}
 use Rattle.kc_model.proofs.States.Phases.{phase-effect}
 use Rattle.kc_model.proofs.Safe.Measured.{set-here}
 use Rattle.kc_model.proofs.Lawful.Verifies.{verify-served}
@@ -49,81 +50,85 @@ frames-told view line m n m' n' before after =
     (λ f h. ap₂ (λ a b. record { line = line; frame = f; before = a; after = b }) (before.frames f).custody (after.frames f).custody)
     ∙ ap (λ (c : Configuration). map (frame_change line m m') (filter (has_moved m m') (range_with_len 0 c.frames))) config
 
--- the images of a slot that the call turns are the same if they are reported
-abbrev pub SameImages : State → State → State → Type 0
-SameImages m n m' = (v : ℕ) → has_turned m m' v ≡ true → images_for (slot_at m' v).phase (measured_images n v) ≡ images_for (slot_at m' v).phase (measured_images m v)
+-- what is measured of a slot that the call turns is the same if it is reported
+abbrev pub SameMeasurement : State → State → State → Type 0
+SameMeasurement m n m' = (v : ℕ) → has_turned m m' v ≡ true → measurement_for (slot_at m' v).phase (measurement n v) ≡ measurement_for (slot_at m' v).phase (measurement m v)
 
 -- what is reported of slots
-slots-told : (view : View) (line : ℕ) (m n m' n' : State) → Alike view m n → Alike view m' n' → SameImages m n m' → phase_changes_by line n n' ≡ phase_changes_by line m m'
-slots-told view line m n m' n' before after images =
+slots-told : (view : View) (line : ℕ) (m n m' n' : State) → Alike view m n → Alike view m' n' → SameMeasurement m n m' → phase_changes_by line n n' ≡ phase_changes_by line m m'
+slots-told view line m n m' n' before after measured =
     let config = before.config in
     let first = before.slots in
     let second = after.slots in
     let turned : (v : ℕ) → has_turned n n' v ≡ has_turned m m' v = λ v. ap₂ (λ (a b : List Slot). not (same_phase (get_or a v no_slot).phase (get_or b v no_slot).phase)) first second in
     picked-same (has_turned n n') (has_turned m m') (phase_change line n n') (phase_change line m m') (range_with_len 0 (slot_count n.config)) turned
     (λ v h.
-    ap (λ (slots : List Slot). record { line = line; vm = v; phase = (get_or slots v no_slot).phase; images = images_for (get_or slots v no_slot).phase (measured_images n v) }) second
-    ∙ ap (λ told. record { line = line; vm = v; phase = (slot_at m' v).phase; images = told }) (images v (sym (turned v) ∙ h)))
+    ap (λ (slots : List Slot). record { line = line; vm = v; phase = (get_or slots v no_slot).phase; measurement = measurement_for (get_or slots v no_slot).phase (measurement n v) }) second
+    ∙ ap (λ told. record { line = line; vm = v; phase = (slot_at m' v).phase; measurement = told }) (measured v (sym (turned v) ∙ h)))
     ∙ ap (λ (c : Configuration). map (phase_change line m m') (filter (has_turned m m') (range_with_len 0 (slot_count c)))) config
 
 -- what is reported of a call
-pub changes-told : (view : View) (line : ℕ) (m n m' n' : State) → Alike view m n → Alike view m' n' → SameImages m n m' → changes_by line n n' ≡ changes_by line m m'
-changes-told view line m n m' n' before after images =
-    ap₂ ◌++◌ (ap (map change.Frame) (frames-told view line m n m' n' before after)) (ap (map change.Phase) (slots-told view line m n m' n' before after images))
+pub changes-told : (view : View) (line : ℕ) (m n m' n' : State) → Alike view m n → Alike view m' n' → SameMeasurement m n m' → changes_by line n n' ≡ changes_by line m m'
+changes-told view line m n m' n' before after measured =
+    ap₂ ◌++◌ (ap (map change.Frame) (frames-told view line m n m' n' before after)) (ap (map change.Phase) (slots-told view line m n m' n' before after measured))
 
--- a slot that is reported without images: it stays in its phase, or is booting or empty after the call
+-- a slot that is reported without a measurement: it stays in its phase, or is booting or empty after the call
 abbrev IsQuiet : State → State → ℕ → Type 0
-IsQuiet m m' v = ((slot_at m' v).phase ≡ (slot_at m v).phase) ⊎ ((images : List MeasuredImage) → images_for (slot_at m' v).phase images ≡ [])
+IsQuiet m m' v = ((slot_at m' v).phase ≡ (slot_at m v).phase) ⊎ ((measured : Measurement) → measurement_for (slot_at m' v).phase measured ≡ nothing_measured)
 
-quiet-images : (m n m' : State) (v : ℕ) → IsQuiet m m' v → has_turned m m' v ≡ true → images_for (slot_at m' v).phase (measured_images n v) ≡ images_for (slot_at m' v).phase (measured_images m v)
-quiet-images m n m' v quiet turned = elim quiet [
+quiet-measurement : (m n m' : State) (v : ℕ) → IsQuiet m m' v → has_turned m m' v ≡ true → measurement_for (slot_at m' v).phase (measurement n v) ≡ measurement_for (slot_at m' v).phase (measurement m v)
+quiet-measurement m n m' v quiet turned = elim quiet [
   | inl same ↦ let still = not-turned m m' v same in absurd cc
-  | inr none ↦ none (measured_images n v) ∙ sym (none (measured_images m v))
+  | inr none ↦ none (measurement n v) ∙ sym (none (measurement m v))
 ]
 
--- a slot is written in a phase without images
-written-quiet : (m : State) (w : ℕ) (slot : Slot) (v : ℕ) → ((images : List MeasuredImage) → images_for slot.phase images ≡ []) → IsQuiet m (with_slot m w slot) v
+-- a slot is written in a phase without a measurement
+written-quiet : (m : State) (w : ℕ) (slot : Slot) (v : ℕ) → ((measured : Measurement) → measurement_for slot.phase measured ≡ nothing_measured) → IsQuiet m (with_slot m w slot) v
 written-quiet m w slot v none = elim (cases_eq v w) [
   | inl same ↦ elim (set-here m.slots w slot no_slot) [
-    | inl is ↦ inr (λ images. ap (λ k. images_for (slot_at (with_slot m w slot) k).phase images) same ∙ ap (λ (s : Slot). images_for s.phase images) is ∙ none images)
-    | inr is ↦ inr (λ images. ap (λ k. images_for (slot_at (with_slot m w slot) k).phase images) same ∙ ap (λ (s : Slot). images_for s.phase images) is)
+    | inl is ↦ inr (λ measured. ap (λ k. measurement_for (slot_at (with_slot m w slot) k).phase measured) same ∙ ap (λ (s : Slot). measurement_for s.phase measured) is ∙ none measured)
+    | inr is ↦ inr (λ measured. ap (λ k. measurement_for (slot_at (with_slot m w slot) k).phase measured) same ∙ ap (λ (s : Slot). measurement_for s.phase measured) is)
   ]
   | inr other ↦ inl (ap (λ (s : Slot). s.phase) (get_or-set_other m.slots w v slot no_slot other))
 ]
 
--- the images of the slot that is measured
-verify-images : (view : View) (m : State) (ys : List Frame) (w : ℕ) → IsLawful m → IsLawful (beside m ys) → Alike view m (beside m ys) → refusal m (Verify w) ≡ None → measured_images (beside m ys) w ≡ measured_images m w
-verify-images view m ys w is other_is differ served =
+-- what is measured of the slot
+verify-measurement : (view : View) (m : State) (ys : List Frame) (w : ℕ) → IsLawful m → IsLawful (beside m ys) → Alike view m (beside m ys) → refusal m (Verify w) ≡ None → measurement (beside m ys) w ≡ measurement m w
+verify-measurement view m ys w is other_is differ served =
     let seen = verify-served m w served in
+    let same = image-same view m ys is other_is differ.number differ.frames w seen.0 seen.1 seen.2 in
+    let images : measured_images (beside m ys) w ≡ measured_images m w =
     maps-same (measured_image (beside m ys) w) (measured_image m w) (slot_at m w).images (λ i d lt.
     let image = get_or (slot_at m w).images i d in
-    ap (λ bytes. record { base = image.base; len = image.len; digest = sha256 bytes }) (image-same view m ys is other_is differ.number differ.frames w seen.0 seen.1 seen.2 i d lt))
+    ap (λ bytes. record { base = image.base; len = image.len; digest = sha256 bytes }) (same i d lt)) in
+    let launch = digest-same (beside m ys) m w (record { version = refl; approved = refl; images = refl; bytes = same }) in
+    ap₂ (λ measured digest. record { images = measured; launch = cond (measures_launch m.config.version) (Some digest) None }) images launch
 
-by-quiet : (m : State) (ys : List Frame) (call : Call) (v : ℕ) → IsQuiet m (effect m call).1 v → has_turned m (effect m call).1 v ≡ true → images_for (slot_at (effect m call).1 v).phase (measured_images (beside m ys) v) ≡ images_for (slot_at (effect m call).1 v).phase (measured_images m v)
-by-quiet m ys call v quiet turned = quiet-images m (beside m ys) (effect m call).1 v quiet turned
+by-quiet : (m : State) (ys : List Frame) (call : Call) (v : ℕ) → IsQuiet m (effect m call).1 v → has_turned m (effect m call).1 v ≡ true → measurement_for (slot_at (effect m call).1 v).phase (measurement (beside m ys) v) ≡ measurement_for (slot_at (effect m call).1 v).phase (measurement m v)
+by-quiet m ys call v quiet turned = quiet-measurement m (beside m ys) (effect m call).1 v quiet turned
 
 same-slot : (w v : ℕ) → Some w ≡ Some v → v ≡ w
 same-slot w v e = cc
 
-images-effect : (view : View) (m : State) (ys : List Frame) (call : Call) → IsLawful m → IsLawful (beside m ys) → Alike view m (beside m ys) → refusal m call ≡ None → SameImages m (beside m ys) (effect m call).1
-images-effect view m ys (RegisterVm w) is other_is differ served v turned = by-quiet m ys (RegisterVm w) v (written-quiet m w _ v (λ images. refl)) turned
-images-effect view m ys (Verify w) is other_is differ served v turned = elim (cases_eq v w) [
-  | inl same ↦ ap (images_for (slot_at (effect m (Verify w)).1 v).phase) (subst (λ k. measured_images (beside m ys) k ≡ measured_images m k) (sym same) (verify-images view m ys w is other_is differ served))
+measurement-effect : (view : View) (m : State) (ys : List Frame) (call : Call) → IsLawful m → IsLawful (beside m ys) → Alike view m (beside m ys) → refusal m call ≡ None → SameMeasurement m (beside m ys) (effect m call).1
+measurement-effect view m ys (RegisterVm w) is other_is differ served v turned = by-quiet m ys (RegisterVm w) v (written-quiet m w _ v (λ measured. refl)) turned
+measurement-effect view m ys (Verify w) is other_is differ served v turned = elim (cases_eq v w) [
+  | inl same ↦ ap (measurement_for (slot_at (effect m (Verify w)).1 v).phase) (subst (λ k. measurement (beside m ys) k ≡ measurement m k) (sym same) (verify-measurement view m ys w is other_is differ served))
   | inr other ↦ by-quiet m ys (Verify w) v (inl (phase-effect m (Verify w) v (λ e. other (same-slot w v e)))) turned
 ]
-images-effect view m ys (Clear w) is other_is differ served v turned = by-quiet m ys (Clear w) v (written-quiet m w (empty_slot m.config.version) v (λ images. refl)) turned
-images-effect view m ys call is other_is differ served v turned = by-quiet m ys call v (inl (phase-effect m call v (λ e. cc))) turned
+measurement-effect view m ys (Clear w) is other_is differ served v turned = by-quiet m ys (Clear w) v (written-quiet m w (empty_slot m.config.version) v (λ measured. refl)) turned
+measurement-effect view m ys call is other_is differ served v turned = by-quiet m ys call v (inl (phase-effect m call v (λ e. cc))) turned
 
-images-unless : (refused : Option Refusal) (view : View) (m : State) (ys : List Frame) (call : Call) → IsLawful m → IsLawful (beside m ys) → Alike view m (beside m ys) → refusal m call ≡ refused → SameImages m (beside m ys) (unless_refused refused m call).1
-images-unless None view m ys call is other_is differ served v turned = images-effect view m ys call is other_is differ served v turned
-images-unless (Some r) view m ys call is other_is differ served v turned = quiet-images m (beside m ys) m v (inl refl) turned
+measurement-unless-refused : (refused : Option Refusal) (view : View) (m : State) (ys : List Frame) (call : Call) → IsLawful m → IsLawful (beside m ys) → Alike view m (beside m ys) → refusal m call ≡ refused → SameMeasurement m (beside m ys) (unless_refused refused m call).1
+measurement-unless-refused None view m ys call is other_is differ served v turned = measurement-effect view m ys call is other_is differ served v turned
+measurement-unless-refused (Some r) view m ys call is other_is differ served v turned = quiet-measurement m (beside m ys) m v (inl refl) turned
 
-images-next : (view : View) (m n : State) (call : Call) → IsLawful m → IsLawful n → Alike view m n → SameImages m n (next m call).1
+measurement-next : (view : View) (m n : State) (call : Call) → IsLawful m → IsLawful n → Alike view m n → SameMeasurement m n (next m call).1
 unfolding next
-images-next view m n call is other_is differ =
+measurement-next view m n call is other_is differ =
     let same = beside-is view m n differ in
-    subst (λ (x : State). SameImages m x (next m call).1) same
-    (images-unless (refusal m call) view m n.frames call is (subst IsLawful (sym same) other_is) (subst (λ (x : State). Alike view m x) (sym same) differ) refl)
+    subst (λ (x : State). SameMeasurement m x (next m call).1) same
+    (measurement-unless-refused (refusal m call) view m n.frames call is (subst IsLawful (sym same) other_is) (subst (λ (x : State). Alike view m x) (sym same) differ) refl)
 
 -- the host's accesses
 
@@ -160,4 +165,4 @@ pub events-told : (view : View) (k : ℕ) (m n : State) (call : Call) (other : L
 events-told view k m n call other is_view is other_is differ may keeps =
     let both = step view m n call other is_view is other_is differ may keeps in
     ap₂ ◌++◌ (access-told view m n call other (next m call).0 (next n (with_bytes call other)).0 differ both.answer)
-    (ap (map event.Change) (changes-told view k m n (next m call).1 (next n (with_bytes call other)).1 differ both.states (images-next view m n call is other_is differ)))
+    (ap (map event.Change) (changes-told view k m n (next m call).1 (next n (with_bytes call other)).1 differ both.states (measurement-next view m n call is other_is differ)))

@@ -16,4 +16,5 @@ returns c =
     let many_is = c.in_ok-subcommand-2.ensures.shape c.in_ok-custody.ensures.local ∙ ap₂ with_subcommand more_is (ap (λ (a : App). a.top) c.in_ok-custody.ensures.app) in
     let most_is = c.in_ok-subcommand-3.ensures.shape c.in_ok-audit.ensures.local ∙ ap₂ with_subcommand many_is (ap (λ (a : App). a.top) c.in_ok-audit.ensures.app) in
     let nearly_is = c.in_ok-subcommand-4.ensures.shape c.in_ok-redact.ensures.local ∙ ap₂ with_subcommand most_is (ap (λ (a : App). a.top) c.in_ok-redact.ensures.app) in
-    record { app = IfOk-weaker c.subcommand-6.result _ _ (λ r h. h.shape c.in_ok-convert.ensures.local ∙ ap₂ with_subcommand nearly_is (ap (λ (a : App). a.top) c.in_ok-convert.ensures.app)) c.subcommand-6.ensures }
+    let almost_is = c.in_ok-subcommand-5.ensures.shape c.in_ok-convert.ensures.local ∙ ap₂ with_subcommand nearly_is (ap (λ (a : App). a.top) c.in_ok-convert.ensures.app) in
+    record { app = IfOk-weaker c.subcommand-7.result _ _ (λ r h. h.shape c.in_ok-measure.ensures.local ∙ ap₂ with_subcommand almost_is (ap (λ (a : App). a.top) c.in_ok-measure.ensures.app)) c.subcommand-7.ensures }

@@ -1,18 +1,35 @@
-use Rattle.std.proofs.Common.{◌≡◌, Err, arith}
-use Rattle.kc_types.specs.declared.call.Call.TheVariants.{Verify}
-use Rattle.kc_core.proofs.Answered.{answer-refused, answer-served}
+use Rattle.std.proofs.Common.{◌≡◌, Err, ap₂, ◌∙◌, arith}
+use Rattle.kc_core.specs.Verifying.{rejected_for}
+use Rattle.kc_core.proofs.Answered.{answer-refused}
+use Rattle.kc_core.proofs.Imaged.{slot-verified, images-needed, rejected-is}
 use Rattle.kc_core.proofs.verify.verify.Goals as goal
 
-pub measure_slot-requires-clause-served : goal.measure_slot-requires-clause-served
-measure_slot-requires-clause-served c = rw c.in_ok-vm.ensures.slot c.in_ok-vm.ensures.answer
+pub measured_images-images-requires-clause-slot : goal.measured_images-images-requires-clause-slot
+measured_images-images-requires-clause-slot c = slot-verified _ _ _ (rw c.in_ok-vm.ensures.slot c.requires) (rw c.in_ok-vm.ensures.slot c.in_ok-vm.ensures.answer)
 
-pub measure_slot-requires-clause-able : goal.measure_slot-requires-clause-able
-measure_slot-requires-clause-able c = rw c.in_ok-vm.ensures.slot c.requires
+pub measured_images-images-requires-clause-here : goal.measured_images-images-requires-clause-here
+measured_images-images-requires-clause-here c = images-needed _ _ _ (rw c.in_ok-vm.ensures.slot c.requires) (rw c.in_ok-vm.ensures.slot c.in_ok-vm.ensures.answer)
+
+pub launch_of-launch-requires-clause-slot : goal.launch_of-launch-requires-clause-slot
+launch_of-launch-requires-clause-slot c = slot-verified _ _ _ (rw c.in_ok-vm.ensures.slot c.requires) (rw c.in_ok-vm.ensures.slot c.in_ok-vm.ensures.answer)
+
+pub launch_of-launch-requires-clause-here : goal.launch_of-launch-requires-clause-here
+launch_of-launch-requires-clause-here c = images-needed _ _ _ (rw c.in_ok-vm.ensures.slot c.requires) (rw c.in_ok-vm.ensures.slot c.in_ok-vm.ensures.answer)
+
+pub end_boot-reply-requires-clause-served : goal.end_boot-reply-requires-clause-served
+end_boot-reply-requires-clause-served c = rw c.in_ok-vm.ensures.slot c.in_ok-vm.ensures.answer
+
+pub end_boot-reply-requires-clause-able : goal.end_boot-reply-requires-clause-able
+end_boot-reply-requires-clause-able c = rw c.in_ok-vm.ensures.slot c.requires
+
+pub end_boot-reply-requires-clause-rejected : goal.end_boot-reply-requires-clause-rejected
+end_boot-reply-requires-clause-rejected c =
+    c.unapproved-rejected.ensures
+    ∙ ap₂ (rejected_for c.args.config.now) (c.as_slice.ensures.value ∙ c.measured_images-images.ensures) c.launch_of-launch.ensures
+    ∙ rejected-is c.args.config.now c.args.parts.now c.in_ok-vm.vm
 
 pub returns-clause-answer : goal.returns-clause-answer
-returns-clause-answer c =
-    let done = c.measure_slot.ensures in
-    rw (← c.in_ok-vm.ensures.slot) (answer-served c.args.config.now c.args.parts.now _ (Verify c.in_ok-vm.vm) _ (rw c.in_ok-vm.ensures.slot c.in_ok-vm.ensures.answer) done.reply done.state done.linked done.places)
+returns-clause-answer c = rw (← c.in_ok-vm.ensures.slot) c.end_boot-reply.ensures
 
 pub returns-in_err-vm-clause-answer : goal.returns-in_err-vm-clause-answer
 returns-in_err-vm-clause-answer c =

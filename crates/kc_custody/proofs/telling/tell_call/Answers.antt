@@ -16,8 +16,8 @@ returns-clause-told c =
       each = c.deref-2.ensures.value ∙ c.in_ok-marks.ensures ∙ ap (map (mark_of c.args.line c.args.core.now.state)) c.deref.ensures.value;
       slot = c.phase_mark-mark.ensures;
     } in
-    call-told c.args.line c.args.core.now.state c.make.new.core.state c.args.call.now _ _ marks c.phase_mark-mark.result c.in_ok-reply.images c.args.told.now.items _ _ _ c.movable.ensures.lawful marked
-    c.accessed-accessed.ensures c.in_ok-reply.ensures.reply c.in_ok-reply.ensures.state c.in_ok-reply.ensures.images
+    call-told c.args.line c.args.core.now.state c.make.new.core.state c.args.call.now _ _ marks c.phase_mark-mark.result c.in_ok-reply.measurement c.args.told.now.items _ _ _ c.movable.ensures.lawful marked
+    c.accessed-accessed.ensures c.in_ok-reply.ensures.reply c.in_ok-reply.ensures.state c.in_ok-reply.ensures.measurement
     (c.tell_access.ensures.items ∙ ap (λ (before : List Event). before ++ access_told c.args.call.now c.accessed-accessed.result c.in_ok-reply.reply) c.in_ok-reserve.ensures.items)
     c.tell_frames.ensures.items
     c.tell_phase.ensures
