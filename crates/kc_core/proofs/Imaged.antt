@@ -60,11 +60,6 @@ rejected-is config h v = by_rule (measures_launch config.version) refl
     by_rule false each = rw each (unapproved-seen config h v)
     by_rule true whole = rw whole refl
 
--- and by its launch measurement alone, if there is one
-pub rejected-whole : (config : Configuration) (h : Held) (v : ℕ) (images : List MeasuredImage) (launch : Option (List ℕ)) → is_some launch ≡ true → launch ≡ launch_of (state_of config h) v → rejected_for config images launch ≡ unapproved (state_of config h) v
-rejected-whole config h v images None whole is = absurd cc
-rejected-whole config h v images (Some launch) whole is = ap (rejected_for config (measured_images (state_of config h) v)) is ∙ rejected-is config h v
-
 -- the images of a slot that is here, through its table
 pub image-through : (h : Held) (v : ℕ) (vm : VmSlot) (table : Table) (image : Image) → vm_at h v ≡ Some vm → table ≡ slot_table vm → IsImageHere h (mapped_in (vm_at h v)) image → IsImageHere h (map.get table.mapped) image
 image-through h v vm table image at through here = subst (λ (t : Table). IsImageHere h (map.get t.mapped) image) (sym through) (subst (λ there. IsImageHere h (mapped_in there) image) at here)

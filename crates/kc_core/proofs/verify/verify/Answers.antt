@@ -5,16 +5,16 @@ use Rattle.kc_core.proofs.Imaged.{slot-verified, images-needed, rejected-is}
 use Rattle.kc_core.proofs.verify.verify.Goals as goal
 
 pub measured_images-images-requires-clause-slot : goal.measured_images-images-requires-clause-slot
-measured_images-images-requires-clause-slot c = slot-verified _ _ _ (rw c.in_ok-vm.ensures.slot c.requires) (rw c.in_ok-vm.ensures.slot c.in_ok-vm.ensures.answer)
+measured_images-images-requires-clause-slot c = slot-verified c.args.config.now c.args.parts.now c.in_ok-vm.vm (rw c.in_ok-vm.ensures.slot c.requires) (rw c.in_ok-vm.ensures.slot c.in_ok-vm.ensures.answer)
 
 pub measured_images-images-requires-clause-here : goal.measured_images-images-requires-clause-here
-measured_images-images-requires-clause-here c = images-needed _ _ _ (rw c.in_ok-vm.ensures.slot c.requires) (rw c.in_ok-vm.ensures.slot c.in_ok-vm.ensures.answer)
+measured_images-images-requires-clause-here c = images-needed c.args.config.now c.args.parts.now c.in_ok-vm.vm (rw c.in_ok-vm.ensures.slot c.requires) (rw c.in_ok-vm.ensures.slot c.in_ok-vm.ensures.answer)
 
 pub launch_of-launch-requires-clause-slot : goal.launch_of-launch-requires-clause-slot
-launch_of-launch-requires-clause-slot c = slot-verified _ _ _ (rw c.in_ok-vm.ensures.slot c.requires) (rw c.in_ok-vm.ensures.slot c.in_ok-vm.ensures.answer)
+launch_of-launch-requires-clause-slot c = slot-verified c.args.config.now c.args.parts.now c.in_ok-vm.vm (rw c.in_ok-vm.ensures.slot c.requires) (rw c.in_ok-vm.ensures.slot c.in_ok-vm.ensures.answer)
 
 pub launch_of-launch-requires-clause-here : goal.launch_of-launch-requires-clause-here
-launch_of-launch-requires-clause-here c = images-needed _ _ _ (rw c.in_ok-vm.ensures.slot c.requires) (rw c.in_ok-vm.ensures.slot c.in_ok-vm.ensures.answer)
+launch_of-launch-requires-clause-here c = images-needed c.args.config.now c.args.parts.now c.in_ok-vm.vm (rw c.in_ok-vm.ensures.slot c.requires) (rw c.in_ok-vm.ensures.slot c.in_ok-vm.ensures.answer)
 
 pub end_boot-reply-requires-clause-served : goal.end_boot-reply-requires-clause-served
 end_boot-reply-requires-clause-served c = rw c.in_ok-vm.ensures.slot c.in_ok-vm.ensures.answer

@@ -4,10 +4,10 @@ use Rattle.kc_core.proofs.Imaged.{slot-verified, images-needed}
 use Rattle.kc_core.proofs.verify.verify_slot.Goals as goal
 
 pub rejected-rejected-requires-clause-slot : goal.rejected-rejected-requires-clause-slot
-rejected-rejected-requires-clause-slot c = slot-verified _ _ _ (rw c.in_ok-vm.ensures.slot c.requires) (rw c.in_ok-vm.ensures.slot c.in_ok-vm.ensures.answer)
+rejected-rejected-requires-clause-slot c = slot-verified c.args.config.now c.args.parts.now c.in_ok-vm.vm (rw c.in_ok-vm.ensures.slot c.requires) (rw c.in_ok-vm.ensures.slot c.in_ok-vm.ensures.answer)
 
 pub rejected-rejected-requires-clause-here : goal.rejected-rejected-requires-clause-here
-rejected-rejected-requires-clause-here c = images-needed _ _ _ (rw c.in_ok-vm.ensures.slot c.requires) (rw c.in_ok-vm.ensures.slot c.in_ok-vm.ensures.answer)
+rejected-rejected-requires-clause-here c = images-needed c.args.config.now c.args.parts.now c.in_ok-vm.vm (rw c.in_ok-vm.ensures.slot c.requires) (rw c.in_ok-vm.ensures.slot c.in_ok-vm.ensures.answer)
 
 pub end_boot-requires-clause-served : goal.end_boot-requires-clause-served
 end_boot-requires-clause-served c = rw c.in_ok-vm.ensures.slot c.in_ok-vm.ensures.answer
