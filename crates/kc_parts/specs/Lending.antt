@@ -1,6 +1,6 @@
 -- The final value of parts one of which is lent for writing.
-use Rattle.std.specs.Prelude.{ℕ, List, ◌++◌, length, take, drop, Option, Some}
-use Rattle.std.specs.Borrow.{Array, Lends, LendsIf, MutBor, Fml}
+use Rattle.std.specs.Prelude.{ℕ, List, slice_set, Option, Some}
+use Rattle.std.specs.Borrow.{Lends, LendsIf, MutBor, Fml}
 use Rattle.kc_types.specs.declared.link.Ends.{Ends}
 use Rattle.kc_types.specs.contracts.link.Ends.{the_row as ends_row}
 use Rattle.kc_page.specs.declared.page.Page.{Page}
@@ -10,6 +10,16 @@ use Rattle.kc_vms.specs.contracts.vm.Vm.{the_row as vm_row}
 use Rattle.kc_parts.specs.Parts.{Held, HeldSlots, with_page, with_held_slot, with_vm}
 use Rattle.kc_parts.specs.contracts.parts.Parts.{the_row}
 use Rattle.kc_parts.specs.contracts.slots.VmSlots.{the_row as slots_row}
+use Rattle.kc_parts.specs.contracts.chunk.Chunk.{the_row as chunk_row}
+use Rattle.kc_parts.specs.contracts.page_list.PageList.{the_row as list_row}
+
+-- the chunk ends with the page that the reference finally holds
+abbrev pub LendsOfChunk : MutBor (List Page) → ℕ → Option (MutBor Page) → Fml
+LendsOfChunk chunk at page = LendsIf chunk_row page_row chunk page (slice_set chunk.now at) chunk.now
+
+-- the pages end with the page that the reference finally holds
+abbrev pub LendsOfList : MutBor (List Page) → ℕ → Option (MutBor Page) → Fml
+LendsOfList pages at page = LendsIf list_row page_row pages page (slice_set pages.now at) pages.now
 
 -- the parts end with the page that the reference finally holds
 abbrev pub LendsPage : MutBor Held → ℕ → Option (MutBor Page) → Fml
@@ -34,11 +44,3 @@ LendsVmHere parts v vm = Lends the_row vm_row parts vm (with_vm parts.now v)
 -- the parts end with the ends that the reference finally holds
 abbrev pub LendsFree : MutBor Held → Option (MutBor Ends) → Fml
 LendsFree parts ends = LendsIf the_row ends_row parts ends (λ ends. record parts.now { free = Some ends }) parts.now
-
--- the list with these in place of its own, as long as it was
-abbrev pub refilled : List Page → List Page → List Page
-refilled pages new = take (length pages) (new ++ drop (length new) pages)
-
--- the parts end with the pages that the reference finally holds
-abbrev pub LendsPages : MutBor Held → MutBor (List Page) → Fml
-LendsPages parts pages = Lends the_row (Array page_row 0) parts pages (λ new. record parts.now { pages = refilled parts.now.pages new })

@@ -8,3 +8,6 @@ pub mod Moves
 pub mod Emptying
 pub mod Restricted
 pub mod LookUps
+pub mod Chunks
+pub mod Marks
+pub mod Numbers

@@ -10,16 +10,24 @@
 
 mod blank;
 mod boot;
+mod chunk;
 mod emptying;
+mod flags;
+mod frame_numbers;
+mod layout;
 mod links;
 mod lists;
 mod look_ups;
+mod marks;
+mod page_list;
 mod parts;
 mod place;
 mod place_counts;
 mod slots;
 mod wanted;
 
+pub use chunk::PageRef;
+pub use marks::Marks;
 pub use parts::Parts;
 pub use place_counts::PlaceCounts;
 pub use wanted::sort_once;

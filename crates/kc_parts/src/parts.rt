@@ -1,41 +1,30 @@
 //! A store of pages, slots and the ends of the free list, which can be taken out and put back.
 ghost use Rattle.std.specs.Prelude.{◌≡◌, ◌↔◌, ℕ, ◌<◌, ◌≤◌, IsTrue, is_some, length, get_or, slice_get, IsSome, IfOk, OnOk, OnErr, Option, Some, None, map, cond, true, false, replicate};
-ghost use Rattle.std.specs.List.{range_with_len};
 ghost use Rattle.std.specs.Option.{option_copied, option_copied_mut};
 ghost use Rattle.std.specs.Borrow.{sem};
 ghost use Rattle.kc_types.specs.Limits.{frame_limit, slot_limit};
 ghost use Rattle.kc_page.specs.Page.{scrubbed_page};
 ghost use Rattle.kc_parts.specs.Parts.{IsRising};
-ghost use Rattle.kc_parts.specs.Booting.{slots_of};
+ghost use Rattle.kc_parts.specs.Chunks.{page_of, page_read};
+ghost use Rattle.kc_parts.specs.Marks.{scrubbed_if_marked};
 
 use crate::PlaceCounts;
 use crate::blank::blank_pages;
-use crate::boot::{all_filled, all_numbers, boot_ends, boot_pages, boot_vms};
-use crate::place::place_of;
+use crate::boot::{boot_ends, boot_pages, boot_vms};
+use crate::chunk::PageRef;
+use crate::flags::Flags;
+use crate::frame_numbers::FrameNumbers;
+use crate::marks::Marks;
+use crate::page_list::PageList;
 use crate::slots::VmSlots;
 use crate::wanted::{wanted_frames, wanted_slots, wants_free};
-use kc_page::{Page, scrub_each};
+use kc_page::Page;
 use kc_types::{Config, Ends, FrameNo, Memory, Resource, VmId};
 use kc_vms::Vm;
 use std::alloc::Global;
 use std::marker::Model;
 use std::mem::swap;
-
-/// Makes places for this many frames, which are all here, and puts these slots in the places of their numbers.
-fn all_places(
-    alloc: Global,
-    frames: u32,
-    vms: Vec<Option<Vm>>,
-) -> Result<(Vec<u32>, Vec<bool>, VmSlots), Memory>
-    requires { length vms.items ≤ slot_limit }
-    ensures numbers { IfOk result (λ places. places.0.items ≡ range_with_len 0 frames) }
-    ensures filled { IfOk result (λ places. places.1.items ≡ replicate frames true) }
-    ensures slots { IfOk result (λ places. places.2 ≡ slots_of vms.items) }
-{
-    let numbers = all_numbers(alloc, frames)?;
-    let filled = all_filled(alloc, frames)?;
-    Ok((numbers, filled, VmSlots::whole(alloc, vms)?))
-}
+use std::thread::Threads;
 
 /// A store of pages, VM slots and the ends of the free list. Each page and each slot has a place of its own, in the
 /// order of the numbers. The place stays when the page or slot is taken out, with a blank page in it, so that putting
@@ -43,9 +32,9 @@ fn all_places(
 /// blanks have none.
 #[derive(Drop)]
 pub struct Parts {
-    numbers: Vec<u32>,
-    filled: Vec<bool>,
-    pages: Vec<Page>,
+    numbers: FrameNumbers,
+    filled: Flags,
+    pages: PageList,
     vms: VmSlots,
     free: Option<Ends>,
     is_reserved: bool,
@@ -61,16 +50,16 @@ impl Model for Parts {
 
     ghost coded = { Prim.hlevel (codes, map.code {R = nat_cmp} coded_ℕ coded_ℕ) };
 
-    ghost view = { λ p. record { numbers = p.numbers.items; filled = p.filled.items; pages = p.pages.items; vms = p.vms; free = p.free; is_reserved = p.is_reserved } };
+    ghost view = { λ p. record { numbers = p.numbers; filled = p.filled; pages = p.pages; vms = p.vms; free = p.free; is_reserved = p.is_reserved } };
 
-    ghost invariant = { λ p. IsHeld p.numbers.items p.filled.items p.pages.items };
+    ghost invariant = { λ p. IsHeld p.numbers p.filled p.pages };
 }
 
 impl Parts {
     ghost use Rattle.kc_types.specs.Configuration.{IsConfiguration};
     ghost use Rattle.kc_parts.specs.Parts.{IsHeld, blank_page, place_in, page_at, held_slot, vm_at};
     ghost use Rattle.kc_parts.specs.Booting.{IsBooted, parts_of};
-    ghost use Rattle.kc_parts.specs.Lending.{LendsPage, LendsPageHere, LendsVm, LendsVmHere, LendsFree, LendsPages};
+    ghost use Rattle.kc_parts.specs.Lending.{LendsPage, LendsPageHere, LendsVm, LendsVmHere, LendsFree};
     ghost use Rattle.kc_model.specs.Resources.{is_wanted};
     ghost use Rattle.kc_parts.specs.Cuts.{AreHere, IsSplit, AreSlotsFor, FitsInto, IsJoin, IsFull, held_at};
     ghost use Rattle.kc_parts.specs.Moves.{IsWrite, IsLifted, IsLaid, IsEmptyPlace, AreMoved, WithSlots, only_at, page_among};
@@ -101,14 +90,39 @@ impl Parts {
     {
         let pages = boot_pages(alloc, config, is_reserved)?;
         let vms = boot_vms(alloc, config)?;
-        Parts::whole(alloc, pages, vms, boot_ends(config), is_reserved)
+        let frames = config.frames();
+        Parts::in_places(alloc, frames, pages, vms, boot_ends(config), is_reserved)
+    }
+
+    /// Makes parts of the pages of this many frames and of slots, each in the place of its number.
+    fn in_places(
+        alloc: Global,
+        frames: u32,
+        pages: PageList,
+        vms: Vec<Option<Vm>>,
+        free: Ends,
+        is_reserved: bool,
+    ) -> Result<Parts, Memory>
+        requires count { length pages ≡ frames }
+        requires frames { length pages ≤ frame_limit }
+        requires slots { length vms.items ≤ slot_limit }
+        ensures { IfOk result (λ parts. parts ≡ parts_of pages vms.items free is_reserved) }
+    {
+        Ok(Parts {
+            numbers: FrameNumbers::below(frames),
+            filled: Flags::all_set(alloc, frames as usize)?,
+            pages,
+            vms: VmSlots::whole(alloc, vms)?,
+            free: Some(free),
+            is_reserved,
+        })
     }
 
     /// Makes parts of pages and slots, each in the place of its number, and the ends of the free list. They count as reserved
     /// or as sparse. `Memory` if memory runs out, and then the pages are wiped.
     pub fn whole(
         alloc: Global,
-        mut pages: Vec<Page>,
+        pages: Vec<Page>,
         vms: Vec<Option<Vm>>,
         free: Ends,
         is_reserved: bool,
@@ -118,37 +132,27 @@ impl Parts {
         // No clause can rule out that memory runs out: a test boots parts.
         ensures { IfOk result (λ parts. parts ≡ parts_of pages.items vms.items free is_reserved) }
     {
-        match all_places(alloc, pages.len() as u32, vms) {
-            Ok((numbers, filled, vms)) => Ok(Parts {
-                numbers,
-                filled,
-                pages,
-                vms,
-                free: Some(free),
-                is_reserved,
-            }),
-            Err(refused) => {
-                scrub_each(pages.as_mut_slice());
-                Err(refused)
-            },
-        }
+        let frames = pages.len() as u32;
+        let pages = PageList::of(alloc, pages)?;
+        Parts::in_places(alloc, frames, pages, vms, free, is_reserved)
     }
 
     /// The place of a frame's page, or the number of pages if it is not here.
     fn place_in(&self, frame: FrameNo) -> usize
         ensures { result ≡ place_in self.now frame }
     {
-        let at = place_of(self.numbers.as_slice(), frame.number());
-        if at < self.filled.len() && self.filled[at] {
+        let at = self.numbers.place_of(frame.number());
+        let count = self.numbers.len();
+        if at < count && self.filled.get(at) {
             at
         } else {
-            self.pages.len()
+            count
         }
     }
 
     /// The page of a frame; `None` if it is not here.
-    pub fn try_page(&self, frame: FrameNo) -> Option<&Page>
-        ensures { option_copied result ≡ page_at self.now frame }
+    pub fn try_page(&self, frame: FrameNo) -> Option<PageRef<'_>>
+        ensures { page_read result ≡ page_at self.now frame }
     {
         let at = self.place_in(frame);
         self.pages.get(at)
@@ -164,9 +168,9 @@ impl Parts {
     }
 
     /// The page of a frame that is here.
-    pub fn page(&self, frame: FrameNo) -> &Page
+    pub fn page(&self, frame: FrameNo) -> PageRef<'_>
         requires { IsSome (page_at self.now frame) }
-        ensures { page_at self.now frame ≡ Some result.now }
+        ensures { page_at self.now frame ≡ Some (page_of result) }
     {
         self.try_page(frame).unwrap()
     }
@@ -237,32 +241,19 @@ impl Parts {
         }
     }
 
-    /// All pages, by ascending frame number, if none is taken out.
-    pub fn pages(&self) -> &[Page]
-        requires { IsFull self.now }
-        ensures value { result.now ≡ self.now.pages }
-        ensures count { length result.now ≡ length self.now.numbers }
-        ensures each { (i : ℕ) → i < length self.now.numbers → slice_get result.now i ≡ page_at self.now (get_or self.now.numbers i 0) }
-    {
-        self.pages.as_slice()
-    }
-
-    /// Lends all pages for writing, by ascending frame number, if none is taken out.
-    pub fn pages_mut(&mut self) -> &mut [Page]
-        requires { IsFull self.old }
-        ensures* writes_back { sem 𝓛 (LendsPages self.entry result) }
-        ensures value { result.now ≡ self.old.pages }
-        ensures count { length result.now ≡ length self.old.numbers }
-        ensures each { (i : ℕ) → i < length self.old.numbers → slice_get result.now i ≡ page_at self.old (get_or self.old.numbers i 0) }
-    {
-        self.pages.as_mut_slice()
-    }
-
-    /// Zeroes the bytes of all pages and changes nothing else.
-    pub fn wipe(&mut self)
+    /// Zeroes the bytes of all pages, with several threads if many are not known to be zero, and changes nothing else. It
+    /// cannot fail: if no thread can be started, this one does everything.
+    pub fn wipe(&mut self, rt: &(impl Threads + Sync))
         ensures { self.new ≡ record self.old { pages = map scrubbed_page self.old.pages } }
     {
-        scrub_each(self.pages.as_mut_slice());
+        self.pages.scrub(rt);
+    }
+
+    /// Zeroes the bytes of the pages that VMs whose slots are marked own, and changes nothing else.
+    pub fn scrub_marked(&mut self, marks: &Marks)
+        ensures { self.new ≡ record self.old { pages = map (scrubbed_if_marked marks.now) self.old.pages } }
+    {
+        self.pages.scrub_marked(marks);
     }
 
     /// Takes these resources out, all of which are here. What comes out has room for just these: a place for each
@@ -278,15 +269,15 @@ impl Parts {
         ensures err { OnErr result (self.new ≡ self.old) }
     {
         let numbers = wanted_frames(alloc, wanted)?;
-        let filled = vec![in alloc; true; numbers.len()]?;
+        let filled = Flags::all_set(alloc, numbers.len())?;
         let slots = wanted_slots(alloc, wanted)?;
         let mut vms = VmSlots::places(alloc, slots)?;
-        let mut pages = blank_pages(alloc, numbers.len())?;
+        let mut pages = PageList::of(alloc, blank_pages(alloc, numbers.len())?)?;
         self.lift_slots(&mut vms);
         let free = self.lift_free(wants_free(wanted));
         self.lift_pages(numbers.as_slice(), &mut pages);
         Ok(Parts {
-            numbers,
+            numbers: FrameNumbers::listed(numbers),
             filled,
             pages,
             vms,
@@ -336,15 +327,15 @@ impl Parts {
     }
 
     /// Takes the pages of these frames, which are here, in exchange for as many blanks.
-    fn lift_pages(&mut self, numbers: &[u32], pages: &mut Vec<Page>)
+    fn lift_pages(&mut self, numbers: &[u32], pages: &mut PageList)
         requires rising { IsRising numbers.now }
-        requires blank { pages.old.items ≡ replicate (length numbers.now) blank_page }
+        requires blank { pages.old ≡ replicate (length numbers.now) blank_page }
         requires here { (i : ℕ) → i < length numbers.now → IsSome (page_at self.old (get_or numbers.now i 0)) }
-        ensures taken { map Some pages.new.items ≡ map (page_at self.old) numbers.now }
+        ensures taken { map Some pages.new ≡ map (page_at self.old) numbers.now }
         ensures rest { IsLifted numbers.now self.old self.new }
     {
         for at in 0..numbers.len() {
-            self.lift_page(numbers[at], &mut pages[at]);
+            self.lift_page(numbers[at], pages.get_mut(at).unwrap());
         }
     }
 
@@ -355,16 +346,16 @@ impl Parts {
         ensures taken { Some page.new ≡ page_at self.old number }
         ensures rest { IsWrite number None self.old self.new }
     {
-        let at = place_of(self.numbers.as_slice(), number);
-        swap(&mut self.pages[at], page);
-        self.filled[at] = false;
+        let at = self.numbers.place_of(number);
+        swap(self.pages.get_mut(at).unwrap(), page);
+        self.filled.set(at, false);
     }
 
     /// Lays pages into their places, which are empty.
-    fn lay_pages(&mut self, mut numbers: Vec<u32>, mut filled: Vec<bool>, mut pages: Vec<Page>)
-        requires held { IsHeld numbers.items filled.items pages.items }
-        requires fits { (f : ℕ) (page : Page) → page_among numbers.items filled.items pages.items f ≡ Some page → IsEmptyPlace self.old f }
-        ensures { IsLaid (page_among numbers.items filled.items pages.items) self.old self.new }
+    fn lay_pages(&mut self, mut numbers: FrameNumbers, mut filled: Flags, mut pages: PageList)
+        requires held { IsHeld numbers filled pages }
+        requires fits { (f : ℕ) (page : Page) → page_among numbers filled pages f ≡ Some page → IsEmptyPlace self.old f }
+        ensures { IsLaid (page_among numbers filled pages) self.old self.new }
     {
         while let Some(number) = numbers.pop() {
             let (Some(flag), Some(page)) = (filled.pop(), pages.pop()) else {
@@ -389,8 +380,8 @@ impl Parts {
         requires { IsEmptyPlace self.old number }
         ensures { IsWrite number (Some page) self.old self.new }
     {
-        let at = place_of(self.numbers.as_slice(), number);
-        self.pages[at] = page;
-        self.filled[at] = true;
+        let at = self.numbers.place_of(number);
+        *self.pages.get_mut(at).unwrap() = page;
+        self.filled.set(at, true);
     }
 }

@@ -1,4 +1,4 @@
-use Rattle.std.proofs.Common.{◌≡◌, ◌<◌, IsSome, All, sym, ap, ◌∙◌}
+use Rattle.std.proofs.Common.{◌<◌, IsSome, All, sym, ap, ◌∙◌}
 use Rattle.kc_types.specs.Configuration.{slot_count}
 use Rattle.kc_types.specs.declared.call.Call.TheVariants.{Verify}
 use Rattle.kc_types.specs.declared.resource.Resource.TheVariants as resource
