@@ -133,16 +133,16 @@ impl Chunk {
         requires { zeros.now ≡ sparse_zeros }
         ensures { page_read result ≡ slice_get self.now at }
     {
+        if at >= self.count as usize {
+            return None;
+        }
         if self.pages.is_empty() {
-            if at >= self.count as usize {
-                return None;
-            }
             return Some(PageRef {
                 meta: self.layout.record(self.first + at as u32),
                 bytes: zeros,
             });
         }
-        let page = self.pages.get(at)?;
+        let page = &self.pages[at];
         Some(PageRef {
             meta: page.meta,
             bytes: &page.bytes,

@@ -1,9 +1,8 @@
 //! Pages in chunks.
-ghost use Rattle.std.specs.Prelude.{◌≡◌, ◌+◌, ◌≤◌, ◌<◌, ◌++◌, length, map, slice_get, IfOk};
+ghost use Rattle.std.specs.Prelude.{◌≡◌, ◌++◌, false, map, slice_get, IfOk};
 ghost use Rattle.std.specs.Option.{option_copied_mut, option_to_list};
 ghost use Rattle.std.specs.List.{range_with_len};
 ghost use Rattle.std.specs.Borrow.{sem};
-ghost use Rattle.kc_types.specs.Configuration.{IsConfiguration};
 ghost use Rattle.kc_page.specs.Page.{scrubbed_page};
 ghost use Rattle.kc_parts.specs.Booting.{boot_page};
 ghost use Rattle.kc_parts.specs.Chunks.{page_read};
@@ -84,12 +83,9 @@ impl PageList {
     {
         let mut chunks = Vec::new(alloc);
         let mut pages = pages;
-        while pages.len() > CHUNK_SIZE {
-            let rest = pages.split_off(CHUNK_SIZE)?;
+        while !pages.is_empty() {
+            let rest = pages.split_off(pages.len().min(CHUNK_SIZE))?;
             chunks.push(Chunk::of(alloc, replace(&mut pages, rest)))?;
-        }
-        if !pages.is_empty() {
-            chunks.push(Chunk::of(alloc, pages))?;
         }
         Ok(PageList {
             chunks,
@@ -101,8 +97,11 @@ impl PageList {
     pub(crate) fn get(&self, at: usize) -> Option<PageRef<'_>>
         ensures { page_read result ≡ slice_get self.now at }
     {
-        let chunk = self.chunks.get(at / CHUNK_SIZE)?;
-        chunk.get(at % CHUNK_SIZE, &self.zeros)
+        let number = at / CHUNK_SIZE;
+        if number >= self.chunks.len() {
+            return None;
+        }
+        self.chunks[number].get(at % CHUNK_SIZE, &self.zeros)
     }
 
     /// Lends a page for writing; `None` if there are fewer. It takes no memory.
@@ -110,8 +109,11 @@ impl PageList {
         ensures value { option_copied_mut result ≡ slice_get self.old at }
         ensures* writes_back { sem 𝓛 (LendsOfList self.entry at result) }
     {
-        let chunk = self.chunks.get_mut(at / CHUNK_SIZE)?;
-        chunk.get_mut(at % CHUNK_SIZE)
+        let number = at / CHUNK_SIZE;
+        if number >= self.chunks.len() {
+            return None;
+        }
+        self.chunks[number].get_mut(at % CHUNK_SIZE)
     }
 
     /// Takes the last page away; `None` if there is none.
