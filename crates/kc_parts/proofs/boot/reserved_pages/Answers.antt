@@ -1,4 +1,4 @@
-use Rattle.std.proofs.Common.{◌≡◌, ◌++◌, ◌∷◌, [], true, sym, ap, ◌∙◌, arith}
+use Rattle.std.proofs.Common.{◌≡◌, true, sym, ap, ◌∙◌, arith}
 use Rattle.kc_parts.specs.Booting.{boot_page}
 use Rattle.kc_parts.specs.Chunks.{record_at_boot}
 use Rattle.kc_parts.proofs.Boots.{pages-more}
@@ -12,4 +12,4 @@ loop-frame-preserved c =
     let meta : c.record.result ≡ (boot_page true config f).meta = c.record.ensures ∙ ap (λ l. record_at_boot l f) c.of-layout.ensures.value ∙ record-at-boot true config f (omega arith) in
     let bytes : c.in_ok-reserved.field-0 ≡ (boot_page true config f).bytes = c.in_ok-reserved.ensures in
     let page : record { meta = c.record.result; bytes = c.in_ok-reserved.field-0 } ≡ boot_page true config f = λ i. record { meta = meta i; bytes = bytes i } in
-    c.in_ok-push.ensures.items ∙ (λ i. c.loop-frame.invariant i ++ page i ∷ []) ∙ sym (pages-more (boot_page true config) f)
+    rw (c.in_ok-push.ensures.items, c.loop-frame.invariant, page) (sym (pages-more (boot_page true config) f))
