@@ -1,7 +1,7 @@
 -- The parts of the boot state, one by one and all together.
-use Rattle.std.proofs.Common.{ℕ, zero, suc, ◌≡◌, ◌<◌, ◌≤◌, ◌+◌, true, false, cond, eq-eqb, [], ◌∷◌, ◌++◌, List, length, get_or, map, replicate, Option, None, refl, sym, ap, ◌∙◌, arith}
+use Rattle.std.proofs.Common.{ℕ, zero, suc, ◌≡◌, ◌<◌, ◌≤◌, ◌+◌, true, false, inl, inr, cond, eq-eqb, [], ◌∷◌, ◌++◌, List, length, get_or, map, replicate, Option, None, refl, sym, ap, ◌∙◌, arith}
 use Rattle.std.specs.List.{range_with_len, slice_get}
-use Rattle.std.proofs.lemmas.Bool.{ne_eqb}
+use Rattle.std.proofs.lemmas.Bool.{cases_lt, ne_eqb}
 use Rattle.std.proofs.lemmas.List.{map-id}
 use Rattle.std.proofs.lemmas.List.FromFn.{map-range_with_len_more, get_or-range_with_len, length-range_with_len}
 use Rattle.std.proofs.lemmas.Option.{slice_get_past}
@@ -21,6 +21,18 @@ place-range a (suc n) zero lt = rw (eq-eqb a (a + 0) (omega arith)) refl
 place-range a (suc n) (suc k) lt =
     let e : a + suc k ≡ (a + 1) + k = omega arith in
     rw (ne_eqb a (a + suc k) (λ same. omega (arith, same))) (ap suc (ap (place_of (range_with_len (a + 1) n)) e ∙ place-range (a + 1) n k (omega (arith, lt))))
+
+-- a number past the end has no place
+place-past : (a n f : ℕ) → a + n ≤ f → place_of (range_with_len a n) f ≡ n
+place-past a zero f le = refl
+place-past a (suc n) f le = rw (ne_eqb a f (λ same. omega (arith, le, same))) (ap suc (place-past (a + 1) n f (omega (arith, le))))
+
+-- the place of a number if all numbers below a limit have places
+pub place-below : (n f k : ℕ) → (f < n → k ≡ f) → (n ≤ f → k ≡ n) → k ≡ place_of (range_with_len 0 n) f
+place-below n f k here past = elim (cases_lt f n) [
+  | inl low ↦ let e : 0 + f ≡ f = omega arith in here low ∙ sym (place-range 0 n f low) ∙ ap (place_of (range_with_len 0 n)) e
+  | inr high ↦ past high ∙ sym (place-past 0 n f (omega (arith, high)))
+]
 
 filled-range : (a n k : ℕ) → k < n → is_filled (range_with_len a n) (replicate n true) (a + k) ≡ true
 filled-range a zero k lt = absurd (omega (arith, lt))
