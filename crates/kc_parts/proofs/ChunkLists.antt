@@ -91,12 +91,6 @@ page-set (c ∷ d ∷ cs) at w are within =
           rw (second, same) (ap (λ ps. c ++ ps) (page-set (d ∷ cs) (at - 8192) w (later c (d ∷ cs) are) rest) ∙ sym (set-append_right c (all_pages (d ∷ cs)) 8192 at w full past))
     ]
 
--- nothing changes if a chunk stays
-pub same-set : (cs : List (List Page)) (k : ℕ) → set cs k (get_or cs k []) ≡ cs
-same-set [] k = refl
-same-set (c ∷ cs) zero = refl
-same-set (c ∷ cs) (suc k) = ap (λ ds. c ∷ ds) (same-set cs k)
-
 -- a chunk may become any other that is as long
 pub same-long : (cs : List (List Page)) (k : ℕ) (c : List Page) → AreChunks cs → length c ≡ length (get_or cs k []) → AreChunks (set cs k c)
 same-long cs k c are long = record {
@@ -200,10 +194,12 @@ same-chunks f cs are = record {
     kept f (c ∷ cs) zero = length-map c f
     kept f (c ∷ cs) (suc k) = kept f cs k
 
--- the pages of frames, and of those after them
-pub next-at-boot : (l : Layout) (first n m : ℕ) → pages_at_boot l first n ++ pages_at_boot l (first + n) m ≡ pages_at_boot l first (n + m)
+-- the pages of the frames up to one, and of those from it on
+pub next-at-boot : (l : Layout) (n m : ℕ) → pages_at_boot l 0 n ++ pages_at_boot l n m ≡ pages_at_boot l 0 (n + m)
 unfolding pages_at_boot
-next-at-boot l first n m = joined (page_at_boot l) first n m
+next-at-boot l n m =
+    let same : 0 + n ≡ n = omega arith in
+    ap (λ a. map (page_at_boot l) (range_with_len 0 n) ++ map (page_at_boot l) (range_with_len a m)) (sym same) ∙ joined (page_at_boot l) 0 n m
   where
     joined : (f : ℕ → Page) (first n m : ℕ) → map f (range_with_len first n) ++ map f (range_with_len (first + n) m) ≡ map f (range_with_len first (n + m))
     joined f first zero m =
