@@ -1,13 +1,8 @@
 -- Blanks at the places that are not filled.
-use Rattle.std.proofs.Common.{map, ℕ, zero, suc, ◌≡◌, ◌<◌, inl, inr, Bool, true, false, cond, nat_eq, List, take, drop, [], ◌∷◌, ◌++◌, length, get_or, set, replicate, refl, sym, ◌∙◌, ap, arith, length-set, length-append, length-take, length-drop}
-use Rattle.std.proofs.lemmas.Bool.{cases_lt}
+use Rattle.std.proofs.Common.{map, ℕ, zero, suc, ◌≡◌, Bool, true, false, cond, nat_eq, List, [], ◌∷◌, ◌++◌, length, get_or, set, replicate, refl, ◌∙◌, ap, arith, length-set}
 use Rattle.std.proofs.lemmas.List.{get_or_past, length-map}
 use Rattle.kc_page.specs.declared.page.Page.{Page}
-use Rattle.kc_page.specs.Page.{scrubbed_page}
-use Rattle.kc_parts.specs.Parts.{Held, IsHeld, AreBlanks, blank_page, place_of, is_filled}
-use Rattle.kc_parts.specs.Cuts.{IsFull}
-use Rattle.kc_parts.proofs.Places.{place-found}
-use Rattle.kc_parts.proofs.Writing.{filled-here}
+use Rattle.kc_parts.specs.Parts.{IsHeld, AreBlanks, blank_page, place_of, is_filled}
 
 -- if all places are filled there is no blank
 pub blanks-filled : (n : ℕ) (ps : List Page) → AreBlanks (replicate n true) ps
@@ -74,40 +69,17 @@ held-set ns hs ps i b p ok held = record {
   blanks = blanks-set hs ps i b p ok held.blanks;
 }
 
--- if no page is taken out there is no blank
-full-blanks : (h : Held) (ps : List Page) → IsHeld h.numbers h.filled h.pages → IsFull h → AreBlanks h.filled ps
-full-blanks h ps held full i e = elim (cases_lt i (length h.filled)) [
-  | inl low ↦
-      let n = get_or h.numbers i 0 in
-      let within : i < length h.numbers = omega (arith, low, held.flags) in
-      let place = place-found h.numbers i n held.rising within refl in
-      let flag : get_or h.filled i true ≡ true = ap (λ k. get_or h.filled k true) (sym place) ∙ filled-flag h.numbers h.filled n (filled-here h.numbers h.filled h.pages n (full i within)) in
-      let no : true ≡ false = sym flag ∙ e in
-      cc
-  | inr past ↦ let no : true ≡ false = sym (get_or_past h.filled i true past) ∙ e in cc
-]
+-- a change of each page that leaves a blank as it is
+blank-changed : (f : Page → Page) (ps : List Page) (i : ℕ) → f blank_page ≡ blank_page → get_or ps i blank_page ≡ blank_page → get_or (map f ps) i blank_page ≡ blank_page
+blank-changed f [] i same e = refl
+blank-changed f (p ∷ ps) zero same e = ap f e ∙ same
+blank-changed f (p ∷ ps) (suc i) same e = blank-changed f ps i same e
 
--- and all pages may become any others
-pub held-refilled : (h : Held) (n : ℕ) (ps : List Page) → IsHeld h.numbers h.filled h.pages → IsFull h → n ≡ length h.pages → IsHeld h.numbers h.filled (take n (ps ++ drop (length ps) h.pages))
-held-refilled h n ps held full is = record {
-  rising = held.rising;
-  frames = held.frames;
-  flags = held.flags;
-  pages = simp (length-take, length-append, length-drop) (omega (arith, is, held.pages));
-  blanks = full-blanks h (take n (ps ++ drop (length ps) h.pages)) held full;
-}
-
--- a blank has only zero bytes, so it stays a blank when all pages are scrubbed
-blank-scrubbed : (ps : List Page) (i : ℕ) → get_or ps i blank_page ≡ blank_page → get_or (map scrubbed_page ps) i blank_page ≡ blank_page
-blank-scrubbed [] i e = refl
-blank-scrubbed (p ∷ ps) zero e = ap scrubbed_page e
-blank-scrubbed (p ∷ ps) (suc i) e = blank-scrubbed ps i e
-
-pub held-scrubbed : (numbers : List ℕ) (filled : List Bool) (pages : List Page) → IsHeld numbers filled pages → IsHeld numbers filled (map scrubbed_page pages)
-held-scrubbed numbers filled pages is = record {
+pub held-changed : (f : Page → Page) (numbers : List ℕ) (filled : List Bool) (pages : List Page) → f blank_page ≡ blank_page → IsHeld numbers filled pages → IsHeld numbers filled (map f pages)
+held-changed f numbers filled pages same is = record {
   rising = is.rising;
   frames = is.frames;
   flags = is.flags;
-  pages = length-map pages scrubbed_page ∙ is.pages;
-  blanks = λ i e. blank-scrubbed pages i (is.blanks i e);
+  pages = length-map pages f ∙ is.pages;
+  blanks = λ i e. blank-changed f pages i same (is.blanks i e);
 }

@@ -1,5 +1,5 @@
 //! A chunk of pages, which are made when one of them is first changed.
-ghost use Rattle.std.specs.Prelude.{◌≡◌, ◌↔◌, ◌+◌, ◌≤◌, ◌++◌, [], length, map, slice_get, vec_capacity, IfOk, IsTrue};
+ghost use Rattle.std.specs.Prelude.{◌≡◌, ◌↔◌, ◌+◌, ◌≤◌, ◌++◌, [], length, map, slice_get, vec_capacity, IfOk, IsTrue, IsSome, ◌<◌};
 ghost use Rattle.std.specs.Option.{option_copied_mut, option_to_list};
 ghost use Rattle.std.specs.Borrow.{sem};
 ghost use Rattle.kc_types.specs.Limits.{frame_limit};
@@ -166,7 +166,8 @@ impl Chunk {
 
     /// Takes the last page away; `None` if there is none.
     pub(crate) fn pop(&mut self) -> Option<Page>
-        ensures { self.old ≡ self.new ++ option_to_list result }
+        ensures items { self.old ≡ self.new ++ option_to_list result }
+        ensures some { IsSome result ↔ (0 < length self.old) }
     {
         make(
             self.alloc,

@@ -1,5 +1,5 @@
 //! Which places are filled.
-ghost use Rattle.std.specs.Prelude.{◌≡◌, ◌<◌, ◌≤◌, ◌++◌, [], true, length, replicate, get_or, set, vec_capacity, IfOk};
+ghost use Rattle.std.specs.Prelude.{◌≡◌, ◌<◌, ◌≤◌, ◌++◌, [], true, length, replicate, get_or, set, vec_capacity, IfOk, IsSome, ◌↔◌};
 ghost use Rattle.std.specs.Option.{option_to_list};
 ghost use Rattle.kc_parts.specs.Numbers.{flags_of, AreFlags};
 
@@ -67,7 +67,8 @@ impl Flags {
 
     /// Takes the last flag away; `None` if there is none.
     pub(crate) fn pop(&mut self) -> Option<bool>
-        ensures { self.old ≡ self.new ++ option_to_list result }
+        ensures items { self.old ≡ self.new ++ option_to_list result }
+        ensures some { IsSome result ↔ (0 < length self.old) }
     {
         write_all(self.count, &mut self.each);
         let flag = self.each.pop()?;

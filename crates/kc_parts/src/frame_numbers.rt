@@ -1,5 +1,5 @@
 //! The numbers of the frames that there are places for.
-ghost use Rattle.std.specs.Prelude.{◌≡◌, ◌++◌, length};
+ghost use Rattle.std.specs.Prelude.{◌≡◌, ◌++◌, length, IsSome, ◌↔◌, ◌<◌};
 ghost use Rattle.std.specs.List.{range_with_len};
 ghost use Rattle.std.specs.Option.{option_to_list};
 ghost use Rattle.kc_parts.specs.Parts.{IsRising, place_of};
@@ -71,7 +71,8 @@ impl FrameNumbers {
 
     /// Takes the last number away; `None` if there is none.
     pub(crate) fn pop(&mut self) -> Option<u32>
-        ensures { self.old ≡ self.new ++ option_to_list result }
+        ensures items { self.old ≡ self.new ++ option_to_list result }
+        ensures some { IsSome result ↔ (0 < length self.old) }
     {
         match &mut self.numbers {
             Numbers::Below(0) => None,

@@ -1,5 +1,5 @@
 //! Pages in chunks.
-ghost use Rattle.std.specs.Prelude.{◌≡◌, ◌++◌, false, map, slice_get, IfOk};
+ghost use Rattle.std.specs.Prelude.{◌≡◌, ◌++◌, false, map, slice_get, IfOk, IsSome, ◌↔◌, ◌<◌, length};
 ghost use Rattle.std.specs.Option.{option_copied_mut, option_to_list};
 ghost use Rattle.std.specs.List.{range_with_len};
 ghost use Rattle.std.specs.Borrow.{sem};
@@ -118,7 +118,8 @@ impl PageList {
 
     /// Takes the last page away; `None` if there is none.
     pub(crate) fn pop(&mut self) -> Option<Page>
-        ensures { self.old ≡ self.new ++ option_to_list result }
+        ensures items { self.old ≡ self.new ++ option_to_list result }
+        ensures some { IsSome result ↔ (0 < length self.old) }
     {
         let mut last = self.chunks.pop()?;
         let page = last.pop();

@@ -172,7 +172,10 @@ impl Parts {
         requires { IsSome (page_at self.now frame) }
         ensures { page_at self.now frame ≡ Some (page_of result) }
     {
-        self.try_page(frame).unwrap()
+        let Some(page) = self.try_page(frame) else {
+            unreachable!()
+        };
+        page
     }
 
     /// Lends the page of a frame that is here for writing.

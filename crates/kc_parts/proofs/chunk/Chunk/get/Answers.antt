@@ -1,8 +1,8 @@
-use Rattle.std.proofs.Common.{rules, ◌≡◌, ◌≤◌, ◌<◌, [], ap, sym, length, ◌∙◌, arith}
+use Rattle.std.proofs.Common.{rules, ◌≡◌, ◌<◌, [], ap, sym, length, ◌∙◌, arith}
 use Rattle.std.specs.Prelude.{slice_get, Some}
 use Rattle.std.proofs.lemmas.Option.{slice_get_past, slice_get_read}
 use Rattle.kc_parts.specs.Chunks.{pages_at_boot, pages_of}
-use Rattle.kc_parts.proofs.Chunked.{length-of, none-made, page-unmade, seen-made}
+use Rattle.kc_parts.proofs.Chunked.{length-of, page-unmade, seen-made}
 use Rattle.kc_parts.proofs.chunk.Chunk.get.Goals as goal
 
 pub returns-then-at-self : goal.returns-then-at-self

@@ -1,5 +1,5 @@
-use Rattle.std.proofs.Common.{◌≡◌, length, length-set, ap, ◌∙◌, refl, arith}
-use Rattle.kc_parts.proofs.Chunked.{length-of, seen-made}
+use Rattle.std.proofs.Common.{◌≡◌, length, length-set, ap, ◌∙◌, arith}
+use Rattle.kc_parts.proofs.Chunked.{length-of}
 use Rattle.kc_parts.proofs.chunk.Chunk.get_mut.Goals as goal
 
 pub invariant_of-self-lent : goal.invariant_of-self-lent

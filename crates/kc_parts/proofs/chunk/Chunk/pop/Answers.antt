@@ -1,4 +1,4 @@
-use Rattle.std.proofs.Common.{◌≡◌, ◌<◌, ◌+◌, ◌++◌, ◌∷◌, [], length, length-append, sym, ap, ◌∙◌, arith}
+use Rattle.std.proofs.Common.{◌≡◌, ◌+◌, ◌++◌, ◌∷◌, [], length, length-append, sym, ap, ◌∙◌, arith}
 use Rattle.kc_parts.proofs.Chunked.{length-of, seen-made}
 use Rattle.kc_parts.proofs.chunk.Chunk.pop.Goals as goal
 use Rattle.kc_parts.proofs.chunk.Chunk.pop.Goals.{In_ok-page}
@@ -24,9 +24,9 @@ invariant_of-self-2 c =
       room = omega (arith, was.room, c.pop.ensures.capacity, c.make.ensures.capacity);
     }
 
-pub returns : goal.returns
-returns c =
+pub returns-clause-items : goal.returns-clause-items
+returns-clause-items c =
     let p = c.self.inside in
-    let l = long (goal.at.returns c).In_ok-page in
+    let l = long (goal.at.returns-clause-items c).In_ok-page in
     sym c.self.view_is ∙ sym c.make.ensures.items ∙ c.in_ok-page.ensures.items
     ∙ ap (λ pages. pages ++ c.in_ok-page.page ∷ []) (sym (seen-made p.layout p.first _ c.pop.new.self.items (omega (arith, l))))

@@ -1,4 +1,4 @@
-use Rattle.std.proofs.Common.{◌∙◌, sym, ap, refl, arith}
+use Rattle.std.proofs.Common.{ℕ, zero, suc, ◌≡◌, ◌<◌, length, ◌∙◌, sym, ap, refl, arith}
 use Rattle.kc_parts.specs.Parts.{page_at}
 use Rattle.kc_parts.specs.Cuts.{either}
 use Rattle.kc_parts.proofs.Filled.{cells, page_at-cells}
@@ -15,14 +15,14 @@ loop-number-init c =
       vms = refl;
       free = refl;
       reserved = refl;
-      fits = λ f page e. c.requires.fits f page (page_at-cells c.args.numbers.items c.args.filled.items c.args.pages.items f held.flags held.pages ∙ e);
+      fits = λ f page e. c.requires.fits f page (page_at-cells c.args.numbers c.args.filled c.args.pages f held.flags held.pages ∙ e);
       joined = λ f. refl;
     }
 
 pub lay_back-requires : goal.lay_back-requires
 lay_back-requires c =
     let l = c.loop-number in
-    let last : IsLast l.numbers.items c.pop.new.self.items l.filled.items c.pop-in-Some.new.self.items l.pages.items c.pop-in-Some-2.new.self.items c.in-Some.number c.in-Some-Some.flag c.in-Some-Some.page =
+    let last : IsLast l.numbers c.pop.new.self l.filled c.pop-in-Some.new.self l.pages c.pop-in-Some-2.new.self c.in-Some.number c.in-Some-Some.flag c.in-Some-Some.page =
     record { held = l.invariant.held; numbers = c.in-Some.ensures.items; filled = c.in-Some-Some.ensures.items; pages = c.in-Some-Some.ensures'.items } in
     last-empty last l.self l.invariant.fits
 
@@ -30,7 +30,7 @@ pub loop-number-preserved : goal.loop-number-preserved
 loop-number-preserved c =
     let l = c.loop-number in
     let was = l.invariant in
-    let last : IsLast l.numbers.items c.pop.new.self.items l.filled.items c.pop-in-Some.new.self.items l.pages.items c.pop-in-Some-2.new.self.items c.in-Some.number c.in-Some-Some.flag c.in-Some-Some.page =
+    let last : IsLast l.numbers c.pop.new.self l.filled c.pop-in-Some.new.self l.pages c.pop-in-Some-2.new.self c.in-Some.number c.in-Some-Some.flag c.in-Some-Some.page =
     record { held = was.held; numbers = c.in-Some.ensures.items; filled = c.in-Some-Some.ensures.items; pages = c.in-Some-Some.ensures'.items } in
     let step = put-last last l.self c.lay_back.new.self was.fits c.lay_back.ensures in
     record {
@@ -42,6 +42,10 @@ loop-number-preserved c =
       fits = step.fits;
       joined = λ f. step.joined f ∙ was.joined f;
     }
+
+no-number : (n : ℕ) → (0 < n → ⊥) → n ≡ 0
+no-number zero none = refl
+no-number (suc n) none = absurd (none (omega arith))
 
 pub returns : goal.returns
 returns c =
@@ -55,7 +59,7 @@ returns c =
       reserved = was.reserved;
       pages = λ f.
           sym (either-none (page_at l.self f))
-          ∙ ap (either (page_at l.self f)) (sym (cells-end l.numbers.items (cells l.filled.items l.pages.items) f (omega (arith, c.in_default.ensures.cases.0, l.numbers.ok.0))))
+          ∙ ap (either (page_at l.self f)) (sym (cells-end l.numbers (cells l.filled l.pages) f (no-number (length l.numbers) (λ some. (let never = c.in_default.ensures.some.1 some in cc)))))
           ∙ was.joined f
-          ∙ ap (either (page_at c.args.self.now f)) (sym (page_at-cells c.args.numbers.items c.args.filled.items c.args.pages.items f held.flags held.pages));
+          ∙ ap (either (page_at c.args.self.now f)) (sym (page_at-cells c.args.numbers c.args.filled c.args.pages f held.flags held.pages));
     }

@@ -1,22 +1,26 @@
-use Rattle.std.proofs.Common.{◌≡◌, true, false, sym, ◌∙◌, arith}
+use Rattle.std.proofs.Common.{◌≡◌, true, false, length, sym, ◌∙◌, arith}
 use Rattle.kc_parts.specs.Parts.{place_of, is_filled}
 use Rattle.kc_parts.proofs.Places.{filled-at, filled-nowhere}
-use Rattle.kc_parts.proofs.parts.Parts.place_in.Goals.{else-at-len-via-then-at-len+else-index, else-at-len-via-else-at-len}
+use Rattle.kc_parts.proofs.parts.Parts.place_in.Goals.{else-at-count-via-then-at-count+else-get, else-at-count-via-else-at-count}
 use Rattle.kc_parts.proofs.parts.Parts.place_in.Goals as goal
 
-pub returns-then-index : goal.returns-then-index
-returns-then-index c =
+pub returns-then-get : goal.returns-then-get
+returns-then-get c =
     let p = c.self.inside in
-    let at : c.place_of-at.result ≡ place_of p.numbers.items c.args.frame = rw (c.as_slice.ensures.value, c.number.ensures.value) at c.place_of-at.ensures in
-    let filled : is_filled p.numbers.items p.filled.items c.args.frame ≡ true = filled-at p.numbers.items p.filled.items c.args.frame c.index.result.now true (rw (← at) (omega arith)) c.self.invariant.flags (rw (← at) (sym c.index.ensures) ∙ c.if-index.true) in
+    let at : c.place_of-at.result ≡ place_of p.numbers c.args.frame = rw c.number.ensures.value at c.place_of-at.ensures in
+    let flags : length p.filled ≡ length p.numbers = c.self.invariant.flags in
+    let filled : is_filled p.numbers p.filled c.args.frame ≡ true = filled-at p.numbers p.filled c.args.frame true true (rw (← at) (let low = c.if-at-count.true in let count = c.len-count.ensures in omega (arith, low, count, flags))) flags (rw (← at) (sym c.get.ensures ∙ c.if-get.true)) in
     rw (← c.self.view_is, filled) at
 
-pub returns-else-at-len : goal.returns-else-at-len
-returns-else-at-len c =
+pub returns-else-at-count : goal.returns-else-at-count
+returns-else-at-count c =
     let p = c.self.inside in
-    let at : c.place_of-at.result ≡ place_of p.numbers.items c.args.frame = rw (c.as_slice.ensures.value, c.number.ensures.value) at c.place_of-at.ensures in
-    let empty : is_filled p.numbers.items p.filled.items c.args.frame ≡ false = elim c.else-at-len.branch [
-      | else-at-len-via-then-at-len+else-index w ↦ filled-at p.numbers.items p.filled.items c.args.frame w.index.result.now false (rw (← at) (omega arith)) c.self.invariant.flags (rw (← at) (sym w.index.ensures) ∙ w.if-index.false)
-      | else-at-len-via-else-at-len w ↦ filled-nowhere p.numbers.items p.filled.items c.args.frame (rw (← at) (let no = w.if-at-len.false in omega (arith, no))) c.self.invariant.flags
+    let at : c.place_of-at.result ≡ place_of p.numbers c.args.frame = rw c.number.ensures.value at c.place_of-at.ensures in
+    let flags : length p.filled ≡ length p.numbers = c.self.invariant.flags in
+    let count = c.len-count.ensures in
+    let pages : length p.pages ≡ length p.numbers = c.self.invariant.pages in
+    let empty : is_filled p.numbers p.filled c.args.frame ≡ false = elim c.else-at-count.branch [
+      | else-at-count-via-then-at-count+else-get w ↦ filled-at p.numbers p.filled c.args.frame true false (rw (← at) (let low = w.if-at-count.true in omega (arith, low, count, flags))) flags (rw (← at) (sym w.get.ensures ∙ w.if-get.false))
+      | else-at-count-via-else-at-count w ↦ filled-nowhere p.numbers p.filled c.args.frame (rw (← at) (let no = w.if-at-count.false in omega (arith, no, count))) flags
     ] in
-    rw (← c.self.view_is, empty) (omega arith)
+    rw (← c.self.view_is, empty) (omega (arith, count, pages))
