@@ -101,7 +101,7 @@ pub fn dump(
 {
     let digests = Digests {
         form: StateForm::Whole,
-        each: frame_digests(rt, alloc, core.pages(), lanes)?,
+        each: frame_digests(rt, alloc, core.all_bytes(alloc)?.as_slice(), lanes)?,
     };
     dump_with(alloc, core, &digests)
 }
