@@ -338,8 +338,8 @@ impl KCore {
         ensures { IfOk result (λ all. AreBytesOf self.now.state all.items) }
     {
         let mut all = Vec::with_capacity(alloc, self.config.frames() as usize)?;
-        for frame in 0..self.config.frames() {
-            all.push(self.bytes(frame).unwrap())?;
+        for number in 0..self.config.frames() {
+            all.push(self.bytes(number).unwrap())?;
         }
         Ok(all)
     }
