@@ -1,12 +1,13 @@
 -- What a core shows of its parts is what the state has.
-use Rattle.std.proofs.Common.{ℕ, suc, ◌≡◌, ◌<◌, ◌≤◌, ◌+◌, Bool, true, false, cond, List, [], ◌∷◌, ◌++◌, length, map, Option, Some, None, is_some, eq-eqb, refl, sym, ap, ◌∙◌, arith}
+use Rattle.std.proofs.Common.{ℕ, ◌≡◌, ◌<◌, ◌≤◌, ◌+◌, Bool, true, false, cond, List, [], ◌∷◌, ◌++◌, length, map, Option, Some, None, is_some, eq-eqb, refl, sym, ap, ◌∙◌, arith}
 use Rattle.std.specs.Prelude.{filter}
-use Rattle.std.specs.List.{range_with_len, slice_get}
+use Rattle.std.specs.List.{range_with_len}
 use Rattle.std.specs.Option.{option_map}
+use Rattle.std.specs.Borrow.{Bor}
 use Rattle.std.proofs.lemmas.Bool.{lt-ltb}
-use Rattle.std.proofs.lemmas.List.{map-id, append-nil, get_or_past}
+use Rattle.std.proofs.lemmas.List.{map-id, map-append, append-nil, get_or_past, ext_get_or, get_or-map, length-map}
 use Rattle.std.proofs.lemmas.List.Elements.{filter-append}
-use Rattle.std.proofs.lemmas.List.FromFn.{map-range_with_len_more, length-map-range_with_len}
+use Rattle.std.proofs.lemmas.List.FromFn.{map-range_with_len_more, length-map-range_with_len, get_or-map-range_with_len}
 use Rattle.std.proofs.lemmas.Option.{same_Some}
 use Rattle.kc_types.specs.Limits.{frame_limit}
 use Rattle.kc_model.proofs.States.Configurations.{few-frames}
@@ -15,12 +16,13 @@ use Rattle.kc_types.specs.declared.link.Ends.{Ends}
 use Rattle.kc_types.specs.declared.link.Link.{Link}
 use Rattle.kc_types.specs.declared.owner.Owner.{Owner}
 use Rattle.kc_types.specs.declared.owner.Owner.TheVariants.{Core, Host, Free, Vm}
-use Rattle.kc_model.specs.State.{Frame, Slot, frame_at, slot_at, no_slot}
+use Rattle.kc_model.specs.State.{State, Frame, Slot, frame_at, slot_at, no_slot, untouched}
 use Rattle.kc_model.specs.Lawful.{same_owner, times_in}
 use Rattle.kc_model.specs.Links.{link_in, link_at, list_of}
 use Rattle.kc_page.specs.declared.page.Page.{Page}
 use Rattle.kc_page.specs.declared.page.PageRecord.{PageRecord}
 use Rattle.kc_page.specs.Page.{frame_of, IsRecordOf}
+use Rattle.kc_page.specs.PageBytes.{Content}
 use Rattle.kc_vms.specs.Vm.{VmSlot}
 use Rattle.kc_links.specs.Ending.{listed, IsList}
 use Rattle.kc_links.proofs.Neighbours.{link_in-linked}
@@ -95,12 +97,20 @@ module _ (config : Configuration) (h : Held) (is : IsCore config h) where
             next = sym (ap (λ (l : Link). l.next) link);
           })
 
--- pages in the places of their numbers are the frames
-pub pages-frames : (h : Held) (pages : List Page) (a : ℕ) → ((k : ℕ) → k < length pages → slice_get pages k ≡ page_at h (a + k)) → map frame_of pages ≡ map (λ f. frame_in (page_at h f)) (range_with_len a (length pages))
-pages-frames h [] a each = refl
-pages-frames h (page ∷ pages) a each =
-    let first : page_at h a ≡ Some page = ap (page_at h) (let e : a ≡ a + 0 = omega arith in e) ∙ sym (each 0 (omega arith)) in
-    rw (first, pages-frames h pages (a + 1) (λ k low. each (suc k) (omega (arith, low)) ∙ ap (page_at h) (let e : a + suc k ≡ a + 1 + k = omega arith in e))) refl
+-- the bytes of frames that are lent, with those of one more frame
+pub lent-more : (bytes : ℕ → List ℕ) (n : ℕ) (old new : List (Bor Content)) (one : Bor Content) → map (λ (lent : Bor Content). lent.now.bytes) old ≡ map bytes (range_with_len 0 n) → new ≡ old ++ one ∷ [] → one.now.bytes ≡ bytes n
+    → map (λ (lent : Bor Content). lent.now.bytes) new ≡ map bytes (range_with_len 0 (n + 1))
+lent-more bytes n old new one so_far pushed is =
+    let lent_bytes : Bor Content → List ℕ = λ lent. lent.now.bytes in
+    ap (map lent_bytes) pushed ∙ map-append lent_bytes old (one ∷ []) ∙ ap (λ (l : List (List ℕ)). l ++ one.now.bytes ∷ []) so_far
+    ∙ ap (λ (b : List ℕ). map bytes (range_with_len 0 n) ++ b ∷ []) is ∙ sym (map-range_with_len_more bytes 0 n n (omega arith))
+
+-- the bytes of all frames, by their numbers
+pub bytes-ranged : (m : State) (count : ℕ) → count ≡ length m.frames → map (λ f. (frame_at m f).bytes) (range_with_len 0 count) ≡ map (λ (frame : Frame). frame.bytes) m.frames
+bytes-ranged m count all = ext_get_or [] _ _ (length-map-range_with_len (λ f. (frame_at m f).bytes) 0 count ∙ all ∙ sym (length-map m.frames (λ (frame : Frame). frame.bytes))) (λ i low.
+    let within : i < count = rw (length-map-range_with_len (λ f. (frame_at m f).bytes) 0 count) at low in
+    get_or-map-range_with_len (λ f. (frame_at m f).bytes) 0 count i i [] within (omega arith)
+    ∙ sym (get_or-map (λ (frame : Frame). frame.bytes) m.frames i (untouched Core) [] (rw (← all) within)))
 
 -- the frames of a VM
 pub vm-listed : (config : Configuration) (h : Held) (v : ℕ) (vm : VmSlot) → v < slot_count config → vm_at h v ≡ Some vm → (slot_at (state_of config h) v).frames ≡ listed (links_of h) vm.slot.frames

@@ -1,10 +1,9 @@
 -- Parts whose pages keep their records and change their bytes.
-use Rattle.std.proofs.Common.{ℕ, ◌≡◌, ◌<◌, cond, nat_lt, not, Bool, true, false, List, [], ◌∷◌, ◌++◌, length, map, take, drop, get_or, Option, Some, None, is_some, refl, sym, ap, ◌∙◌, arith}
+use Rattle.std.proofs.Common.{ℕ, ◌≡◌, cond, nat_lt, not, Bool, true, false, List, [], ◌∷◌, map, Option, Some, None, is_some, refl, sym, ap, ◌∙◌}
 use Rattle.std.specs.Prelude.{slice_index_or}
 use Rattle.std.specs.List.{range_with_len, slice_get}
 use Rattle.std.specs.Option.{option_map}
-use Rattle.std.proofs.lemmas.List.{length-map, take_at}
-use Rattle.std.proofs.lemmas.List.FromFn.{length-range_with_len, get_or-range_with_len}
+use Rattle.std.proofs.lemmas.List.{length-map}
 use Rattle.std.proofs.lemmas.Option.{slice_get-map}
 use mathlib.Core.Path.{fun_ext}
 use Rattle.kc_types.specs.Limits.{frame_limit}
@@ -23,27 +22,11 @@ use Rattle.kc_page.specs.declared.page.PageRecord.{PageRecord}
 use Rattle.kc_page.specs.Page.{frame_of, scrubbed_page}
 use Rattle.kc_page.specs.PageBytes.{zeroed}
 use Rattle.kc_parts.specs.Parts.{Held, is_filled, is_sparse, place_of, place_in, page_at, vm_at, link_of, links_of, ends_at}
+use Rattle.kc_parts.specs.Marks.{is_marked, scrubbed_if_marked}
 use Rattle.kc_parts.specs.States.{frame_in, slot_in, list_in, state_of, owner_at}
 use Rattle.kc_parts.proofs.Moving.{lists-same}
 use Rattle.kc_parts.proofs.Seen.{room-kept}
 use Rattle.kc_core.specs.KCore.{IsCore}
-use Rattle.kc_core.specs.Blanking.{is_marked, blank_page}
-use Rattle.kc_core.proofs.Shown.{pages-frames}
-
--- all elements are written back
-pub refilled-same : (old new : List Page) → length new ≡ length old → take (length old) (new ++ drop (length new) old) ≡ new
-refilled-same old new same = take_at new (drop (length new) old) (length old) same
-
--- the pages of a core are its frames
-pub frames-whole : (config : Configuration) (h : Held) (pages : List Page) → IsCore config h → length pages ≡ length h.numbers → ((i : ℕ) → i < length h.numbers → slice_get pages i ≡ page_at h (get_or h.numbers i 0))
-    → map frame_of pages ≡ (state_of config h).frames
-frames-whole config h pages is count each =
-    let numbers = is.whole.numbers in
-    let long : length pages ≡ config.frames = count ∙ ap (λ (ns : List ℕ). length ns) numbers ∙ length-range_with_len 0 config.frames in
-    pages-frames h pages 0 (λ k low.
-    let within : k < config.frames = omega (arith, low, long) in
-    each k (rw (← count) low) ∙ ap (page_at h) (ap (λ ns. get_or ns k 0) numbers ∙ get_or-range_with_len 0 config.frames k 0 within))
-    ∙ ap (λ n. map (λ f. frame_in (page_at h f)) (range_with_len 0 n)) long
 
 -- pages keep their records, and each is changed as a frame is
 module _ (config : Configuration) (h : Held) (page_to : Page → Page) (frame_to : Frame → Frame)
@@ -133,22 +116,22 @@ module _ (config : Configuration) (h : Held) (marks : List Bool) (active : (v : 
   page-blank Free = refl
   page-blank (Vm v) = active v
 
-  frame-blank : (page : Page) → frame_of (blank_page marks page) ≡ blank_frame (state_of config h) (frame_of page)
+  frame-blank : (page : Page) → frame_of (scrubbed_if_marked marks page) ≡ blank_frame (state_of config h) (frame_of page)
   frame-blank page = by_test (is_marked marks page.meta.owner) ∙ ap (λ test. record (frame_of page) { bytes = cond test zero_page page.bytes.bytes }) (page-blank page.meta.owner)
     where
       by_test : (test : Bool) → frame_of (record page { bytes = cond test (zeroed page.bytes) page.bytes }) ≡ record (frame_of page) { bytes = cond test zero_page page.bytes.bytes }
       by_test true = refl
       by_test false = refl
 
-  reserved-blank : (page : Page) → (blank_page marks page).bytes.is_reserved ≡ page.bytes.is_reserved
+  reserved-blank : (page : Page) → (scrubbed_if_marked marks page).bytes.is_reserved ≡ page.bytes.is_reserved
   reserved-blank page = by_test (is_marked marks page.meta.owner)
     where
       by_test : (test : Bool) → (cond test (zeroed page.bytes) page.bytes).is_reserved ≡ page.bytes.is_reserved
       by_test true = refl
       by_test false = refl
 
-  pub state-blank : state_of config (record h { pages = map (blank_page marks) h.pages }) ≡ blank_state (state_of config h)
-  state-blank = state-changed config h (blank_page marks) (blank_frame (state_of config h)) (λ page. refl) frame-blank reserved-blank refl
+  pub state-blank : state_of config (record h { pages = map (scrubbed_if_marked marks) h.pages }) ≡ blank_state (state_of config h)
+  state-blank = state-changed config h (scrubbed_if_marked marks) (blank_frame (state_of config h)) (λ page. refl) frame-blank reserved-blank refl
 
-  pub core-blank : IsCore config h → IsCore config (record h { pages = map (blank_page marks) h.pages })
-  core-blank is = core-changed config h (blank_page marks) (blank_frame (state_of config h)) (λ page. refl) frame-blank reserved-blank refl (audited_blank (state_of config h) [] is.lawful).lawful is
+  pub core-blank : IsCore config h → IsCore config (record h { pages = map (scrubbed_if_marked marks) h.pages })
+  core-blank is = core-changed config h (scrubbed_if_marked marks) (blank_frame (state_of config h)) (λ page. refl) frame-blank reserved-blank refl (audited_blank (state_of config h) [] is.lawful).lawful is

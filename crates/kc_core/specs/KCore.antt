@@ -1,13 +1,15 @@
 -- What holds of a core's parts.
-use Rattle.std.specs.Prelude.{ℕ, ◌≡◌, Bool, true, false, if◌then◌else◌, is_none, length, Option, Some, None}
+use Rattle.std.specs.Prelude.{ℕ, ◌≡◌, Bool, true, false, if◌then◌else◌, is_none, List, length, map, Option, Some, None}
 use Rattle.std.specs.Option.{option_map}
+use Rattle.std.specs.Borrow.{Bor}
 use Rattle.kc_types.specs.Configuration.{Configuration}
 use Rattle.kc_types.specs.declared.owner.Owner.{Owner}
 use Rattle.kc_types.specs.declared.owner.Owner.TheVariants.{Core, Host, Free, Vm}
 use Rattle.kc_page.specs.declared.page.Page.{Page}
 use Rattle.kc_page.specs.declared.page.PageRecord.{PageRecord}
+use Rattle.kc_page.specs.PageBytes.{Content}
 use Rattle.kc_types.specs.declared.call.Call.TheVariants.{Verify}
-use Rattle.kc_model.specs.State.{State, slot_at}
+use Rattle.kc_model.specs.State.{State, Frame, slot_at}
 use Rattle.kc_model.specs.Refusals.{refusal}
 use Rattle.kc_model.specs.Lawful.{IsLawful}
 use Rattle.kc_parts.specs.Parts.{Held, page_at}
@@ -47,6 +49,10 @@ shown meta = record meta { prev = if has_list meta.owner then meta.prev else Non
 
 abbrev pub ShowsRecord : Held → ℕ → PageRecord → Type 0
 ShowsRecord parts f meta = Some meta ≡ option_map (λ (page : Page). shown page.meta) (page_at parts f)
+
+-- the bytes of all frames, by frame number, as they are lent
+abbrev pub AreBytesOf : State → List (Bor Content) → Type 0
+AreBytesOf m all = map (λ (bytes : Bor Content). bytes.now.bytes) all ≡ map (λ (frame : Frame). frame.bytes) m.frames
 
 -- the number of frames that `verify` of a slot hashes: all that the slot has, or none if the call is refused
 abbrev pub frames_to_hash : State → ℕ → ℕ

@@ -3,6 +3,5 @@ pub mod Verifying
 pub mod Guests
 pub mod Hands
 pub mod KCore
-pub mod Blanking
 pub mod Runs
 pub mod Locality

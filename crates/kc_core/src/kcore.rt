@@ -17,16 +17,15 @@ ghost use Rattle.kc_model.specs.Linked.{ends_of};
 ghost use Rattle.kc_model.specs.Wiped.{wiped};
 ghost use Rattle.kc_model.specs.Blanking.{blank_state};
 ghost use Rattle.kc_model.specs.Refusals.{is_active};
-ghost use Rattle.kc_page.specs.Page.{frame_of, IsRecordOf};
+ghost use Rattle.kc_page.specs.Page.{IsRecordOf};
 ghost use Rattle.kc_parts.specs.States.{unlinked_slot};
-ghost use Rattle.kc_core.specs.KCore.{core_of, IsCore, frames_to_hash};
+ghost use Rattle.kc_core.specs.KCore.{core_of, IsCore, AreBytesOf, frames_to_hash};
 
-use crate::blanking::{Marks, blank_each};
 use crate::dispatch::{answer, apply};
 use crate::look_ups::{frames_of, page_record};
 use crate::verify::{Verified, booted_slot, verify};
-use kc_page::{Page, PageBytes, PageRecord, scrub_all};
-use kc_parts::Parts;
+use kc_page::{PageBytes, PageRecord};
+use kc_parts::{Marks, Parts};
 use kc_types::{
     Call, CallBuffer, Config, Ends, FrameNo, Gfn, Image, Memory, Owner, Phase, Reply, Vcpu,
 };
@@ -333,11 +332,16 @@ impl KCore {
         Some(self.try_slot(vm)?.table().leaves())
     }
 
-    /// All pages, by frame number.
-    pub fn pages(&self) -> &[Page]
-        ensures { map frame_of result.now ≡ self.now.state.frames }
+    /// Lists the bytes of all frames, by frame number. `Memory` if memory runs out.
+    pub fn all_bytes(&self, alloc: Global) -> Result<Vec<&PageBytes>, Memory>
+        // No clause can rule out that memory runs out: a test dumps a core.
+        ensures { IfOk result (λ all. AreBytesOf self.now.state all.items) }
     {
-        self.parts.pages()
+        let mut all = Vec::with_capacity(alloc, self.config.frames() as usize)?;
+        for number in 0..self.config.frames() {
+            all.push(self.bytes(number).unwrap())?;
+        }
+        Ok(all)
     }
 
     /// Whether the VM in a slot is active; false if the slot does not exist.
@@ -369,7 +373,7 @@ impl KCore {
         ensures reserved { self.new.is_reserved ≡ self.old.is_reserved }
     {
         let active = self.active_slots();
-        blank_each(self.parts.pages_mut(), &active);
+        self.parts.scrub_marked(&active);
     }
 
     /// Zeroes all bytes, with several threads, and changes nothing else. It cannot fail: if no thread can be started,
@@ -378,6 +382,6 @@ impl KCore {
         ensures state { self.new.state ≡ wiped self.old.state }
         ensures reserved { self.new.is_reserved ≡ self.old.is_reserved }
     {
-        scrub_all(rt, self.parts.pages_mut());
+        self.parts.wipe(rt);
     }
 }

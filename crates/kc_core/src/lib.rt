@@ -11,10 +11,9 @@
 //! - what a call does with parts of a state: `specs/Locality.antt`, `IsLocalityOfParts`
 //! - what runs around each call: `src/gate.rt`
 //! - what `verify` measured: `src/verify.rt`, `Verified`
-//! - the pages of active VMs zeroed, for states that are passed on: `src/blanking.rt`
+//! - the pages of active VMs zeroed, for states that are passed on: `src/kcore.rt`, `blank`
 #![tactic(auto)]
 
-mod blanking;
 mod dispatch;
 mod freeing;
 mod gate;

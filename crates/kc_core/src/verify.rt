@@ -14,6 +14,7 @@ ghost use Rattle.kc_model.specs.Effects.{first_failing, launch_digest, unapprove
 ghost use Rattle.kc_model.specs.Custody.{measured_images, launch_of, measurement_by, nothing_measured};
 ghost use Rattle.kc_types.specs.declared.custody.MeasuredImage.{MeasuredImage};
 ghost use Rattle.kc_vms.specs.Measure.{WasFed};
+ghost use Rattle.kc_parts.specs.Chunks.{page_of};
 ghost use Rattle.kc_parts.specs.Parts.{vm_at};
 ghost use Rattle.kc_parts.specs.States.{state_of, IsLinked};
 ghost use Rattle.kc_core.specs.Applying.{IsAble, IsAnswer, KeepsPlaces, reply_of};
@@ -21,8 +22,7 @@ ghost use Rattle.kc_core.specs.Verifying.{mapped_in, page_under, bytes_under, by
 
 use arrayvec::ArrayVec;
 use kc_digests::MeasureFour;
-use kc_page::Page;
-use kc_parts::Parts;
+use kc_parts::{PageRef, Parts};
 use kc_types::{
     Config, FrameNo, Gfn, IMAGE_LIMIT, Image, MeasuredImage, PAGE_SIZE, Phase, Refusal, Reply, VmId,
 };
@@ -39,11 +39,11 @@ fn backing(table: &Stage2, gfn: u32) -> FrameNo
 }
 
 /// The page at a mapped guest frame, which is here.
-fn page_under<'a>(parts: &'a Parts, table: &Stage2, gfn: u32) -> &'a Page
+fn page_under<'a>(parts: &'a Parts, table: &Stage2, gfn: u32) -> PageRef<'a>
     requires low { gfn < gfn_limit }
     requires mapped { is_some (finite.get table.now.mapped gfn) ≡ true }
     requires here { is_some (page_under parts.now (finite.get table.now.mapped) gfn) ≡ true }
-    ensures { page_under parts.now (finite.get table.now.mapped) gfn ≡ Some result.now }
+    ensures { page_under parts.now (finite.get table.now.mapped) gfn ≡ Some (page_of result) }
 {
     parts.page(backing(table, gfn))
 }
@@ -110,7 +110,7 @@ fn feed_image(parts: &Parts, table: &Stage2, image: &Image, measure: &mut Measur
     let mut left = image.len;
     for gfn in image.base..image.base + pages_of(image.len) {
         let used = left.min(PAGE_SIZE);
-        measure.page(&page_under(parts, table, gfn).bytes, used as usize);
+        measure.page(page_under(parts, table, gfn).bytes, used as usize);
         left -= used;
     }
 }

@@ -1,7 +1,7 @@
 //! What has the bytes of a page.
 ghost use Rattle.std.specs.Prelude.{◌≡◌, ℕ, List};
 
-use kc_page::{Page, PageBytes};
+use kc_page::PageBytes;
 
 /// What has the bytes of a page.
 pub(crate) trait Bytes {
@@ -20,10 +20,10 @@ impl Bytes for PageBytes {
     }
 }
 
-impl Bytes for Page {
-    ghost bytes = { λ page. page.bytes.bytes };
+impl Bytes for &PageBytes {
+    ghost bytes = { λ page. page.now.bytes };
 
     fn bytes(&self) -> &PageBytes {
-        &self.bytes
+        *self
     }
 }

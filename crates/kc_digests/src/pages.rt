@@ -3,13 +3,13 @@ ghost use Rattle.std.specs.Prelude.{◌≡◌, ◌↔◌, ◌+◌, ◌<◌, ◌�
 ghost use Rattle.sha2.specs.Sha256.{sha256};
 ghost use Rattle.kc_types.specs.Limits.{page_size};
 ghost use Rattle.kc_model.specs.State.{zero_page};
-ghost use Rattle.kc_digests.specs.Digests.{digest_by, digest_of, digest_of_bytes};
+ghost use Rattle.kc_digests.specs.Digests.{digest_by, digest_lent, digest_of_bytes};
 
 use crate::bytes::Bytes;
 use crate::measure::{BLOCK, lane_digest, last_blocks, run_blocks};
 use crate::state::initial;
 use crate::vector::{MOST_LANES, Vector};
-use kc_page::{Page, PageBytes};
+use kc_page::PageBytes;
 use kc_types::{Memory, PAGE_SIZE};
 use rayon::prelude::par_chunks_mut_for_each;
 use sha2::{Digest, Sha256};
@@ -157,21 +157,21 @@ fn digests<P: Bytes + Sync>(
     Ok(digests)
 }
 
-/// Computes the SHA-256 digest (FIPS 180-4) of each page, in order, with several threads, this many side by side.
+/// Computes the SHA-256 digest (FIPS 180-4) of each page that is lent, in order, with several threads, this many side by side.
 /// `Memory` if memory runs out; if no thread can be started, this one does everything.
 pub fn frame_digests(
     rt: &(impl Threads + Sync),
     alloc: Global,
-    pages: &[Page],
+    pages: &[&PageBytes],
     lanes: Lanes,
 ) -> Result<Vec<[u8; 32]>, Memory>
     // No clause can rule out that memory runs out: a test hashes pages.
-    ensures { IfOk result (λ digests. digests.items ≡ map digest_of pages.now) }
+    ensures { IfOk result (λ digests. digests.items ≡ map digest_lent pages.now) }
 {
     digests(rt, alloc, pages, lanes)
 }
 
-/// Does what `frame_digests` does, for pages without records.
+/// Does what `frame_digests` does, for pages that are not lent one by one.
 pub fn bytes_digests(
     rt: &(impl Threads + Sync),
     alloc: Global,

@@ -129,7 +129,7 @@ pub(crate) fn run_wave<R: Threads + Wait + Sync, G: Gate + Sync>(
 {
     let outcome = share_out(crew, config, store, wave, workers, replies);
     if outcome.is_err() {
-        store.wipe();
+        store.wipe(crew.rt);
     }
     outcome
 }

@@ -1,21 +1,22 @@
 -- The parts of a core's dump, one after another.
 use Rattle.std.proofs.Common.{ℕ, ◌≡◌, ◌<◌, ◌+◌, List, [], ◌∷◌, ◌++◌, length, map, take, get_or, refl, sym, ap, ◌∙◌, arith}
 use Rattle.std.specs.List.{range_with_len}
+use Rattle.std.specs.Borrow.{Bor}
 use Rattle.std.proofs.lemmas.List.{ext_get_or, get_or-map, length-map, map-append, take_more}
 use Rattle.std.proofs.lemmas.List.FromFn.{map-range_with_len_more, get_or-map-range_with_len, length-map-range_with_len}
 use Rattle.kc_types.specs.Configuration.{slot_count}
 use Rattle.kc_model.specs.State.{State, Frame, frame_at, slot_at, untouched, no_slot}
 use Rattle.kc_model.specs.Links.{link_at}
 use Rattle.kc_model.specs.Lawful.{IsLawful}
-use Rattle.kc_page.specs.declared.page.Page.{Page}
 use Rattle.kc_page.specs.declared.page.PageRecord.{PageRecord}
-use Rattle.kc_page.specs.Page.{frame_of, IsRecordOf}
+use Rattle.kc_page.specs.Page.{IsRecordOf}
 use Rattle.kc_page.specs.PageBytes.{Content}
 use Rattle.kc_types.specs.declared.owner.Owner.TheVariants.{Core}
 use Rattle.sha2.specs.Sha256.{sha256}
 use Rattle.kc_dump.specs.declared.line.FrameLine.{FrameLine}
 use Rattle.kc_dump.specs.Dump.{empty_dump}
-use Rattle.kc_digests.specs.Digests.{digest_of, digest_of_bytes}
+use Rattle.kc_digests.specs.Digests.{digest_lent, digest_of_bytes}
+use Rattle.kc_core.specs.KCore.{AreBytesOf}
 use Rattle.kc_snapshot.specs.Dumping.{frame_line, digests_of, slot_dump, slot_dumps}
 
 -- one more, by its number
@@ -24,15 +25,19 @@ more f n k old new x so_far pushed made is =
     let last : x ≡ f n = made ∙ ap f is in
     pushed ∙ ap (λ l. l ++ x ∷ []) so_far ∙ ap (λ y. map f (range_with_len 0 n) ++ y ∷ []) last ∙ sym (map-range_with_len_more f 0 n n (omega arith))
 
-pages-digests : (pages : List Page) (frames : List Frame) → map frame_of pages ≡ frames → map digest_of pages ≡ map (λ (frame : Frame). sha256 frame.bytes) frames
-pages-digests pages frames is = same pages ∙ ap (map (λ (frame : Frame). sha256 frame.bytes)) is
+pages-digests : (all : List (Bor Content)) (frames : List Frame) → map (λ (lent : Bor Content). lent.now.bytes) all ≡ map (λ (frame : Frame). frame.bytes) frames → map digest_lent all ≡ map (λ (frame : Frame). sha256 frame.bytes) frames
+pages-digests all frames is = lent all ∙ ap (map sha256) is ∙ sym (framed frames)
   where
-    same : (pages : List Page) → map digest_of pages ≡ map (λ (frame : Frame). sha256 frame.bytes) (map frame_of pages)
-    same [] = refl
-    same (page ∷ pages) = ap (λ l. sha256 page.bytes.bytes ∷ l) (same pages)
+    lent : (all : List (Bor Content)) → map digest_lent all ≡ map sha256 (map (λ (lent : Bor Content). lent.now.bytes) all)
+    lent [] = refl
+    lent (page ∷ pages) = ap (λ l. sha256 page.now.bytes ∷ l) (lent pages)
 
-pub digests-made : (m : State) (pages : List Page) (digests : List (List ℕ)) → map frame_of pages ≡ m.frames → digests ≡ map digest_of pages → digests ≡ digests_of m
-digests-made m pages digests is made = made ∙ pages-digests pages m.frames is
+    framed : (frames : List Frame) → map (λ (frame : Frame). sha256 frame.bytes) frames ≡ map sha256 (map (λ (frame : Frame). frame.bytes) frames)
+    framed [] = refl
+    framed (frame ∷ frames) = ap (λ l. sha256 frame.bytes ∷ l) (framed frames)
+
+pub digests-made : (m : State) (all : List (Bor Content)) (digests : List (List ℕ)) → AreBytesOf m all → digests ≡ map digest_lent all → digests ≡ digests_of m
+digests-made m all digests is made = made ∙ pages-digests all m.frames is
 
 pub slots-made : (m : State) → IsLawful m → slot_dumps m (slot_count m.config) ≡ map slot_dump m.slots
 slots-made m is = ext_get_or empty_dump _ _ (length-map-range_with_len (λ v. slot_dump (slot_at m v)) 0 (slot_count m.config) ∙ sym (length-map m.slots slot_dump ∙ is.slots)) (λ i low.

@@ -99,9 +99,10 @@ pub fn dump(
     ensures dump { IfOk result (λ dump. dump ≡ dump_of core.now.state) }
     ensures sound { IfOk result IsSound }
 {
+    let all = core.all_bytes(alloc)?;
     let digests = Digests {
         form: StateForm::Whole,
-        each: frame_digests(rt, alloc, core.pages(), lanes)?,
+        each: frame_digests(rt, alloc, all.as_slice(), lanes)?,
     };
     dump_with(alloc, core, &digests)
 }
