@@ -157,8 +157,8 @@ fn digests<P: Bytes + Sync>(
     Ok(digests)
 }
 
-/// Computes the SHA-256 digest (FIPS 180-4) of each page that is lent, in order, with several threads, this many side by side.
-/// `Memory` if memory runs out; if no thread can be started, this one does everything.
+/// Computes the SHA-256 digest (FIPS 180-4) of each page that is lent, in order, with several threads, this many side by
+/// side. `Memory` if memory runs out; if no thread can be started, this one does everything.
 pub fn frame_digests(
     rt: &(impl Threads + Sync),
     alloc: Global,
@@ -171,7 +171,7 @@ pub fn frame_digests(
     digests(rt, alloc, pages, lanes)
 }
 
-/// Does what `frame_digests` does, for pages that are not lent one by one.
+/// Does what `frame_digests` does, for pages that follow one another in memory.
 pub fn bytes_digests(
     rt: &(impl Threads + Sync),
     alloc: Global,
