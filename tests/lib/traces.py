@@ -11,8 +11,8 @@ LENGTHS = [1, 3, 4095, 4096, 4097, 8192]
 APPROVED = [b"abc"] + [bytes(length) for length in LENGTHS if length != 4095]
 # Of a machine with more frames only those are looked for that calls named, and those at the ends of what each owner has.
 FEW = 4096
-# The frames of a large machine of version 3, of each of which the program keeps 40 bytes at boot; and of one that may be
-# run live, or by workers that are started, which takes the memory of all its pages.
+# The frames of a large machine of version 3, of each of which the program keeps 40 bytes once it, or one near it,
+# changes; and of one that may be run live, or by workers that are started, which takes the memory of all its pages.
 LARGE, LARGE_LIVE = 2**20, 2**17
 # The program starts threads for a wave in which the calls other than the longest hash this many frames or more.
 FRAMES_WORTH_A_THREAD = 32
