@@ -212,8 +212,11 @@ impl KCore {
         ensures exists { IsSome result ↔ (frame < self.now.state.config.frames) }
         ensures value { IfSome result (λ bytes. bytes.now.bytes ≡ (frame_at self.now.state frame).bytes) }
     {
-        let page = self.parts.try_page(self.config.frame(frame)?)?;
-        Some(&page.bytes)
+        let frame = self.config.frame(frame)?;
+        match self.parts.try_page(frame) {
+            Some(page) => Some(page.bytes),
+            None => None,
+        }
     }
 
     /// Lists the frames of an owner: free frames and a VM's in the order of their list, the core's and the host's in

@@ -8,12 +8,11 @@ use Rattle.std.proofs.lemmas.List.{get_or_past, length-map, set-append_left, set
 use Rattle.std.proofs.lemmas.Option.{slice_get_past}
 use Rattle.std.proofs.Math.Seq.{get_or-append_seam}
 use Rattle.kc_page.specs.declared.page.Page.{Page}
-use Rattle.kc_parts.specs.declared.layout.Layout.{Layout}
-use Rattle.kc_parts.specs.Chunks.{page_at_boot, pages_at_boot, all_pages, AreChunks}
+use Rattle.kc_parts.specs.Chunks.{all_pages, AreChunks}
 
 -- all chunks have as many pages as a chunk can have
 abbrev pub AreFull : List (List Page) → Type 0
-AreFull chunks = (k : ℕ) → k < length chunks → length (get_or chunks k []) ≡ 8192
+AreFull chunks = (k : ℕ) → k < length chunks → length (get_or chunks k []) ≡ 16384
 
 pub no-chunks : AreFull []
 no-chunks k low = absurd (omega (arith, low))
@@ -40,55 +39,55 @@ slice_get-right (x ∷ xs) ys (suc n) (suc i) long past =
     slice_get-right xs ys n i (omega (arith, long)) (omega (arith, past)) ∙ ap (slice_get ys) (sym same)
 
 -- a page is found in the chunk of its place
-pub page-in : (cs : List (List Page)) (at : ℕ) → AreChunks cs → slice_get (all_pages cs) at ≡ slice_get (get_or cs (at / 8192) []) (at % 8192)
+pub page-in : (cs : List (List Page)) (at : ℕ) → AreChunks cs → slice_get (all_pages cs) at ≡ slice_get (get_or cs (at / 16384) []) (at % 16384)
 page-in [] at are = refl
-page-in (c ∷ []) at are = elim (cases_lt at 8192) [
+page-in (c ∷ []) at are = elim (cases_lt at 16384) [
   | inl low ↦
-      let first : at / 8192 ≡ 0 = omega (arith, low) in
-      let same : at % 8192 ≡ at = omega (arith, low) in
+      let first : at / 16384 ≡ 0 = omega (arith, low) in
+      let same : at % 16384 ≡ at = omega (arith, low) in
       rw (first, same) (ap (λ ps. slice_get ps at) (append-nil c))
   | inr past ↦
-      let second : at / 8192 ≡ suc ((at - 8192) / 8192) = omega (arith, past) in
-      let small : length c ≤ 8192 = are.small 0 in
+      let second : at / 16384 ≡ suc ((at - 16384) / 16384) = omega (arith, past) in
+      let small : length c ≤ 16384 = are.small 0 in
       rw second (ap (λ ps. slice_get ps at) (append-nil c) ∙ slice_get_past c at (omega (arith, small, past)))
 ]
 page-in (c ∷ d ∷ cs) at are =
-    let full : length c ≡ 8192 = are.full 0 (omega arith) in
-    elim (cases_lt at 8192) [
+    let full : length c ≡ 16384 = are.full 0 (omega arith) in
+    elim (cases_lt at 16384) [
       | inl low ↦
-          let first : at / 8192 ≡ 0 = omega (arith, low) in
-          let same : at % 8192 ≡ at = omega (arith, low) in
+          let first : at / 16384 ≡ 0 = omega (arith, low) in
+          let same : at % 16384 ≡ at = omega (arith, low) in
           rw (first, same) (slice_get-left c (all_pages (d ∷ cs)) at (omega (arith, low, full)))
       | inr past ↦
-          let second : at / 8192 ≡ suc ((at - 8192) / 8192) = omega (arith, past) in
-          let same : at % 8192 ≡ (at - 8192) % 8192 = omega (arith, past) in
-          rw (second, same) (slice_get-right c (all_pages (d ∷ cs)) 8192 at full past ∙ page-in (d ∷ cs) (at - 8192) (later c (d ∷ cs) are))
+          let second : at / 16384 ≡ suc ((at - 16384) / 16384) = omega (arith, past) in
+          let same : at % 16384 ≡ (at - 16384) % 16384 = omega (arith, past) in
+          rw (second, same) (slice_get-right c (all_pages (d ∷ cs)) 16384 at full past ∙ page-in (d ∷ cs) (at - 16384) (later c (d ∷ cs) are))
     ]
 
 -- a page past the chunks is nowhere
-pub page-past : (cs : List (List Page)) (at : ℕ) → AreChunks cs → length cs ≤ at / 8192 → slice_get (all_pages cs) at ≡ None
-page-past cs at are past = page-in cs at are ∙ ap (λ c. slice_get c (at % 8192)) (get_or_past cs (at / 8192) [] past)
+pub page-past : (cs : List (List Page)) (at : ℕ) → AreChunks cs → length cs ≤ at / 16384 → slice_get (all_pages cs) at ≡ None
+page-past cs at are past = page-in cs at are ∙ ap (λ c. slice_get c (at % 16384)) (get_or_past cs (at / 16384) [] past)
 
 -- a page that is changed is changed in the chunk of its place
-pub page-set : (cs : List (List Page)) (at : ℕ) (w : Page) → AreChunks cs → at / 8192 < length cs → all_pages (set cs (at / 8192) (set (get_or cs (at / 8192) []) (at % 8192) w)) ≡ set (all_pages cs) at w
+pub page-set : (cs : List (List Page)) (at : ℕ) (w : Page) → AreChunks cs → at / 16384 < length cs → all_pages (set cs (at / 16384) (set (get_or cs (at / 16384) []) (at % 16384) w)) ≡ set (all_pages cs) at w
 page-set [] at w are low = absurd (omega (arith, low))
 page-set (c ∷ []) at w are within =
-    let low : at < 8192 = omega (arith, within) in
-    let first : at / 8192 ≡ 0 = omega (arith, low) in
-    let same : at % 8192 ≡ at = omega (arith, low) in
+    let low : at < 16384 = omega (arith, within) in
+    let first : at / 16384 ≡ 0 = omega (arith, low) in
+    let same : at % 16384 ≡ at = omega (arith, low) in
     rw (first, same) (append-nil (set c at w) ∙ ap (λ ps. set ps at w) (sym (append-nil c)))
 page-set (c ∷ d ∷ cs) at w are within =
-    let full : length c ≡ 8192 = are.full 0 (omega arith) in
-    elim (cases_lt at 8192) [
+    let full : length c ≡ 16384 = are.full 0 (omega arith) in
+    elim (cases_lt at 16384) [
       | inl low ↦
-          let first : at / 8192 ≡ 0 = omega (arith, low) in
-          let same : at % 8192 ≡ at = omega (arith, low) in
+          let first : at / 16384 ≡ 0 = omega (arith, low) in
+          let same : at % 16384 ≡ at = omega (arith, low) in
           rw (first, same) (sym (set-append_left c (all_pages (d ∷ cs)) at w (omega (arith, low, full))))
       | inr past ↦
-          let second : at / 8192 ≡ suc ((at - 8192) / 8192) = omega (arith, past) in
-          let same : at % 8192 ≡ (at - 8192) % 8192 = omega (arith, past) in
-          let rest : (at - 8192) / 8192 < length (d ∷ cs) = omega (arith, within, second) in
-          rw (second, same) (ap (λ ps. c ++ ps) (page-set (d ∷ cs) (at - 8192) w (later c (d ∷ cs) are) rest) ∙ sym (set-append_right c (all_pages (d ∷ cs)) 8192 at w full past))
+          let second : at / 16384 ≡ suc ((at - 16384) / 16384) = omega (arith, past) in
+          let same : at % 16384 ≡ (at - 16384) % 16384 = omega (arith, past) in
+          let rest : (at - 16384) / 16384 < length (d ∷ cs) = omega (arith, within, second) in
+          rw (second, same) (ap (λ ps. c ++ ps) (page-set (d ∷ cs) (at - 16384) w (later c (d ∷ cs) are) rest) ∙ sym (set-append_right c (all_pages (d ∷ cs)) 16384 at w full past))
     ]
 
 -- a chunk may become any other that is as long
@@ -96,7 +95,7 @@ pub same-long : (cs : List (List Page)) (k : ℕ) (c : List Page) → AreChunks 
 same-long cs k c are long = record {
   some = λ j low. subst (λ n. 0 < n) (sym (kept cs k c j long)) (are.some j (omega (arith, low, length-set cs k c)));
   full = λ j low. kept cs k c j long ∙ are.full j (omega (arith, low, length-set cs k c));
-  small = λ j. subst (λ n. n ≤ 8192) (sym (kept cs k c j long)) (are.small j);
+  small = λ j. subst (λ n. n ≤ 16384) (sym (kept cs k c j long)) (are.small j);
 }
   where
     kept : (cs : List (List Page)) (k : ℕ) (c : List Page) (j : ℕ) → length c ≡ length (get_or cs k []) → length (get_or (set cs k c) j []) ≡ length (get_or cs j [])
@@ -107,7 +106,7 @@ same-long cs k c are long = record {
     kept (d ∷ cs) (suc k) c (suc j) long = kept cs k c j long
 
 -- full chunks, and a last one
-pub full-then : (cs : List (List Page)) (c : List Page) → AreFull cs → 0 < length c → length c ≤ 8192 → AreChunks (cs ++ c ∷ [])
+pub full-then : (cs : List (List Page)) (c : List Page) → AreFull cs → 0 < length c → length c ≤ 16384 → AreChunks (cs ++ c ∷ [])
 full-then [] c full some small = record {
   some = λ k low. by_first k low;
   full = λ k low. absurd (omega (arith, low));
@@ -118,27 +117,27 @@ full-then [] c full some small = record {
     by_first zero low = some
     by_first (suc k) low = absurd (omega (arith, low))
 
-    at_most : (k : ℕ) → length (get_or (c ∷ []) k []) ≤ 8192
+    at_most : (k : ℕ) → length (get_or (c ∷ []) k []) ≤ 16384
     at_most zero = small
     at_most (suc k) = omega arith
 full-then (d ∷ cs) c full some small =
     let rest = full-then cs c (λ k low. full (suc k) (omega (arith, low))) some small in
-    let first : length d ≡ 8192 = full 0 (omega arith) in
+    let first : length d ≡ 16384 = full 0 (omega arith) in
     record {
       some = λ k low. each_some rest first k low;
       full = λ k low. each_full rest first k low;
       small = λ k. each_small rest first k;
     }
   where
-    each_some : AreChunks (cs ++ c ∷ []) → length d ≡ 8192 → (k : ℕ) → k < length (d ∷ (cs ++ c ∷ [])) → 0 < length (get_or (d ∷ (cs ++ c ∷ [])) k [])
+    each_some : AreChunks (cs ++ c ∷ []) → length d ≡ 16384 → (k : ℕ) → k < length (d ∷ (cs ++ c ∷ [])) → 0 < length (get_or (d ∷ (cs ++ c ∷ [])) k [])
     each_some rest first zero low = omega (arith, first)
     each_some rest first (suc k) low = rest.some k (omega (arith, low))
 
-    each_full : AreChunks (cs ++ c ∷ []) → length d ≡ 8192 → (k : ℕ) → k + 1 < length (d ∷ (cs ++ c ∷ [])) → length (get_or (d ∷ (cs ++ c ∷ [])) k []) ≡ 8192
+    each_full : AreChunks (cs ++ c ∷ []) → length d ≡ 16384 → (k : ℕ) → k + 1 < length (d ∷ (cs ++ c ∷ [])) → length (get_or (d ∷ (cs ++ c ∷ [])) k []) ≡ 16384
     each_full rest first zero low = first
     each_full rest first (suc k) low = rest.full k (omega (arith, low))
 
-    each_small : AreChunks (cs ++ c ∷ []) → length d ≡ 8192 → (k : ℕ) → length (get_or (d ∷ (cs ++ c ∷ [])) k []) ≤ 8192
+    each_small : AreChunks (cs ++ c ∷ []) → length d ≡ 16384 → (k : ℕ) → length (get_or (d ∷ (cs ++ c ∷ [])) k []) ≤ 16384
     each_small rest first zero = omega (arith, first)
     each_small rest first (suc k) = rest.small k
 
@@ -154,7 +153,7 @@ all-full cs full = record {
 }
 
 -- one full chunk more
-pub one-more : (cs : List (List Page)) (c : List Page) → AreFull cs → length c ≡ 8192 → AreFull (cs ++ c ∷ [])
+pub one-more : (cs : List (List Page)) (c : List Page) → AreFull cs → length c ≡ 16384 → AreFull (cs ++ c ∷ [])
 one-more [] c full long zero low = long
 one-more [] c full long (suc k) low = absurd (omega (arith, low))
 one-more (d ∷ cs) c full long zero low = full 0 (omega arith)
@@ -167,8 +166,8 @@ before-last (d ∷ cs) c are zero low = are.full 0 (omega (arith, length-append 
 before-last (d ∷ cs) c are (suc k) low = before-last cs c (later d (cs ++ c ∷ []) are) k (omega (arith, low))
 
 -- and the last is not too long
-pub last-small : (cs : List (List Page)) (c : List Page) → AreChunks (cs ++ c ∷ []) → length c ≤ 8192
-last-small cs c are = subst (λ (d : List Page). length d ≤ 8192) (get_or-append_seam cs c [] []) (are.small (length cs))
+pub last-small : (cs : List (List Page)) (c : List Page) → AreChunks (cs ++ c ∷ []) → length c ≤ 16384
+last-small cs c are = subst (λ (d : List Page). length d ≤ 16384) (get_or-append_seam cs c [] []) (are.small (length cs))
 
 pub more-pages : (cs : List (List Page)) (c : List Page) → all_pages (cs ++ c ∷ []) ≡ all_pages cs ++ c
 more-pages cs c = flat_map-append (λ (chunk : List Page). chunk) cs (c ∷ []) ∙ ap (λ ps. all_pages cs ++ ps) (append-nil c)
@@ -186,7 +185,7 @@ pub same-chunks : (f : Page → Page) (cs : List (List Page)) → AreChunks cs �
 same-chunks f cs are = record {
   some = λ k low. subst (λ n. 0 < n) (sym (kept f cs k)) (are.some k (omega (arith, low, length-map cs (map f))));
   full = λ k low. kept f cs k ∙ are.full k (omega (arith, low, length-map cs (map f)));
-  small = λ k. subst (λ n. n ≤ 8192) (sym (kept f cs k)) (are.small k);
+  small = λ k. subst (λ n. n ≤ 16384) (sym (kept f cs k)) (are.small k);
 }
   where
     kept : (f : Page → Page) (cs : List (List Page)) (k : ℕ) → length (get_or (map (map f) cs) k []) ≡ length (get_or cs k [])
@@ -195,11 +194,10 @@ same-chunks f cs are = record {
     kept f (c ∷ cs) (suc k) = kept f cs k
 
 -- the pages of the frames up to one, and of those from it on
-pub next-at-boot : (l : Layout) (n m : ℕ) → pages_at_boot l 0 n ++ pages_at_boot l n m ≡ pages_at_boot l 0 (n + m)
-unfolding pages_at_boot
-next-at-boot l n m =
+pub next-pages : (at : ℕ → Page) (n m : ℕ) → map at (range_with_len 0 n) ++ map at (range_with_len n m) ≡ map at (range_with_len 0 (n + m))
+next-pages at n m =
     let same : 0 + n ≡ n = omega arith in
-    ap (λ a. map (page_at_boot l) (range_with_len 0 n) ++ map (page_at_boot l) (range_with_len a m)) (sym same) ∙ joined (page_at_boot l) 0 n m
+    ap (λ a. map at (range_with_len 0 n) ++ map at (range_with_len a m)) (sym same) ∙ joined at 0 n m
   where
     joined : (f : ℕ → Page) (first n m : ℕ) → map f (range_with_len first n) ++ map f (range_with_len (first + n) m) ≡ map f (range_with_len first (n + m))
     joined f first zero m =

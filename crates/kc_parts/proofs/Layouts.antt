@@ -53,11 +53,8 @@ pub page-at-boot : (config : Configuration) (f : ℕ) → f < config.frames → 
 page-at-boot config f within = ap page_with (record-at-boot false config f within)
 
 -- the pages of this many frames from one on
-pub pages-at-boot-from : (config : Configuration) (first count : ℕ) → first + count ≤ config.frames → pages_at_boot (layout_of config) first count ≡ map (boot_page false config) (range_with_len first count)
+pub pages-at-boot : (config : Configuration) (first count : ℕ) → first + count ≤ config.frames → pages_at_boot (layout_of config) first count ≡ map (boot_page false config) (range_with_len first count)
 unfolding pages_at_boot
-pages-at-boot-from config first zero within = refl
-pages-at-boot-from config first (suc count) within =
-    λ i. page-at-boot config first (omega (arith, within)) i ∷ pages-at-boot-from config (first + 1) count (omega (arith, within)) i
-
-pub pages-at-boot : (config : Configuration) → pages_at_boot (layout_of config) 0 config.frames ≡ map (boot_page false config) (range_with_len 0 config.frames)
-pages-at-boot config = pages-at-boot-from config 0 config.frames (omega arith)
+pages-at-boot config first zero within = refl
+pages-at-boot config first (suc count) within =
+    λ i. page-at-boot config first (omega (arith, within)) i ∷ pages-at-boot config (first + 1) count (omega (arith, within)) i

@@ -47,7 +47,7 @@ pages_of l first count [] = pages_at_boot l first count
 pages_of l first count (page ∷ pages) = page ∷ pages
 
 abbrev pub chunk_size : ℕ
-chunk_size = 8192
+chunk_size = 16384
 
 -- all pages of a chunk are made or none, and there is room for all
 pub record IsChunk (l : Layout) (first count : ℕ) (pages : List Page) (capacity : ℕ) : Type 0 where

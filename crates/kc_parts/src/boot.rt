@@ -1,45 +1,57 @@
 //! The parts that a core starts with.
-ghost use Rattle.std.specs.Prelude.{◌≡◌, ◌<◌, ◌≤◌, length, map, replicate, Some, true, IfOk};
+ghost use Rattle.std.specs.Prelude.{◌≡◌, ◌+◌, ◌<◌, ◌≤◌, length, map, replicate, Some, true, IfOk};
 ghost use Rattle.std.specs.List.{range_with_len};
 ghost use Rattle.kc_types.specs.Configuration.{IsConfiguration, slot_count};
 ghost use Rattle.kc_types.specs.Limits.{slot_limit};
 ghost use Rattle.kc_vms.specs.Vm.{capacity_of, empty_vm};
 ghost use Rattle.kc_parts.specs.Booting.{boot_page, boot_ends};
+ghost use Rattle.kc_parts.specs.Chunks.{chunk_size};
 
+use crate::chunk::Chunk;
 use crate::layout::Layout;
-use crate::page_list::PageList;
 use kc_page::{Page, PageBytes};
 use kc_types::{Config, Ends, FrameNo, Memory};
 use kc_vms::Vm;
 use std::alloc::Global;
 
-/// Makes the pages of all frames at boot, reserved: each has memory for its bytes.
-fn reserved_pages(alloc: Global, config: &Config) -> Result<Vec<Page>, Memory>
-    ensures { IfOk result (λ pages. pages.items ≡ map (boot_page true config.now) (range_with_len 0 config.now.frames)) }
+/// Makes the pages of this many frames from this one on at boot, reserved: each has memory for its bytes.
+fn reserved_pages(
+    alloc: Global,
+    config: &Config,
+    first: u32,
+    count: u32,
+) -> Result<Vec<Page>, Memory>
+    requires { first + count ≤ config.now.frames }
+    ensures { IfOk result (λ pages. pages.items ≡ map (boot_page true config.now) (range_with_len first count)) }
 {
     let layout = Layout::of(config);
-    let mut pages = Vec::with_capacity(alloc, config.frames() as usize)?;
-    for frame in 0..config.frames() {
+    let mut pages = Vec::with_capacity(alloc, count as usize)?;
+    for i in 0..count {
         pages.push(Page {
-            meta: layout.record(frame),
+            meta: layout.record(first + i),
             bytes: PageBytes::reserved(alloc)?,
         })?;
     }
     Ok(pages)
 }
 
-/// Makes the pages of all frames at boot, reserved or sparse.
-pub(crate) fn boot_pages(
+/// Makes the chunk of this many frames from this one on at boot, reserved or sparse.
+pub(crate) fn boot_chunk(
     alloc: Global,
     config: &Config,
     is_reserved: bool,
-) -> Result<PageList, Memory>
-    ensures { IfOk result (λ pages. pages ≡ map (boot_page is_reserved config.now) (range_with_len 0 config.now.frames)) }
+    first: u32,
+    count: u32,
+) -> Result<Chunk, Memory>
+    requires within { first + count ≤ config.now.frames }
+    requires small { count ≤ chunk_size }
+    ensures { IfOk result (λ chunk. chunk ≡ map (boot_page is_reserved config.now) (range_with_len first count)) }
 {
     if is_reserved {
-        PageList::of(alloc, reserved_pages(alloc, config)?)
+        let pages = reserved_pages(alloc, config, first, count)?;
+        Ok(Chunk::of(alloc, pages))
     } else {
-        PageList::at_boot(alloc, config)
+        Chunk::at_boot(alloc, Layout::of(config), first, count)
     }
 }
 

@@ -17,7 +17,7 @@ use std::marker::Model;
 use std::thread::Threads;
 
 /// The most pages of a chunk.
-pub(crate) const CHUNK_SIZE: usize = 8_192;
+pub(crate) const CHUNK_SIZE: usize = 16_384;
 
 /// A page that is lent for reading.
 #[derive(Clone, Copy)]
@@ -26,7 +26,7 @@ pub struct PageRef<'a> {
     pub bytes: &'a PageBytes,
 }
 
-/// Up to 8,192 pages, seen as the list of them, whether they are made or not. Those that are not made are as at boot, and
+/// Up to 16,384 pages, seen as the list of them, whether they are made or not. Those that are not made are as at boot, and
 /// sparse. The room for them is taken at the start, so that making them takes no memory; the system gives memory for it
 /// when they are made.
 #[derive(Drop)]

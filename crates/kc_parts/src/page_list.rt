@@ -1,5 +1,5 @@
 //! Pages in chunks.
-ghost use Rattle.std.specs.Prelude.{◌≡◌, ◌++◌, false, map, slice_get, IfOk, IsSome, ◌↔◌, ◌<◌, length};
+ghost use Rattle.std.specs.Prelude.{◌≡◌, ◌++◌, map, slice_get, IfOk, IsSome, ◌↔◌, ◌<◌, length};
 ghost use Rattle.std.specs.Option.{option_copied_mut, option_to_list};
 ghost use Rattle.std.specs.List.{range_with_len};
 ghost use Rattle.std.specs.Borrow.{sem};
@@ -9,8 +9,8 @@ ghost use Rattle.kc_parts.specs.Chunks.{page_read};
 ghost use Rattle.kc_parts.specs.Lending.{LendsOfList};
 ghost use Rattle.kc_parts.specs.Marks.{scrubbed_if_marked};
 
+use crate::boot::boot_chunk;
 use crate::chunk::{CHUNK_SIZE, Chunk, PageRef};
-use crate::layout::Layout;
 use crate::marks::Marks;
 use kc_page::{Page, PageBytes};
 use kc_types::{Config, Memory};
@@ -19,7 +19,7 @@ use std::marker::Model;
 use std::mem::replace;
 use std::thread::Threads;
 
-/// Pages, seen as the list of them, in chunks of 8,192; the last may have fewer. A chunk none of whose pages was changed
+/// Pages, seen as the list of them, in chunks of 16,384; the last may have fewer. A chunk none of whose pages was changed
 /// since boot takes room, and no memory.
 #[derive(Drop)]
 pub(crate) struct PageList {
@@ -59,16 +59,20 @@ fn scrub_marked_chunks(chunks: &mut [Chunk], marks: &Marks)
 }
 
 impl PageList {
-    /// Makes the pages of all frames at boot, sparse. `Memory` if there is no room for them.
-    pub(crate) fn at_boot(alloc: Global, config: &Config) -> Result<PageList, Memory>
-        ensures { IfOk result (λ pages. pages ≡ map (boot_page false config.now) (range_with_len 0 config.now.frames)) }
+    /// Makes the pages of all frames at boot, reserved or sparse. `Memory` if there is no room for them.
+    pub(crate) fn at_boot(
+        alloc: Global,
+        config: &Config,
+        is_reserved: bool,
+    ) -> Result<PageList, Memory>
+        ensures { IfOk result (λ pages. pages ≡ map (boot_page is_reserved config.now) (range_with_len 0 config.now.frames)) }
     {
-        let layout = Layout::of(config);
+        let frames = config.frames();
         let mut chunks = Vec::new(alloc);
         let mut first = 0;
-        while first < layout.frames {
-            let count = (layout.frames - first).min(CHUNK_SIZE as u32);
-            chunks.push(Chunk::at_boot(alloc, layout, first, count)?)?;
+        while first < frames {
+            let count = (frames - first).min(CHUNK_SIZE as u32);
+            chunks.push(boot_chunk(alloc, config, is_reserved, first, count)?)?;
             first += count;
         }
         Ok(PageList {

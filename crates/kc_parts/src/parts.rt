@@ -10,7 +10,7 @@ ghost use Rattle.kc_parts.specs.Marks.{scrubbed_if_marked};
 
 use crate::PlaceCounts;
 use crate::blank::blank_pages;
-use crate::boot::{boot_ends, boot_pages, boot_vms};
+use crate::boot::{boot_ends, boot_vms};
 use crate::chunk::PageRef;
 use crate::flags::Flags;
 use crate::frame_numbers::FrameNumbers;
@@ -88,7 +88,7 @@ impl Parts {
         ensures parts { IfOk result (IsBooted config.now is_reserved) }
         ensures config { OnOk result (IsConfiguration config.now) }
     {
-        let pages = boot_pages(alloc, config, is_reserved)?;
+        let pages = PageList::at_boot(alloc, config, is_reserved)?;
         let vms = boot_vms(alloc, config)?;
         let frames = config.frames();
         Parts::in_places(alloc, frames, pages, vms, boot_ends(config), is_reserved)

@@ -11,14 +11,14 @@ use Rattle.kc_parts.proofs.page_list.PageList.get_mut.Goals as goal
 pub returns-then-number-len : goal.returns-then-number-len
 returns-then-number-len c =
     let p = c.self.inside in
-    let past : length p.chunks.items ≤ c.args.at / 8192 = search rules in
+    let past : length p.chunks.items ≤ c.args.at / 16384 = search rules in
     (ap inr c.self.view_is, record { value = sym (ap (λ (ps : List Page). slice_get ps c.args.at) (sym c.self.view_is) ∙ page-past p.chunks.items c.args.at c.self.invariant.0 past); writes_back = tt })
 
 pub returns : goal.returns
 returns c =
     let p = c.self.inside in
-    let k = c.args.at / 8192 in
-    let j = c.args.at % 8192 in
+    let k = c.args.at / 16384 in
+    let j = c.args.at % 16384 in
     let low : k < length p.chunks.items = search rules in
     let under : k < p.chunks.len = search rules in
     let is : c.index_mut.result.now ≡ get_or p.chunks.items k [] = get_or_read_under p.chunks.items k p.chunks.len c.index_mut.result.now [] c.index_mut.ensures.value under p.chunks.ok.0 in
