@@ -7,5 +7,5 @@ returns-in-Refused-clause-reported g c = rw c.in-Refused.is record { whole = c.t
 
 pub returns-in-EmptyImage-clause-reported : goal.returns-in-EmptyImage-clause-reported
 returns-in-EmptyImage-clause-reported g c =
-    let text : c.as_str.result.now ≡ empty_line c.in-EmptyImage.number = search rules in
-    rw c.in-EmptyImage.is record { whole = rw text at c.say.ensures.whole; begun = rw text at c.say.ensures.begun }
+    let text : c.as_str-in-EmptyImage.result.now ≡ empty_line c.in-EmptyImage.number = search rules in
+    rw c.in-EmptyImage.is record { whole = rw text at c.say-in-EmptyImage.ensures.whole; begun = rw text at c.say-in-EmptyImage.ensures.begun }
