@@ -5,7 +5,7 @@ pub const HEAD: &str = r##"<!doctype html>
 <html lang="en">
 <head>
 <meta charset="utf-8">
-<meta http-equiv="Content-Security-Policy" content="default-src 'none'; script-src 'sha256-wq8x4zRmCq7U3v97WXwSJeBQjo+6NZ9VB5R1XlELGbk='; style-src 'sha256-XKVkzifYMbmyCly1sLUoHbHA4vv/JDbiF/BUDZqlRv4='; base-uri 'none'; form-action 'none'">
+<meta http-equiv="Content-Security-Policy" content="default-src 'none'; script-src 'sha256-mUOmKgTdZVhERDZLTSjYIzJ9zUQMIBkhZB2ZYaj8NXk='; style-src 'sha256-XKVkzifYMbmyCly1sLUoHbHA4vv/JDbiF/BUDZqlRv4='; base-uri 'none'; form-action 'none'">
 <meta name="viewport" content="width=device-width, initial-scale=1">
 <title>Custody of a trace</title>
 <style>
