@@ -4,7 +4,7 @@ import pathlib
 import re
 
 FN = re.compile(r'( *)(?:pub(?:\([^)]*\))? )?(?:const )?(?:unsafe )?(?:extern "\w+" )?fn (\w+)')
-IMPL = re.compile(r"(?:unsafe )?impl(?:<.*?>)? (?:(\w+)(?:<(\w+).*>)? for )?(\w+)")
+IMPL = re.compile(r"(?:unsafe )?impl(?:<.*?>)? (?:(\w+)(?:<(\w+).*>)? for )?(&?)(\w+)")
 
 
 class BadEdit(Exception):
@@ -212,13 +212,14 @@ def place(crate, path, function):
     under the type's name alone."""
     owner = IMPL.match(function.owner)
     if owner and not owner[1]:
-        declares = re.compile(rf"(?m)^(?:pub(?:\([^)]*\))? )?(?:struct|enum) {owner[3]}\b")
+        declares = re.compile(rf"(?m)^(?:pub(?:\([^)]*\))? )?(?:struct|enum) {owner[4]}\b")
         files = sorted((crate / "src").glob("**/*.rt"))
         path = next((it.relative_to(crate) for it in files if declares.search(it.read_text())), path)
     modules = [it for it in pathlib.PurePath(path).with_suffix("").parts[1:] if it not in ("lib", "main", "mod")]
     names = []
     if owner:
-        # In rattle's path, a name like u32x4 or u64 begins with a capital.
-        own, trait, applied = (f"{it[:1].upper()}{it[1:]}" for it in (owner[3], owner[1] or "", owner[2] or ""))
+        # In rattle's path, a name like u32x4 or u64 begins with a capital, and that of a reference with Ref.
+        own, trait, applied = (f"{it[:1].upper()}{it[1:]}" for it in (owner[4], owner[1] or "", owner[2] or ""))
+        own = "Ref" + own if owner[3] else own
         names = [own if trait == "Drop" else own + trait + applied]
     return (*modules, *names, function.name)
