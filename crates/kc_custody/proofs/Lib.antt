@@ -17,4 +17,5 @@ pub mod Grows
 pub mod Growth
 pub mod Gives
 mod Denied
+pub mod Booted
 pub mod Own

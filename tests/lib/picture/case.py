@@ -3,6 +3,7 @@ import collections
 import functools
 import re
 
+import rules
 from picture.colours import (
     DEAD, EDGE, HUES, INK, LEFT, LIFE, MOST_BARS, MOST_CALLS, MOST_COLUMNS, MOST_FRAMES, MOST_ROWS, MOST_ROWS_OF_VM,
     OTHERS, PLOT, REFUSED, SEVERAL, colour_of_vm, learned, nearer,
@@ -25,7 +26,11 @@ class Case:
         for it in told.lives:
             if vm in (None, it.vm):
                 self.lives[it.vm].append(it)
-        few = config["frames"] <= MOST_FRAMES and self.calls <= MOST_CALLS
+        # The frames that have rows, if rows are of frames by number: of a machine of version 3 those that have bars.
+        self.shown = range(config["frames"])
+        if config["version"] in rules.WITH_LAUNCH:
+            self.shown = sorted({it.frame for it in self.bars})
+        few = len(self.shown) <= MOST_FRAMES and self.calls <= MOST_CALLS
         if vm is not None:
             few = len({it.frame for it in self.bars}) <= MOST_ROWS_OF_VM
         self.has_bars = few and len(self.bars) <= MOST_BARS
@@ -82,7 +87,7 @@ class Case:
 
     def heading_of_frames(self):
         if self.vm is None:
-            return "Every frame, by number"
+            return f"{'Each frame that changes' if self.config['version'] in rules.WITH_LAUNCH else 'Every frame'}, by number"
         if self.has_bars:
             return f"Each frame of vm {self.vm}, in the order in which they came"
         return f"Frames of vm {self.vm}, by number"
@@ -111,8 +116,7 @@ class Case:
         return self.last // columns if self.last % columns == 0 else self.last // columns + 2
 
     def remark_on_cells(self):
-        rows = min(self.config["frames"], MOST_ROWS)
-        frames, lines = -(-self.config["frames"] // rows), self.most_lines(min(self.last, MOST_COLUMNS))
+        frames, lines = -(-len(self.shown) // min(len(self.shown), MOST_ROWS)), self.most_lines(min(self.last, MOST_COLUMNS))
         said = f"a cell: up to {count_of(frames, 'frame')} through up to {count_of(lines, 'line')}; "
         if self.vm is not None:
             return f"{said}paler the less of it vm {self.vm} had; underlined where it shared any"
