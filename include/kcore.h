@@ -128,15 +128,12 @@ typedef struct {
     uint32_t frames, core, host, slots, left;
 } kcore_size;
 
-/* The numbers of bytes of the longest reply, and of the longest line of a call in a trace, each with its newline; and
- * the most bytes of a trace's header with all lines of its head. The header of a machine of version 1 or 2 is no longer
- * than kcore_longest_line(). */
+/* The numbers of bytes of the longest reply and of the longest line of a trace, each with its newline. */
 size_t kcore_longest_reply(void);
 size_t kcore_longest_line(void);
-size_t kcore_longest_header(void);
 
-/* Opens a closed session, whose core is in the boot state of this configuration (JSON, up to 1,073,741,824 bytes). The
- * core is reserved: it takes memory for all its frames now. If the session cannot be opened, it stays closed. */
+/* Opens a closed session, whose core is in the boot state of this configuration (JSON, up to 1,073,741,824 bytes). If it
+ * cannot, the session stays closed. */
 uint32_t kcore_boot(kcore *core, const uint8_t *config, size_t config_length);
 
 /* Opens a session as kcore_boot does, whose traces have the header `kcore-trace 3` and a head: that of the first volume
@@ -145,17 +142,12 @@ uint32_t kcore_boot(kcore *core, const uint8_t *config, size_t config_length);
  * traces have the header `kcore-trace 2`, as those of kcore_boot have.) */
 uint32_t kcore_boot_history(kcore *core, const uint8_t *config, size_t config_length);
 
-/* Opens a session as kcore_boot_history does, whose core is sparse: a frame takes no memory while its bytes are zero, so
- * a machine of zeros takes none for its frames, however many it has. A call that is the first to write to a frame takes
- * 4,096 bytes for it; if memory runs out then, it returns KCORE_MEMORY and has changed nothing. All else is the same. */
-uint32_t kcore_boot_sparse(kcore *core, const uint8_t *config, size_t config_length);
-
 /* Opens a closed session, whose core is in the state of this text, and which has answered no call yet: the text is what
  * kcore_state or kcore_blank_state gave, or `kcore replay --state` wrote. If it says which volume goes on from the
  * state, the session fills that one, and its traces have heads. The text is judged as by `kcore replay --from`, and the
  * first fault is reported; then *place is the number of the line, frame or slot that is at fault, or 0 (so too if
  * memory runs out), and the session stays closed. A session that is open, and a text that is too long, leave *place as
- * it was. The core is sparse. */
+ * it was. */
 uint32_t kcore_resume(kcore *core, const uint8_t *text, size_t text_length, uint32_t *place);
 
 /* Answers the call on a line, which is given without its newline. The reply's line, with its newline, is the first
@@ -203,9 +195,8 @@ uint32_t kcore_sizes(kcore *core, kcore_size *size);
 
 /* Gives a line of the volume's trace, by its place from 0, with its newline: the header, then a line for each call that
  * was answered. A head comes with the header, all its lines at once, so that the call at place n is the one of line
- * n + 1 in reports. The lines from 0 to KCORE_NO_SUCH_LINE, one after another, are the trace. A buffer of
- * kcore_longest_header() bytes has room for the header, and one of kcore_longest_line() for each other line. The bytes
- * after the first *used stay as they are; if no line is given, *used is 0. */
+ * n + 1 in reports. The lines from 0 to KCORE_NO_SUCH_LINE, one after another, are the trace. The bytes after the first
+ * *used stay as they are; if no line is given, *used is 0. */
 uint32_t kcore_line(kcore *core, size_t number, uint8_t *out, size_t out_length, size_t *used);
 
 /* Does what kcore_line does, with zeros in place of the bytes that virtual processors wrote: what may be written to a

@@ -11,8 +11,6 @@ static kcore core;
 static uint8_t *text;
 static size_t room;
 
-static size_t larger(size_t one, size_t other) { return one > other ? one : other; }
-
 /* Asks the core. If it does not answer, the program ends. */
 static const char *ask(const char *call) {
     size_t used;
@@ -40,7 +38,7 @@ int main(void) {
     static const char *const boot[] = {"hfault 1", "hwrite 1 0 616263", "regvm 0",  "regvcpu 0 0",
                                        "setboot 0 0 3", "remap 0 0 1",  "verify 0"};
     size_t used;
-    room = larger(kcore_longest_reply(), larger(kcore_longest_line(), kcore_longest_header())) + 1;
+    room = (kcore_longest_reply() > kcore_longest_line() ? kcore_longest_reply() : kcore_longest_line()) + 1;
     text = malloc(room);
     if (!text || kcore_boot_history(&core, (const uint8_t *)config, strlen(config)) != KCORE_DONE) return 1;
     for (size_t at = 0; at < sizeof boot / sizeof *boot; at++) ask(boot[at]);

@@ -170,8 +170,7 @@ void core_open(struct core *core, const char *path, bool is_state) {
     else boot(core, path);
     expect(kcore_sizes(&core->session, &core->size), "kcore_sizes");
     core->reply_room = kcore_longest_reply() + 1;
-    size_t header = kcore_longest_header(), line = kcore_longest_line();
-    core->line_room = (header > line ? header : line) + 1;
+    core->line_room = kcore_longest_line() + 1;
     core->reply = malloc(core->reply_room);
     core->line = malloc(core->line_room);
     core->changes = calloc(core->size.frames, sizeof *core->changes);

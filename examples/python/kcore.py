@@ -52,10 +52,9 @@ class Session:
     def __init__(self, configuration, library=None, history=False):
         place = library or os.environ.get("LIBKCORE_SO") or pathlib.Path(__file__).resolve().parent / "out" / "libkcore.so"
         self.c = ctypes.CDLL(str(place))
-        longest = self.c.kcore_longest_reply, self.c.kcore_longest_line, self.c.kcore_longest_header
-        for it in longest:
-            it.restype = ctypes.c_size_t
-        self.handle, self.out = Handle(), ctypes.create_string_buffer(max(it() for it in longest))
+        self.c.kcore_longest_reply.restype = self.c.kcore_longest_line.restype = ctypes.c_size_t
+        self.handle = Handle()
+        self.room = max(self.c.kcore_longest_reply(), self.c.kcore_longest_line())
         self.ask("boot_history" if history else "boot", configuration, ctypes.c_size_t(len(configuration)))
 
     def __enter__(self):
@@ -72,9 +71,9 @@ class Session:
 
     def bytes_of(self, name, *words):
         """What kcore_NAME puts into a buffer."""
-        used = ctypes.c_size_t()
-        self.ask(name, *words, self.out, ctypes.c_size_t(len(self.out)), ctypes.byref(used))
-        return self.out[: used.value]
+        out, used = ctypes.create_string_buffer(self.room), ctypes.c_size_t()
+        self.ask(name, *words, out, ctypes.c_size_t(self.room), ctypes.byref(used))
+        return out.raw[: used.value]
 
     def call(self, line, asker=None):
         """The reply to a call as a trace spells it, without newlines. The asker is a slot and a virtual processor, or

@@ -1,6 +1,5 @@
 /* A random life of three VMs. A shadow of all records follows only what kcore_change reports, and is compared with what
- * the core has; a second session, which is sparse, is asked the same by numbers, and has the same replies, records and
- * trace.
+ * the core has; a second session is asked the same by numbers, and has the same replies, records and trace.
  *
  * usage: custody ROUNDS */
 #include <kcore.h>
@@ -11,7 +10,7 @@
 enum { PAGE = 4096, MOST_CHANGES = 4096, MOST_TEXT = 20000 };
 static const char config[] = "{\"version\":1,\"frames\":256,\"core\":8,\"host\":32,\"leaves\":16,\"approved\":"
                              "[\"ad7facb2586fc6e966c004d7d1d16b024f5805ff7cb47c7a85dabd8b48892ca7\"]}";
-/* The first is reserved and asked by lines, the other is sparse and asked by numbers. */
+/* The first is asked by lines, the other by numbers. */
 static kcore core, other;
 static kcore_size size;
 static kcore_record *shadow;
@@ -181,8 +180,7 @@ static void begin(void) {
     HOLDS(kcore_change(&core, 0, &change) == KCORE_CLOSED && kcore_record_of(&core, 0, &record) == KCORE_CLOSED && record.owner == 9);
     HOLDS(kcore_frame_of(&core, 0, 0, &frame) == KCORE_CLOSED && kcore_next(&core, 0, 0, 0, &frame) == KCORE_CLOSED && frame == 9);
     HOLDS(kcore_sizes(&core, &size) == KCORE_CLOSED && kcore_changes(&core, &change, 1, &count) == KCORE_CLOSED && count == 0);
-    HOLDS(!kcore_boot_history(&core, (const uint8_t *)config, strlen(config)));
-    HOLDS(!kcore_boot_sparse(&other, (const uint8_t *)config, strlen(config)));
+    HOLDS(!kcore_boot(&core, (const uint8_t *)config, strlen(config)) && !kcore_boot(&other, (const uint8_t *)config, strlen(config)));
     HOLDS(!kcore_sizes(&core, &size));
     HOLDS(size.frames == 256 && size.core == 8 && size.host == 32 && size.slots == 16 && size.left == 65536);
     HOLDS(kcore_change(&core, 0, &change) == KCORE_NO_SUCH_CHANGE && !kcore_changes(&core, &change, 1, &count) && count == 0);

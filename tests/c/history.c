@@ -15,8 +15,7 @@ static const char *const first[] = {"hfault 1", "hwrite 1 0 616263", "regvm 0", 
                                     "remap 0 0 1", "verify 0",         "gwrite 0 0 0 0 07", NULL};
 static const char *const second[] = {"gread 0 0 0 0 3", "take", "hread 1 0 3", NULL};
 enum { ROOM = 8 * 8600 + 600000 };
-static uint8_t state[ROOM], again[ROOM], *line;
-static size_t line_room;
+static uint8_t state[ROOM], again[ROOM], line[9000];
 
 static void need(int fact, int number) {
     if (!fact) exit(number);
@@ -25,7 +24,7 @@ static void need(int fact, int number) {
 static void ask(kcore *core, const char *const *calls) {
     size_t used;
     for (; *calls; calls++)
-        need(kcore_call(core, (const uint8_t *)*calls, strlen(*calls), line, line_room, &used) == KCORE_DONE, 2);
+        need(kcore_call(core, (const uint8_t *)*calls, strlen(*calls), line, sizeof line, &used) == KCORE_DONE, 2);
 }
 
 static FILE *made(const char *folder, const char *name) {
@@ -40,7 +39,7 @@ static void keep(const char *folder, const char *name, kcore *core,
                  uint32_t (*give)(kcore *, size_t, uint8_t *, size_t, size_t *)) {
     FILE *out = made(folder, name);
     size_t used;
-    for (size_t n = 0; give(core, n, line, line_room, &used) == KCORE_DONE; n++) fwrite(line, 1, used, out);
+    for (size_t n = 0; give(core, n, line, kcore_longest_line(), &used) == KCORE_DONE; n++) fwrite(line, 1, used, out);
     need(fclose(out) == 0, 4);
 }
 
@@ -57,8 +56,6 @@ int main(int count, char **words) {
     size_t used, length;
     uint32_t place;
     need(count == 2, 6);
-    line_room = kcore_longest_header() > kcore_longest_line() ? kcore_longest_header() : kcore_longest_line();
-    need((line = malloc(line_room)) != NULL, 6);
     need(kcore_boot_history(&core, (const uint8_t *)config, strlen(config)) == KCORE_DONE, 7);
     need(kcore_boot_history(&core, (const uint8_t *)config, strlen(config)) == KCORE_ALREADY_OPEN, 7);
     ask(&core, first);
@@ -75,6 +72,5 @@ int main(int count, char **words) {
     keep(words[1], "volume-2-again", &other, kcore_line);
     length = keep_state(words[1], "state-2", &core);
     need(kcore_state(&other, again, ROOM, &used) == KCORE_DONE && used == length && memcmp(again, state, used) == 0, 12);
-    free(line);
     return kcore_end(&core) == KCORE_DONE && kcore_end(&other) == KCORE_DONE ? 0 : 13;
 }

@@ -36,3 +36,44 @@ placed (Vm v) q (suc w) e = let z = same_Some (v + 1) q e in elim (cases_eq v w)
   | inl same ↦ eq-eqb v w same ∙ sym (eq-eqb q (suc w) (omega (arith, z, same)))
   | inr other ↦ ne_eqb v w other ∙ sym (ne_eqb q (suc w) (λ s. other (omega (arith, z, s))))
 ]
+
+unplaced : (owner : Owner) (p : ℕ) → list_place owner ≡ None → same_owner owner (list_owner p) ≡ false
+unplaced Core zero e = refl
+unplaced Core (suc w) e = refl
+unplaced Host zero e = refl
+unplaced Host (suc w) e = refl
+unplaced Free p e = cc
+unplaced (Vm v) p e = cc
+
+next-sum : (lines : List FrameLine) (owner : Owner) (i : ℕ) → sum_below (owned lines owner) (i + 1) ≡ sum_below (owned lines owner) i + owned lines owner i
+next-sum lines owner i = let e : i + 1 ≡ suc i = omega arith in ap (sum_below (owned lines owner)) e
+
+pub counted-some : (lines : List FrameLine) (i lists q x : ℕ) (old : List ℕ) → list_place (line_owner lines i) ≡ Some q → q < lists → x ≡ get_or old q 0 + 1 → AreOwnerCounts lines i lists old → AreOwnerCounts lines (i + 1) lists (set old q x)
+counted-some lines i lists q x old place low more so_far = record {
+  places = length-set old q x ∙ so_far.places;
+  counted = λ p within.
+      let here : owned lines (list_owner p) i ≡ cond (nat_eq q p) 1 0 = ap (λ b. cond b 1 0) (placed (line_owner lines i) q p place) in
+      let before = so_far.counted p within in
+      let next = next-sum lines (list_owner p) i in
+      elim (cases_eq p q) [
+        | inl same ↦
+            let one : ◌≡◌ {A = ℕ} (cond (nat_eq q p) 1 0) 1 = ap (λ b. cond b 1 0) (eq-eqb q p (sym same)) in
+            let there : get_or (set old q x) p 0 ≡ x = ap (λ k. get_or (set old q x) k 0) same ∙ get_or-set_same old q x 0 (let l = so_far.places in omega (arith, l, low)) in
+            let was : get_or old q 0 ≡ get_or old p 0 = ap (λ k. get_or old k 0) (sym same) in
+            omega (arith, here, before, next, one, there, was, more)
+        | inr other ↦
+            let none : ◌≡◌ {A = ℕ} (cond (nat_eq q p) 1 0) 0 = ap (λ b. cond b 1 0) (ne_eqb q p (λ e. other (sym e))) in
+            let there : get_or (set old q x) p 0 ≡ get_or old p 0 = get_or-set_other old q p x 0 other in
+            omega (arith, here, before, next, none, there)
+      ];
+}
+
+pub counted-none : (lines : List FrameLine) (i lists : ℕ) (old : List ℕ) → list_place (line_owner lines i) ≡ None → AreOwnerCounts lines i lists old → AreOwnerCounts lines (i + 1) lists old
+counted-none lines i lists old place so_far = record {
+  places = so_far.places;
+  counted = λ p within.
+      let here : owned lines (list_owner p) i ≡ 0 = ap (λ b. cond b 1 0) (unplaced (line_owner lines i) p place) in
+      let before = so_far.counted p within in
+      let next = next-sum lines (list_owner p) i in
+      omega (arith, here, before, next);
+}

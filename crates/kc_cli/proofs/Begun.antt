@@ -1,12 +1,12 @@
 -- A beginning of a live run's text is given.
-use Rattle.std.proofs.Common.{ℕ, ◌≡◌, ◌≤◌, ◌⊎◌, ◌∙◌, inl, inr, ap, List, length, Option, Some, None, Err, take, refl, subst, arith, Ok}
+use Rattle.std.proofs.Common.{ℕ, ◌≡◌, ◌≤◌, ◌⊎◌, ◌∙◌, inl, inr, ap, List, length, Option, Some, None, Err, take, refl, arith, Ok}
 use Rattle.std.specs.Prelude.{IfSome}
 use Rattle.std.specs.Io.KnownBytes.{Appends}
 use Rattle.kc_types.specs.Configuration.{Configuration}
 use Rattle.kc_types.specs.declared.call.Call.{Call}
 use Rattle.kc_model.specs.Boot.{boot}
 use Rattle.kc_model.specs.Promises.{KeepsPromises}
-use Rattle.kc_live.specs.Cuts.{KeepsOrders, MayRun, StopsTrace}
+use Rattle.kc_live.specs.Cuts.{KeepsOrders, MayRun}
 use Rattle.kc_trace.specs.Spelling.{trace_of}
 use Rattle.kc_cli.specs.Reading.{HaveRead}
 use Rattle.kc_texts.specs.Written.{Begins}
@@ -71,83 +71,4 @@ replay_fault config calls cause f (inr start) is may =
       text = λ e. cc;
       started = λ e. may;
       unsettled = λ e. may;
-    }
-
--- what a live run of a trace that gives no answer may end in
-pub run_fault : (config : Configuration) (calls : List Call) (cause : LiveCause) (f : TextFault) → StopsTrace config calls cause → f ≡ live_fault cause → IsLiveFault config calls f
-run_fault config calls (causes.NotYours i call) f stop same = absurd stop
-run_fault config calls (causes.BadActor i) f stop same =
-    record {
-      workers = λ e. cc;
-      read = λ e. cc;
-      write = λ e. cc;
-      config = λ said e. cc;
-      dump = λ said e. cc;
-      state = λ said e. cc;
-      trace = λ said e. absurd cc;
-      actor = λ p e. let at : i ≡ p = cc in subst (λ q. StopsTrace config calls (causes.BadActor q)) at stop;
-      slot = λ n e. cc;
-      text = λ e. cc;
-      started = λ e. absurd cc;
-      unsettled = λ e. absurd cc;
-    }
-run_fault config calls causes.HistoryFull f stop same =
-    record {
-      workers = λ e. cc;
-      read = λ e. cc;
-      write = λ e. cc;
-      config = λ said e. cc;
-      dump = λ said e. cc;
-      state = λ said e. cc;
-      trace = λ said e. (cc, stop);
-      actor = λ p e. absurd cc;
-      slot = λ n e. cc;
-      text = λ e. cc;
-      started = λ e. absurd cc;
-      unsettled = λ e. absurd cc;
-    }
-run_fault config calls causes.Memory f stop same =
-    record {
-      workers = λ e. cc;
-      read = λ e. cc;
-      write = λ e. cc;
-      config = λ said e. cc;
-      dump = λ said e. cc;
-      state = λ said e. cc;
-      trace = λ said e. absurd cc;
-      actor = λ p e. absurd cc;
-      slot = λ n e. cc;
-      text = λ e. cc;
-      started = λ e. absurd cc;
-      unsettled = λ e. absurd cc;
-    }
-run_fault config calls causes.Start f stop same =
-    record {
-      workers = λ e. cc;
-      read = λ e. cc;
-      write = λ e. cc;
-      config = λ said e. cc;
-      dump = λ said e. cc;
-      state = λ said e. cc;
-      trace = λ said e. absurd cc;
-      actor = λ p e. absurd cc;
-      slot = λ n e. cc;
-      text = λ e. cc;
-      started = λ e. stop;
-      unsettled = λ e. absurd cc;
-    }
-run_fault config calls causes.Unsettled f stop same =
-    record {
-      workers = λ e. cc;
-      read = λ e. cc;
-      write = λ e. cc;
-      config = λ said e. cc;
-      dump = λ said e. cc;
-      state = λ said e. cc;
-      trace = λ said e. absurd cc;
-      actor = λ p e. absurd cc;
-      slot = λ n e. cc;
-      text = λ e. cc;
-      started = λ e. absurd cc;
-      unsettled = λ e. stop;
     }

@@ -105,6 +105,15 @@ replay_read order old new m sources source header calls given digest line count 
     } in
     (of, λ is. record { of = of; next = next_entered false false m.config old.sequence new.sequence before volume digest line count added (followed_needed false follows volume digest digested is) })
 
+-- the volumes that were read have too many calls
+pub many_refused : (order : LinesOrder) (account : ReplayAccount) (m : State) (sources : List (Option (List ℕ))) (source : Seen) (fault : TraceFault) (line : ℕ) → HasReplayed order account m sources → fault ≡ TooManyCalls → line ≡ first_line + length account.calls.items → first_line + CALLS_BEFORE < line
+    → IsNextRefused m.config account.sequence.first sources source fault
+many_refused order account m sources source fault line h same at many = record {
+  volumes = h.of.volumes;
+  traced = h.of.read.traced;
+  fault_is = inr (same, (let so_far = ap length h.of.calls in omega (arith, at, so_far, many)));
+}
+
 -- the volume is refused where those before it led
 pub next_refused : (order : LinesOrder) (account : ReplayAccount) (m : State) (sources : List (Option (List ℕ))) (source : Seen) (fault : TraceFault) → HasReplayed order account m sources → IfSome source.had (λ text. IsRefusedThere m.config account.sequence.next text fault) → IsAtEnd source.has
     → IsNextRefused m.config account.sequence.first sources source fault

@@ -14,8 +14,9 @@ use Rattle.kc_custody.specs.Within.{IsWithin}
 use Rattle.kc_custody.specs.Growing.{HasRoom}
 use Rattle.kc_custody.specs.Grown.{AreGrown, NotesAll}
 use Rattle.kc_custody.specs.declared.growing.Lives.{Lives}
-use Rattle.kc_custody.proofs.Traced.{before-within-slots, events-within-slots}
+use Rattle.kc_custody.proofs.Traced.{before-within, events-within}
 use Rattle.kc_custody.proofs.Few.{room-before}
+use Rattle.kc_types.specs.Configuration.{Configuration}
 use Rattle.kc_model.specs.Lawful.{IsLawful}
 use Rattle.kc_trace.specs.declared.custody_writer.Heading.{Heading}
 use Rattle.kc_trace.specs.declared.volume_writer.VolumeEntry.{VolumeEntry}
@@ -73,22 +74,22 @@ on_ok_both P Q (Err e) p q = tt
 
 -- lives that have grown by the events of calls
 pub summary_grows : (n : ℕ) (m : State) (calls : List Call) (old new : Lives) (before after : Vec Attempt)
-    → NotesAll (events_from n m calls) old new → after.items ≡ before.items ++ attempts_in (notes_from n m calls) → (form : CustodyForm) (start : State) (told : List Note) → CanCount start (told ++ notes_from n m calls)
+    → NotesAll (events_from n m calls) old new → after.items ≡ before.items ++ attempts_in (notes_from n m calls) → (form : CustodyForm) (start : State) (told : List Note) → m.config ≡ start.config → CanCount start (told ++ notes_from n m calls)
     → Keeps form start told (kept.Summary old before) → Keeps form start (told ++ notes_from n m calls) (kept.Summary new after)
-summary_grows n m calls old new before after grown tried (Changes remarks) start told room h = h
-summary_grows n m calls old new before after grown tried Summary start told room h =
+summary_grows n m calls old new before after grown tried (Changes remarks) start told same room h = h
+summary_grows n m calls old new before after grown tried Summary start told same room h =
     let so_far = events_before start ++ events_in told in
     let all = more_after (events_before start) n m calls told so_far (so_far ++ events_from n m calls) refl refl in (
-      subst (λ (told : List Event). AreGrown told new) all (grown so_far (events-within-slots n m calls) (subst HasRoom (sym all) room) h.0),
+      subst (λ (told : List Event). AreGrown start.config.frames told new) all (grown start.config.frames so_far (subst (λ (c : Configuration). All (IsWithin c.frames) (events_from n m calls)) same (events-within n m calls)) (subst HasRoom (sym all) room) h.0),
       tried ∙ ap (λ (xs : List Attempt). xs ++ attempts_in (notes_from n m calls)) h.1 ∙ sym (both told (notes_from n m calls)),
     )
-summary_grows n m calls old new before after grown tried Picture start told room h = h
-summary_grows n m calls old new before after grown tried Html start told room h = h
+summary_grows n m calls old new before after grown tried Picture start told same room h = h
+summary_grows n m calls old new before after grown tried Html start told same room h = h
 
 -- lives that have grown by what is so before the first call
-pub summary_begins : (m : State) (none begun : Lives) → IsLawful m → AreGrown [] none → NotesAll (events_before m) none begun → AreGrown (events_before m ++ []) begun
+pub summary_begins : (m : State) (none begun : Lives) → IsLawful m → AreGrown m.config.frames [] none → NotesAll (events_before m) none begun → AreGrown m.config.frames (events_before m ++ []) begun
 summary_begins m none begun is fresh grown =
-    subst (λ (told : List Event). AreGrown told begun) (sym (append-nil (events_before m))) (grown [] (before-within-slots m) (room-before m is) fresh)
+    subst (λ (told : List Event). AreGrown m.config.frames told begun) (sym (append-nil (events_before m))) (grown m.config.frames [] (before-within m) (room-before m is) fresh)
 
 pub picture_grows : (n : ℕ) (m : State) (calls : List Call) (old new : Vec Event) → new.items ≡ old.items ++ events_from n m calls
     → (form : CustodyForm) (start : State) (told : List Note) → Keeps form start told (kept.Picture old) → Keeps form start (told ++ notes_from n m calls) (kept.Picture new)
@@ -180,7 +181,7 @@ account_given (Changes remarks) vm heading m volumes count refused told (kept.Ht
 account_given Summary vm heading m volumes count refused told (kept.Changes events) text h given = absurd h
 account_given Summary vm heading m volumes count refused told (kept.Notes wanted notes) text h given = absurd h
 account_given Summary vm heading m volumes count refused told (kept.Summary grown attempts) text h given =
-    given (events_before m ++ events_in told) h.0
+    given m.config.frames (events_before m ++ events_in told) h.0
     ∙ ap (λ (xs : List Attempt). summary_text_of heading m.config volumes count refused xs (selected_lives vm (lives_from m (events_in told)))) h.1
 account_given Summary vm heading m volumes count refused told (kept.Picture events) text h given = absurd h
 account_given Summary vm heading m volumes count refused told (kept.VmPicture v before notes) text h given = absurd h

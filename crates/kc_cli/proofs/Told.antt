@@ -29,6 +29,7 @@ use Rattle.kc_model.proofs.Custody.Bars.{bars_are}
 use Rattle.kc_model.proofs.Custody.Laws.{custody_is}
 use Rattle.kc_model.proofs.Summaries.Summed.{summaries_are}
 use Rattle.kc_model.proofs.States.Runs.{state_after-append, replies_from-append}
+use Rattle.kc_model.proofs.States.Sizes.{config-after}
 use Rattle.kc_model.specs.Before.{events_before}
 use Rattle.kc_types.specs.declared.custody.Event.{Event}
 use Rattle.kc_custody.specs.Growing.{HasRoom}
@@ -96,7 +97,7 @@ can_count m calls is short = subst (λ (told : List Event). HasRoom (events_befo
 
 -- what is kept of calls after those so far
 kept_more : (form : CustodyForm) (m : State) (xs ys : List Call) (old new : State) (before after : Kept) → IsLawful m → HasKept form m xs old before
-    → ((told : List Note) → CanCount m (told ++ notes_from before.line old ys) → Keeps form m told before.ledger → Keeps form m (told ++ notes_from before.line old ys) after.ledger) → new ≡ state_after old ys
+    → ((told : List Note) → old.config ≡ m.config → CanCount m (told ++ notes_from before.line old ys) → Keeps form m told before.ledger → Keeps form m (told ++ notes_from before.line old ys) after.ledger) → new ≡ state_after old ys
     → after.denials.total ≡ before.denials.total + length (filter is_denied (notes_from before.line old ys)) → after.denials.total ≤ before.denials.total + length ys
     → ((replies : List Reply) → Counts replies before.denials → Counts (replies ++ replies_from old ys) after.denials) → after.line ≡ before.line + length ys → after.line < 2 ^ 32 → HasKept form m (xs ++ ys) new after
 kept_more form m xs ys old new before after is h grown to added few counted at short =
@@ -106,7 +107,7 @@ kept_more form m xs ys old new before after is h grown to added few counted at s
     let all = told_more m old xs ys before.line h.left h.line in
     let room = subst (CanCount m) (sym all) (can_count m (xs ++ ys) is (omega (arith, long, so_far, at, short))) in
     record {
-      ledger = subst (λ (told : List Note). Keeps form m told after.ledger) all (grown (notes m xs) room h.ledger);
+      ledger = subst (λ (told : List Note). Keeps form m told after.ledger) all (grown (notes m xs) (ap (λ (s : State). s.config) h.left ∙ config-after m xs) room h.ledger);
       line = omega (arith, long, so_far, at);
       short = short;
       left = left_more m old new xs ys h.left to;
@@ -117,7 +118,7 @@ kept_more form m xs ys old new before after is h grown to added few counted at s
 
 -- the same after others
 pub kept_after : (form : CustodyForm) (m : State) (first xs ys : List Call) (old new : State) (before after : Kept) → IsLawful m → HasKept form m (first ++ xs) old before
-    → ((told : List Note) → CanCount m (told ++ notes_from before.line old ys) → Keeps form m told before.ledger → Keeps form m (told ++ notes_from before.line old ys) after.ledger) → new ≡ state_after old ys
+    → ((told : List Note) → old.config ≡ m.config → CanCount m (told ++ notes_from before.line old ys) → Keeps form m told before.ledger → Keeps form m (told ++ notes_from before.line old ys) after.ledger) → new ≡ state_after old ys
     → after.denials.total ≡ before.denials.total + length (filter is_denied (notes_from before.line old ys)) → after.denials.total ≤ before.denials.total + length ys
     → ((replies : List Reply) → Counts replies before.denials → Counts (replies ++ replies_from old ys) after.denials) → after.line ≡ before.line + length ys → after.line < 2 ^ 32 → HasKept form m (first ++ (xs ++ ys)) new after
 kept_after form m first xs ys old new before after is h grown to added few counted at short =

@@ -56,7 +56,7 @@ CanCount m told = HasRoom (events_before m ++ events_in told)
 abbrev pub Keeps : CustodyForm → State → List Note → Ledger → Type 0
 Keeps (Changes remarks) m told (kept.Changes events) = (remarks ≡ no_remarks) × (events.items ≡ events_in told)
 Keeps (Changes remarks) m told (kept.Notes wanted notes) = (wanted ≡ remarks) × (notes.items ≡ told)
-Keeps Summary m told (kept.Summary lives attempts) = AreGrown (events_before m ++ events_in told) lives × (attempts.items ≡ attempts_in told)
+Keeps Summary m told (kept.Summary lives attempts) = AreGrown m.config.frames (events_before m ++ events_in told) lives × (attempts.items ≡ attempts_in told)
 Keeps Picture m told (kept.Picture events) = events.items ≡ events_before m ++ events_in told
 Keeps Picture m told (kept.VmPicture v before notes) = (before.items ≡ events_before m) × (notes.items ≡ told)
 Keeps Html m told (kept.Html notes) = notes.items ≡ told
@@ -85,7 +85,7 @@ reported true told = map event.Change (changes_in told)
 abbrev pub IsGiven : Option ℕ → Heading → Configuration → List VolumeEntry → ℕ → ℕ → Ledger → List ℕ → Type 0
 IsGiven vm heading config volumes count refused (kept.Changes events) text = text ≡ custody_text_of heading config volumes count refused (selected vm (changes_in events.items))
 IsGiven vm heading config volumes count refused (kept.Notes wanted notes) text = text ≡ notes_text_of heading config volumes count refused (chosen vm wanted notes.items)
-IsGiven vm heading config volumes count refused (kept.Summary grown attempts) text = (events : List Event) → AreGrown events grown → text ≡ summary_text_of heading config volumes count refused attempts.items (selected_lives vm (lives events))
+IsGiven vm heading config volumes count refused (kept.Summary grown attempts) text = (frames : ℕ) (events : List Event) → AreGrown frames events grown → text ≡ summary_text_of heading config volumes count refused attempts.items (selected_lives vm (lives events))
 IsGiven vm heading config volumes count refused (kept.Picture events) text = HasFoot heading text
 IsGiven vm heading config volumes count refused (kept.VmPicture v before notes) text = HasFoot heading text
 IsGiven vm heading config volumes count refused (kept.Html notes) text = text ≡ html_text_of (notes_text_of heading config volumes count refused (chosen vm (page_remarks heading.is_unseen) notes.items))

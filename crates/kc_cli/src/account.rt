@@ -1,6 +1,6 @@
 //! What is written of what was kept of a trace: every change, an object for each life of a VM, a picture, or a page for
 //! a browser.
-ghost use Rattle.std.specs.Prelude.{◌≡◌, ◌<◌, ◌+◌, ◌^◌, ◌++◌, ◌⊎◌, List, All, Some, filter, false, IfOk, IfErr, OnOk};
+ghost use Rattle.std.specs.Prelude.{◌≡◌, ◌<◌, ◌+◌, ◌^◌, ◌++◌, ◌⊎◌, ℕ, List, All, Some, filter, false, IfOk, IfErr, OnOk};
 ghost use Rattle.kc_types.specs.declared.custody.Event.{Event as AnEvent};
 ghost use Rattle.kc_model.specs.Events.{changes_in};
 ghost use Rattle.kc_model.specs.Lives.{lives, selected_lives};
@@ -73,7 +73,7 @@ fn summary_of(
     vm: Option<u32>,
 ) -> Result<Vec<u8>, Memory>
     requires { AreInOrder attempts.now }
-    ensures { IfOk result (λ text. (events : List AnEvent) → AreGrown events grown → text.items
+    ensures { IfOk result (λ text. (frames : ℕ) (events : List AnEvent) → AreGrown frames events grown → text.items
         ≡ summary_text_of subject.now.heading subject.now.config subject.now.volumes.items subject.now.answered.calls
         subject.now.answered.denials.total attempts.now (selected_lives vm (lives events))) }
 {

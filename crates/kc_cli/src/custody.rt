@@ -1,5 +1,5 @@
 //! The engine that reports what happened to each frame and slot, over any sources and any sink.
-ghost use Rattle.std.specs.Prelude.{◌≡◌, ◌↔◌, ◌<◌, ◌≤◌, ◌-◌, ◌^◌, length, Some, None, IsTrue, IfSome};
+ghost use Rattle.std.specs.Prelude.{◌≡◌, ◌<◌, ◌≤◌, ◌-◌, ◌^◌, length, Some, None, IfSome};
 ghost use Rattle.kc_types.specs.Configuration.{slot_count};
 ghost use Rattle.kc_model.specs.Custody.{first_line};
 ghost use Rattle.kc_cli.specs.Custody.{listed, trace_digest, first_number, unnamed_start};
@@ -33,13 +33,6 @@ pub struct CustodyOrder {
     pub lanes: Lanes,
     /// What is reported.
     pub scope: Scope,
-}
-
-/// Whether calls begin in the boot state of a machine.
-fn is_boot(origin: Origin) -> bool
-    ensures { IsTrue result ↔ (origin ≡ Origin.Boot) }
-{
-    origin == Origin::Boot
 }
 
 /// What calls begin with if no file is named for it, by the number of the first volume, if it has a head.
@@ -196,8 +189,7 @@ impl Account for CustodyAccount {
             core.wipe(rt);
             return Err(TextFault::NoSlot(slot));
         }
-        let is_booted = is_boot(order.origin);
-        let Ok(kept) = Kept::new(alloc, &core, order.form, order.scope.vm, is_booted) else {
+        let Ok(kept) = Kept::new(alloc, &core, order.form, order.scope.vm) else {
             core.wipe(rt);
             return Err(TextFault::Memory);
         };

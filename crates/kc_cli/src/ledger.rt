@@ -1,8 +1,7 @@
 //! What is kept of the calls of a trace until it has ended.
-ghost use Rattle.std.specs.Prelude.{◌≡◌, ◌<◌, ◌≤◌, ◌+◌, ◌^◌, ◌++◌, [], List, true, length, filter, IfOk, OnOk};
+ghost use Rattle.std.specs.Prelude.{◌≡◌, ◌<◌, ◌≤◌, ◌+◌, ◌^◌, ◌++◌, [], List, length, filter, IfOk, OnOk};
 ghost use Rattle.kc_types.specs.declared.reply.Reply.{Reply};
 ghost use Rattle.kc_model.specs.State.{State};
-ghost use Rattle.kc_model.specs.Boot.{boot};
 ghost use Rattle.kc_model.specs.Next.{replies_from, state_after};
 ghost use Rattle.kc_remarks.specs.declared.remark.Note.{Note};
 ghost use Rattle.kc_remarks.specs.Remarks.{notes_from};
@@ -34,16 +33,13 @@ pub(crate) enum Ledger {
 }
 
 impl Ledger {
-    /// Makes a ledger without calls, for this form, perhaps of one slot's VM alone, of calls that begin in this core, which
-    /// may be known to be as it was booted.
+    /// Makes a ledger without calls, for this form, perhaps of one slot's VM alone, of calls that begin in this core.
     pub(crate) fn new(
         alloc: Global,
         core: &KCore,
         form: CustodyForm,
         vm: Option<u32>,
-        is_booted: bool,
     ) -> Result<Ledger, Memory>
-        requires { is_booted ≡ true → core.now.state ≡ boot core.now.state.config }
         ensures { IfOk result (Keeps form core.now.state []) }
     {
         match form {
@@ -55,14 +51,12 @@ impl Ledger {
             ) => Ok(Ledger::Changes(Vec::new(alloc))),
             CustodyForm::Changes(remarks) => Ok(Ledger::Notes(remarks, Vec::new(alloc))),
             CustodyForm::Summary => {
-                // What follows from a core's state being lawful, as this clause says.
-                let _config = core.config();
-                let mut lives = Lives::none(alloc)?;
-                lives.note_all(alloc, events_before(alloc, core, is_booted)?)?;
+                let mut lives = Lives::none(alloc, core.config().frames())?;
+                lives.note_all(alloc, events_before(alloc, core)?)?;
                 Ok(Ledger::Summary(lives, Vec::new(alloc)))
             },
             CustodyForm::Picture => {
-                let before = events_before(alloc, core, is_booted)?;
+                let before = events_before(alloc, core)?;
                 match vm {
                     Some(vm) => Ok(Ledger::VmPicture(vm, before, Vec::new(alloc))),
                     None => Ok(Ledger::Picture(before)),
@@ -85,7 +79,7 @@ impl Ledger {
         requires lines { first + length calls.now < 2 ^ 32 }
         requires counts { denials.old.total + length calls.now < 2 ^ 32 }
         ensures kept { OnOk result ((form : CustodyForm) (start : State) (told : List Note)
-            → CanCount start (told ++ notes_from first core.old.state calls.now)
+            → core.old.state.config ≡ start.config → CanCount start (told ++ notes_from first core.old.state calls.now)
             → Keeps form start told self.old
             → Keeps form start (told ++ notes_from first core.old.state calls.now) self.new) }
         ensures state { OnOk result (core.new.state ≡ state_after core.old.state calls.now) }

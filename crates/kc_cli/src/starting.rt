@@ -3,7 +3,6 @@ ghost use Rattle.std.specs.Prelude.{◌≡◌, ◌≢◌, ◌≤◌, ℕ, List, 
 ghost use Rattle.std.specs.Io.KnownBytes.{IsAtEnd};
 ghost use Rattle.sha2.specs.Sha256.{sha256};
 ghost use Rattle.kc_types.specs.Limits.{byte_limit};
-ghost use Rattle.kc_model.specs.Boot.{boot};
 ghost use Rattle.kc_model.specs.Lawful.{IsLawful};
 ghost use Rattle.kc_config_text.specs.ConfigText.{config_in};
 ghost use Rattle.kc_config_text.specs.declared.config_text.ConfigTextFault.{ConfigTextFault};
@@ -87,7 +86,6 @@ fn blank_digest(
 /// A sparse core in the boot state of the machine that a text spells.
 fn boot_of(alloc: Global, text: &[u8]) -> Result<KCore, TextFault>
     ensures ok { IfOk result (λ core. BeginsIn Origin.Boot text.now core.state Expected.First) }
-    ensures booted { IfOk result (λ core. core.state ≡ boot core.state.config) }
     ensures lawful { IfOk result (λ core. IsLawful core.state) }
     ensures config { (fault : ConfigTextFault) → result ≡ Err (TextFault.Config fault)
         → config_in text.now ≡ Err fault }
@@ -108,7 +106,6 @@ fn boot_core<C: Source>(alloc: Global, start: &mut C, is_named: bool) -> Result<
         (λ begun. IfSome (C.left start.old) (λ text. BeginsIn Origin.Boot text begun.core.state begun.expected)) }
     ensures digest { IfOk result
         (λ begun. NamesStart is_named Origin.Boot (C.left start.old) begun.core.state begun.expected begun.digest) }
-    ensures booted { IfOk result (λ begun. begun.core.state ≡ boot begun.core.state.config) }
     ensures lawful { IfOk result (λ begun. IsLawful begun.core.state) }
     ensures ended { OnOk result (IsAtEnd (C.left start.new)) }
     ensures mark { OnOk result (C.failed start.new ≡ false) }
@@ -208,8 +205,6 @@ pub(crate) fn begin<C: Source>(
         (λ begun. IfSome (C.left start.old) (λ text. BeginsIn origin text begun.core.state begun.expected)) }
     ensures digest { IfOk result
         (λ begun. NamesStart is_named origin (C.left start.old) begun.core.state begun.expected begun.digest) }
-    ensures booted { IfOk result
-        (λ begun. origin ≡ Origin.Boot → begun.core.state ≡ boot begun.core.state.config) }
     ensures lawful { IfOk result (λ begun. IsLawful begun.core.state) }
     ensures ended { OnOk result (IsAtEnd (C.left start.new)) }
     ensures mark { OnOk result (C.failed start.new ≡ false) }

@@ -4,7 +4,6 @@ ghost use Rattle.std.specs.Io.KnownBytes.{IsAtEnd};
 ghost use Rattle.kc_types.specs.Limits.{call_limit};
 ghost use Rattle.kc_types.specs.declared.call.Call.{Call};
 ghost use Rattle.kc_model.specs.State.{State};
-ghost use Rattle.kc_model.specs.Boot.{boot};
 ghost use Rattle.kc_model.specs.Lawful.{IsLawful};
 ghost use Rattle.kc_trace.specs.declared.fault.TraceFault.{TraceFault};
 ghost use Rattle.kc_trace.specs.declared.header.Header.{Header as AnyHeader};
@@ -140,20 +139,17 @@ pub(crate) struct Kept {
 }
 
 impl Kept {
-    /// Keeps nothing yet, for this form, perhaps of one slot's VM alone, of calls that begin in this core, which may be
-    /// known to be as it was booted.
+    /// Keeps nothing yet, for this form, perhaps of one slot's VM alone, of calls that begin in this core.
     pub(crate) fn new(
         alloc: Global,
         core: &KCore,
         form: CustodyForm,
         vm: Option<u32>,
-        is_booted: bool,
     ) -> Result<Kept, Memory>
-        requires { is_booted ≡ true → core.now.state ≡ boot core.now.state.config }
         ensures { IfOk result (HasKept form core.now.state [] core.now.state) }
     {
         Ok(Kept {
-            ledger: Ledger::new(alloc, core, form, vm, is_booted)?,
+            ledger: Ledger::new(alloc, core, form, vm)?,
             denials: Denials::none(),
             line: FIRST_LINE,
         })

@@ -1,5 +1,5 @@
 //! Verifying a VM: its boot images are measured, and it becomes active or dead.
-ghost use Rattle.std.specs.Prelude.{ℕ, List, ◌++◌, ◌≡◌, ◌+◌, ◌<◌, ◌≤◌, ◌↔◌, ◌||◌, ◌==◌, [], All, IsTrue, IfOk, IsSome, MatchResult, OnErr, Some, None, true, is_some, length, map, take, drop, IfSome};
+ghost use Rattle.std.specs.Prelude.{ℕ, List, ◌++◌, ◌≡◌, ◌+◌, ◌<◌, ◌≤◌, ◌↔◌, ◌||◌, ◌==◌, [], All, IsTrue, IfOk, IsSome, MatchResult, OnErr, Some, None, true, is_some, length, map};
 ghost use Rattle.std.specs.List.{list_any};
 ghost use Rattle.std.specs.FinMap as finite;
 ghost use Rattle.sha2.specs.Sha256.{sha256};
@@ -152,47 +152,6 @@ fn are_four_alike(images: &[Image]) -> bool
     images.len() == 4 && images.iter().all(|image| image.len == images[0].len)
 }
 
-/// The next four images from a place on, if they are of one length.
-fn next_four(images: &[Image], place: usize) -> Option<&[Image]>
-    requires { place ≤ length images.now }
-    ensures { IfSome result (λ four. AreFourAlike four.now × (four.now ≡ take 4 (drop place images.now)) × (place + 4 ≤ length images.now)) }
-{
-    if images.len() - place < 4 {
-        return None;
-    }
-    let four = &images[place..place + 4];
-    if are_four_alike(four) {
-        Some(four)
-    } else {
-        None
-    }
-}
-
-/// The digests of the bytes of images: four side by side if the next four are of one length.
-fn digests_of(parts: &Parts, table: &Stage2, images: &[Image]) -> ArrayVec<[u8; 32], IMAGE_LIMIT>
-    requires few { length images.now ≤ image_limit }
-    requires measurable { All IsMeasurable images.now }
-    requires here { All (IsImageHere parts.now (finite.get table.now.mapped)) images.now }
-    ensures { result.items ≡ map (λ image. sha256 (bytes_of_image parts.now (finite.get table.now.mapped) image)) images.now }
-{
-    let mut digests = ArrayVec::new();
-    let mut place = 0;
-    while place < images.len() {
-        match next_four(images, place) {
-            Some(four) => {
-                let four = digests_of_four(parts, table, four);
-                digests.try_extend_from_slice(four.as_slice()).unwrap();
-                place += 4;
-            },
-            None => {
-                digests.push(digest_of(parts, table, &images[place]));
-                place += 1;
-            },
-        }
-    }
-    digests
-}
-
 /// An image with the digest of its bytes.
 fn measured(image: &Image, digest: [u8; 32]) -> MeasuredImage
     ensures { result ≡ record { base = image.now.base; len = image.now.len; digest = digest } }
@@ -214,10 +173,16 @@ fn measured_images(parts: &Parts, config: &Config, vm: VmId) -> ArrayVec<Measure
 {
     let slot = parts.slot(vm);
     let images = slot.images();
-    let digests = digests_of(parts, slot.table(), images);
     let mut measured_images = ArrayVec::new();
-    for i in 0..images.len() {
-        measured_images.push(measured(&images[i], digests[i]));
+    if are_four_alike(images) {
+        let digests = digests_of_four(parts, slot.table(), images);
+        for i in 0..4 {
+            measured_images.push(measured(&images[i], digests[i]));
+        }
+    } else {
+        for image in images {
+            measured_images.push(measured(image, digest_of(parts, slot.table(), image)));
+        }
     }
     measured_images
 }

@@ -32,6 +32,15 @@ gives-one w place ending told old new was own places lives at here is takes = re
   ];
 }
 
+-- none is open in the slots that pass
+pub gives-none : (passes : ℕ → Bool) (told : Event) (ending : ℕ) (old : Register) → ((v i : ℕ) → passes v ≡ true → i < length old.lives.items → get_or old.places.items v None ≢ Some i) → GivesTo passes told ending old old
+gives-none passes told ending old none = record {
+  places = refl;
+  count = refl;
+  taken = λ v i pass low at. absurd (none v i pass low at);
+  left = λ i others. refl;
+}
+
 owner-is : (v : ℕ) (owner : Owner) → is_owned_by v owner ≡ true → owner ≡ Vm v
 owner-is v Core owned = cc
 owner-is v Host owned = cc

@@ -14,7 +14,7 @@ use Rattle.kc_types.specs.declared.custody.Sharing.{Sharing}
 use Rattle.kc_model.specs.Custody.{nothing_measured}
 use Rattle.kc_model.specs.Lives.{life_in, is_owned_by, is_measuring, line_of_turn, measurement_told, is_gain, is_loss, is_read, is_write, frames_gained, count_different, sharings}
 use Rattle.kc_custody.specs.declared.open_life.Stretch.{Stretch}
-use Rattle.kc_custody.specs.Endings.{EndingsByFrame, HasEndingOf, line_of_ending, NotesEvent, NumbersStretches, begins_sharing}
+use Rattle.kc_custody.specs.Endings.{FrameEndings, HasEndingOf, line_of_ending, NotesEvent, NumbersStretches, begins_sharing}
 use Rattle.kc_custody.specs.Growing.{Growing, with_member, gaining, losing, owning, sharing, sharing_of, stretch_from, first_measurement, is_open, Start, is_open_since, life_since, with_event, counted, AreMembers, HaveEndings, IsGrowing, HasRoomFor, EndsBy, concerns, TakesIn}
 use Rattle.kc_custody.proofs.Counts.{counted-short}
 use Rattle.kc_custody.proofs.Appended.{or-none, open-more, life-open, life-closed, line-more, measurement-more, measurement-kept, counted-more, gained-more, most-covers, most-more, members-more, ended_with, shared-more}
@@ -49,15 +49,15 @@ unfolding counted
 most-kept v line xs n = let covers = most-covers v xs in omega (arith, covers)
 
 -- the stretches so far, with one event more
-pub stretches-kept : (e : Event) (before after : EndingsByFrame) → NotesEvent e before after → (shared : List Stretch) → HaveEndings before shared
+pub stretches-kept : (e : Event) (before after : List FrameEndings) → NotesEvent e before after → (shared : List Stretch) → HaveEndings before shared
     → (map (sharing_of after) shared ≡ map (ended_with e) (map (sharing_of before) shared)) × HaveEndings after shared
 stretches-kept e before after noted [] have = (refl, tt)
 stretches-kept e before after noted (s ∷ more) have =
-    let here = noted s.frame s.ending have.0 in
+    let here = noted.each s.frame s.ending have.0 in
     let rest = stretches-kept e before after noted more have.1 in
     (ap₂ (λ (line : Option ℕ) (ys : List Sharing). record { frame = s.frame; gfn = s.gfn; from = s.from; to = line } ∷ ys) here.1 rest.0, (here.0, rest.1))
 
-have-more : (endings : EndingsByFrame) (xs ys : List Stretch) → HaveEndings endings xs → HaveEndings endings ys → HaveEndings endings (xs ++ ys)
+have-more : (endings : List FrameEndings) (xs ys : List Stretch) → HaveEndings endings xs → HaveEndings endings ys → HaveEndings endings (xs ++ ys)
 have-more endings [] ys first second = second
 have-more endings (x ∷ xs) ys first second = (first.0, have-more endings xs ys first.1 second)
 
@@ -69,7 +69,7 @@ open-before e start alive = by_open (is_open_since start) (is_open start.vm (e �
     by_open false is both = both
 
 -- the life stays as it is
-pub grows-left : (e : Event) (start : Start) (before after : EndingsByFrame) (life : Growing) → NotesEvent e before after
+pub grows-left : (e : Event) (start : Start) (before after : List FrameEndings) (life : Growing) → NotesEvent e before after
     → counted start.vm start.line (life_since (with_event e start)) ≡ counted start.vm start.line (life_since start)
     → frames_gained start.vm (life_since (with_event e start)) ≡ frames_gained start.vm (life_since start)
     → cond (is_open_since start) (sharings start.vm (e ∷ [])) [] ≡ []
@@ -84,14 +84,14 @@ grows-left e start before after life noted counts frames none is =
       begun = kept.1;
     }
 
-pub closed-left : (e : Event) (start : Start) (before after : EndingsByFrame) (life : Growing) → NotesEvent e before after → is_open_since start ≡ false
+pub closed-left : (e : Event) (start : Start) (before after : List FrameEndings) (life : Growing) → NotesEvent e before after → is_open_since start ≡ false
     → IsGrowing before start life → IsGrowing after (with_event e start) life
 closed-left e start before after life noted closed is =
     let same = life-closed start.vm start.more e closed in
     grows-left e start before after life noted (ap (counted start.vm start.line) same) (ap (frames_gained start.vm) same) (ap (λ (b : Bool). cond b (sharings start.vm (e ∷ [])) []) closed) is
 
 -- an open life becomes another
-pub grows : (e : Event) (start : Start) (before after : EndingsByFrame) (old new : Growing) (begun : List Stretch) → NotesEvent e before after → is_open_since start ≡ true
+pub grows : (e : Event) (start : Start) (before after : List FrameEndings) (old new : Growing) (begun : List Stretch) → NotesEvent e before after → is_open_since start ≡ true
     → new ≡ record (counted start.vm start.line (life_since (with_event e start))) { frames = new.frames; members = new.members; shared = new.shared }
     → new.frames ≡ count_different (frames_gained start.vm (life_since (with_event e start)))
     → (is_open_since (with_event e start) ≡ true → AreMembers (frames_gained start.vm (life_since (with_event e start))) new.members)
@@ -136,7 +136,7 @@ counted-plain v line xs e l r w ea ed ec ei eg el er ew =
     ∙ ap (λ (g : Growing). record g { lost = (counted v line xs).lost + l; reads = (counted v line xs).reads + r; writes = (counted v line xs).writes + w }) (lines-kept v line xs (counted v line xs) refl)
 
 -- an event that says nothing of the slot
-quiet-left : (e : Event) (start : Start) (before after : EndingsByFrame) (life : Growing) → NotesEvent e before after → is_open_since start ≡ true
+quiet-left : (e : Event) (start : Start) (before after : List FrameEndings) (life : Growing) → NotesEvent e before after → is_open_since start ≡ true
     → life_in start.vm (e ∷ []) ≡ e ∷ []
     → line_of_turn start.vm Active (e ∷ []) ≡ None → line_of_turn start.vm Dead (e ∷ []) ≡ None → line_of_turn start.vm Empty (e ∷ []) ≡ None → measurement_told start.vm (e ∷ []) ≡ nothing_measured
     → length (filter (is_gain start.vm) (e ∷ [])) ≡ 0 → length (filter (is_loss start.vm) (e ∷ [])) ≡ 0 → length (filter (is_read start.vm) (e ∷ [])) ≡ 0 → length (filter (is_write start.vm) (e ∷ [])) ≡ 0
@@ -151,7 +151,7 @@ quiet-left e start before after life noted alive one ea ed ec ei eg el er ew fra
     (ap (frames_gained v) more ∙ gained-more v (life_since start) (e ∷ []) ∙ ap (λ ys. frames_gained v (life_since start) ++ ys) frames ∙ append-nil (frames_gained v (life_since start)))
     (rw alive none) is
 
-pub unconcerned-left : (e : Event) (start : Start) (before after : EndingsByFrame) (life : Growing) → NotesEvent e before after → is_open_since start ≡ true → concerns start.vm e ≡ false
+pub unconcerned-left : (e : Event) (start : Start) (before after : List FrameEndings) (life : Growing) → NotesEvent e before after → is_open_since start ≡ true → concerns start.vm e ≡ false
     → IsGrowing before start life → IsGrowing after (with_event e start) life
 unconcerned-left (event.Change (change.Frame told)) start before after life noted alive other is = by_owners (is_owned_by start.vm told.before.owner) (is_owned_by start.vm told.after.owner) refl refl other
   where
@@ -168,7 +168,7 @@ unconcerned-left (event.Write w) start before after life noted alive other is =
     quiet-left (event.Write w) start before after life noted alive refl refl refl refl refl refl refl refl (rw other refl) refl refl is
 
 -- an event of the slot by which its VM gains no frame, and shares none
-grows-counts : (e : Event) (start : Start) (before after : EndingsByFrame) (old new : Growing) → NotesEvent e before after → is_open_since start ≡ true
+grows-counts : (e : Event) (start : Start) (before after : List FrameEndings) (old new : Growing) → NotesEvent e before after → is_open_since start ≡ true
     → life_in start.vm (e ∷ []) ≡ e ∷ []
     → new ≡ record (counted start.vm start.line (life_since start ++ e ∷ [])) { frames = new.frames; members = new.members; shared = new.shared }
     → new.frames ≡ old.frames → (is_open start.vm (e ∷ []) ≡ true → new.members ≡ old.members) → new.shared ≡ old.shared
@@ -299,7 +299,7 @@ sharing-is has told ending life = by_begins has (begins_sharing told)
     by_begins true false = rw (append-nil life.shared) refl
     by_begins false begins = rw (append-nil life.shared) refl
 
-begun-told : (v : ℕ) (told : FrameChange) (ending : ℕ) (after : EndingsByFrame) (has : Bool) → is_owned_by v told.after.owner ≡ has → NumbersStretches told after ending
+begun-told : (v : ℕ) (told : FrameChange) (ending : ℕ) (after : List FrameEndings) (has : Bool) → is_owned_by v told.after.owner ≡ has → NumbersStretches told after ending
     → (map (sharing_of after) (begun_by has told ending) ≡ sharings v (event.Change (change.Frame told) ∷ [])) × HaveEndings after (begun_by has told ending)
 begun-told v told ending after has owned numbered = rw owned (by_begins has (begins_sharing told) numbered)
   where
@@ -323,7 +323,7 @@ unfolding counted
 counted-vm v line xs = refl
 
 -- the change of a frame that the VM does not gain by it
-frame-kept : (start : Start) (told : FrameChange) (ending l : ℕ) (before after : EndingsByFrame) (old : Growing) (has : Bool) → EndsBy (event.Change (change.Frame told)) ending before after → is_open_since start ≡ true
+frame-kept : (start : Start) (told : FrameChange) (ending l : ℕ) (before after : List FrameEndings) (old : Growing) (has : Bool) → EndsBy (event.Change (change.Frame told)) ending before after → is_open_since start ≡ true
     → is_owned_by start.vm told.after.owner ≡ has → is_gain start.vm (event.Change (change.Frame told)) ≡ false → length (filter (is_loss start.vm) (event.Change (change.Frame told) ∷ [])) ≡ l
     → IsGrowing before start old → IsGrowing after (with_event (event.Change (change.Frame told)) start) (record old { lost = old.lost + l; shared = old.shared ++ begun_by has told ending })
 frame-kept start told ending l before after old has ends alive owned gain loss is =
@@ -342,7 +342,7 @@ frame-kept start told ending l before after old has ends alive owned gain loss i
     (is.frames ∙ ap count_different (sym gained)) (λ still. rw gained (is.members alive)) refl stretch.0 stretch.1 is
 
 -- and of one that it gains
-frame-gained : (start : Start) (told : FrameChange) (ending : ℕ) (before after : EndingsByFrame) (old : Growing) → EndsBy (event.Change (change.Frame told)) ending before after → is_open_since start ≡ true
+frame-gained : (start : Start) (told : FrameChange) (ending : ℕ) (before after : List FrameEndings) (old : Growing) → EndsBy (event.Change (change.Frame told)) ending before after → is_open_since start ≡ true
     → is_owned_by start.vm told.before.owner ≡ false → is_owned_by start.vm told.after.owner ≡ true
     → IsGrowing before start old → IsGrowing after (with_event (event.Change (change.Frame told)) start) (record (gaining told.frame old) { shared = old.shared ++ begun_by true told ending })
 frame-gained start told ending before after old ends alive was owned is =
@@ -373,7 +373,7 @@ takes-frame told ending old new made = λ start before after room ends alive of 
     let few : HasRoomFor old = (let n = ap (λ (g : Growing). g.gained) is.counts in let s = short.0 in omega (arith, n, s, room), let n = ap (λ (g : Growing). g.lost) is.counts in let s = short.1 in omega (arith, n, s, room)) in
     by_owners start before after ends alive is (is_owned_by old.vm told.before.owner) (is_owned_by old.vm told.after.owner) (ap (λ w. is_owned_by w told.before.owner) (sym own)) (ap (λ w. is_owned_by w told.after.owner) (sym own)) (made few)
   where
-    by_owners : (start : Start) (before after : EndingsByFrame) → EndsBy (event.Change (change.Frame told)) ending before after → is_open_since start ≡ true → IsGrowing before start old
+    by_owners : (start : Start) (before after : List FrameEndings) → EndsBy (event.Change (change.Frame told)) ending before after → is_open_since start ≡ true → IsGrowing before start old
         → (had has : Bool) → is_owned_by start.vm told.before.owner ≡ had → is_owned_by start.vm told.after.owner ≡ has
         → new ≡ sharing has (begins_sharing told) (stretch_from told ending) (owning had has told.frame old) → IsGrowing after (with_event (event.Change (change.Frame told)) start) new
     by_owners start before after ends alive is false true was owned made = rw (made, sharing-is true told ending (gaining told.frame old)) (frame-gained start told ending before after old ends alive was owned is)

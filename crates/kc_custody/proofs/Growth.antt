@@ -16,9 +16,9 @@ use Rattle.kc_model.specs.Custody.{same_phase}
 use Rattle.kc_model.specs.Lives.{lives, life_from, life_of, end_of_sharing}
 use Rattle.kc_custody.specs.declared.register.Register.{Register}
 use Rattle.kc_custody.specs.declared.growing.Lives.{Lives}
-use Rattle.kc_custody.specs.Endings.{EndingsByFrame, NotesChanges, NumbersStretches}
+use Rattle.kc_custody.specs.Endings.{FrameEndings, NotesChanges, NumbersStretches}
 use Rattle.kc_custody.specs.Growing.{HasRoom}
-use Rattle.kc_custody.specs.Within.{IsWithinSlots}
+use Rattle.kc_custody.specs.Within.{IsWithin}
 use Rattle.kc_custody.specs.Growing.{Growing, new_life, finished, is_open, Start, is_open_since, with_event, counted, IsGrowing, EndsBy, concerns, IsOf}
 use Rattle.kc_custody.specs.Grown.{Notes, NotesAll, start_from, starts, no_start, no_life, AreGrowing, AreOpen, AreGrown, AreUnset, HaveOwnPlaces, GivesTo}
 use Rattle.kc_custody.proofs.Appended.{open-more}
@@ -75,12 +75,12 @@ start-short (x ∷ more) i = by_event (λ j. let short = start-short more j in o
     by_event rest (event.Write w) = rest i
 
 -- the lives at the end
-finished-is : (endings : EndingsByFrame) (start : Start) (life : Growing) → IsGrowing endings start life → finished endings life ≡ life_at start
+finished-is : (endings : List FrameEndings) (start : Start) (life : Growing) → IsGrowing endings start life → finished endings life ≡ life_at start
 unfolding counted
 finished-is endings start life is = ap (finished endings) is.counts ∙ rw (is.shared, is.frames) refl
 
 -- each life takes an event in, or stays as it is
-pub given : (passes : ℕ → Bool) (e : Event) (ending : ℕ) (before after : EndingsByFrame) (begun : List Start) (old new : Register)
+pub given : (passes : ℕ → Bool) (e : Event) (ending : ℕ) (before after : List FrameEndings) (begun : List Start) (old new : Register)
     → ((v : ℕ) → passes v ≡ false → concerns v e ≡ false) → ((v : ℕ) → passes v ≡ true → IsOf v e) → ((i : ℕ) → HasRoom (get_or begun i no_start).more)
     → EndsBy e ending before after → GivesTo passes e ending old new → AreOpen begun old.places.items → AreGrowing before begun old.lives.items
     → AreGrowing after (map (with_event e) begun) new.lives.items
@@ -107,7 +107,7 @@ pub own-places : (begun : List Start) (places : List (Option ℕ)) → AreOpen b
 own-places begun places are = λ v w i first second. sym (are.held v i first).1 ∙ (are.held w i second).1
 
 -- the lives that are told at the end
-pub finished-all : (endings : EndingsByFrame) (told : List Event) (some : List Growing) → AreGrowing endings (starts told) some → map (finished endings) some ≡ lives told
+pub finished-all : (endings : List FrameEndings) (told : List Event) (some : List Growing) → AreGrowing endings (starts told) some → map (finished endings) some ≡ lives told
 finished-all endings told some each =
     ext_get_or (life_at no_start) (map (finished endings) some) (map life_at (starts told)) (length-map some (finished endings) ∙ each.count ∙ sym (length-map (starts told) life_at))
     (λ i low.
@@ -117,7 +117,7 @@ finished-all endings told some each =
     ∙ sym (lives-are told)
 
 -- no events
-pub growing-none : (endings : EndingsByFrame) → AreGrowing endings (starts []) []
+pub growing-none : (endings : List FrameEndings) → AreGrowing endings (starts []) []
 growing-none endings = record { count = refl; each = λ i low. absurd (omega (arith, low)) }
 
 pub open-none : (places : List (Option ℕ)) → AreUnset places → AreOpen (starts []) places
@@ -152,17 +152,18 @@ start-room : (told : List Event) → HasRoom told → (i : ℕ) → HasRoom (get
 start-room told room i = let short = start-short told i in omega (arith, short, room)
 
 -- an event by which no life begins or ends
-pub grown-by : (e : Event) (ending : ℕ) (before : List Event) (old new : Lives) (passes : ℕ → Bool)
+pub grown-by : (frames : ℕ) (e : Event) (ending : ℕ) (before : List Event) (old new : Lives) (passes : ℕ → Bool)
     → ((v : ℕ) → passes v ≡ false → concerns v e ≡ false) → ((v : ℕ) → passes v ≡ true → IsOf v e) → starts (e ∷ []) ≡ [] → ((v : ℕ) → is_open v (e ∷ []) ≡ true)
-    → HasRoom before → EndsBy e ending old.endings new.endings → GivesTo passes e ending old.register new.register → AreGrown before old → AreGrown (before ++ e ∷ []) new
-grown-by e ending before old new passes others own none alive room ends gives grown =
+    → HasRoom before → EndsBy e ending old.endings new.endings → GivesTo passes e ending old.register new.register → AreGrown frames before old → AreGrown frames (before ++ e ∷ []) new
+grown-by frames e ending before old new passes others own none alive room ends gives grown =
     let begun : starts (before ++ e ∷ []) ≡ map (with_event e) (starts before) = starts-more before e ∙ ap (λ ys. map (with_event e) (starts before) ++ ys) none ∙ append-nil (map (with_event e) (starts before)) in
     record {
+      count = ends.noted.count ∙ grown.count;
       each = rw begun (given passes e ending old.endings new.endings (starts before) old.register new.register others own (start-room before room) ends gives grown.places grown.each);
       places = rw (begun, gives.places) (open-left e (starts before) old.register.places.items alive grown.places);
     }
 
-pub ends-left : (e : Event) (ending : ℕ) (endings : EndingsByFrame) → ((f : ℕ) → end_of_sharing f (e ∷ []) ≡ None) → ((told : FrameChange) → e ≢ event.Change (change.Frame told)) → EndsBy e ending endings endings
+pub ends-left : (e : Event) (ending : ℕ) (endings : List FrameEndings) → ((f : ℕ) → end_of_sharing f (e ∷ []) ≡ None) → ((told : FrameChange) → e ≢ event.Change (change.Frame told)) → EndsBy e ending endings endings
 ends-left e ending endings none other = record { noted = noted-left e endings none; numbered = λ told is. absurd (other told is) }
 
 -- a slot's place is written, since its life ends
@@ -202,10 +203,10 @@ phase-own : (told : PhaseChange) (v : ℕ) → (told.vm == v) ≡ true → IsOf 
 phase-own told v same = eqb-true told.vm v same
 
 -- a slot is emptied
-pub grown-empty : (told : PhaseChange) (before : List Event) (old new : Lives) (mid : Register) → told.phase ≡ Empty → new.endings ≡ old.endings
+pub grown-empty : (frames : ℕ) (told : PhaseChange) (before : List Event) (old new : Lives) (mid : Register) → told.phase ≡ Empty → new.endings ≡ old.endings
     → GivesTo (λ v. told.vm == v) (event.Change (change.Phase told)) 0 old.register mid → new.register.lives.items ≡ mid.lives.items → new.register.places.items ≡ set mid.places.items told.vm None
-    → told.vm < slot_limit → HasRoom before → AreGrown before old → AreGrown (before ++ event.Change (change.Phase told) ∷ []) new
-grown-empty told before old new mid phase endings gives listed places low room grown =
+    → told.vm < slot_limit → HasRoom before → AreGrown frames before old → AreGrown frames (before ++ event.Change (change.Phase told) ∷ []) new
+grown-empty frames told before old new mid phase endings gives listed places low room grown =
     let e = event.Change (change.Phase told) in
     let same : (told.vm == told.vm) ≡ true = eq-eqb told.vm told.vm refl in
     let begun : starts (before ++ e ∷ []) ≡ map (with_event e) (starts before) = let none : starts (e ∷ []) ≡ [] = rw phase refl in starts-more before e ∙ ap (λ ys. map (with_event e) (starts before) ++ ys) none ∙ append-nil (map (with_event e) (starts before)) in
@@ -213,6 +214,7 @@ grown-empty told before old new mid phase endings gives listed places low room g
     let count = length-map (starts before) (with_event e) in
     let written : new.register.places.items ≡ set old.register.places.items told.vm None = places ∙ ap (λ xs. set xs told.vm None) gives.places in
     record {
+      count = ap length endings ∙ grown.count;
       each = rw (begun, listed, endings) (given (λ v. told.vm == v) e 0 old.endings old.endings (starts before) old.register mid (phase-other told) (phase-own told) (start-room before room) (ends-left e 0 old.endings (λ f. refl) (λ changed is. cc)) gives grown.places grown.each);
       places = rw (begun, written) (record {
         count = length-set old.register.places.items told.vm None ∙ grown.places.count;
@@ -224,12 +226,12 @@ grown-empty told before old new mid phase endings gives listed places low room g
       });
     }
 
-new-growing : (endings : EndingsByFrame) (v line : ℕ) → IsGrowing endings (record { vm = v; line = line; more = [] }) (new_life v line)
+new-growing : (endings : List FrameEndings) (v line : ℕ) → IsGrowing endings (record { vm = v; line = line; more = [] }) (new_life v line)
 unfolding counted
 new-growing endings v line = record { counts = refl; frames = refl; members = λ alive. record { count = refl; same = λ f. refl }; shared = refl; begun = tt }
 
 -- a life more
-growing-more : (endings : EndingsByFrame) (begun : List Start) (some : List Growing) (v line : ℕ) → AreGrowing endings begun some
+growing-more : (endings : List FrameEndings) (begun : List Start) (some : List Growing) (v line : ℕ) → AreGrowing endings begun some
     → AreGrowing endings (begun ++ record { vm = v; line = line; more = [] } ∷ []) (some ++ new_life v line ∷ [])
 growing-more endings begun some v line are = record {
   count = length-append some (new_life v line ∷ []) ∙ ap (λ n. n + 1) are.count ∙ sym (length-append begun (record { vm = v; line = line; more = [] } ∷ []));
@@ -244,11 +246,11 @@ growing-more endings begun some v line are = record {
 }
 
 -- a VM is registered
-pub grown-booting : (told : PhaseChange) (before : List Event) (old new : Lives) (mid : Register) → told.phase ≡ Booting → new.endings ≡ old.endings
+pub grown-booting : (frames : ℕ) (told : PhaseChange) (before : List Event) (old new : Lives) (mid : Register) → told.phase ≡ Booting → new.endings ≡ old.endings
     → GivesTo (λ v. told.vm == v) (event.Change (change.Phase told)) 0 old.register mid → new.register.lives.items ≡ mid.lives.items ++ new_life told.vm told.line ∷ []
     → new.register.places.items ≡ set mid.places.items told.vm (Some (length mid.lives.items))
-    → told.vm < slot_limit → HasRoom before → AreGrown before old → AreGrown (before ++ event.Change (change.Phase told) ∷ []) new
-grown-booting told before old new mid phase endings gives listed places low room grown =
+    → told.vm < slot_limit → HasRoom before → AreGrown frames before old → AreGrown frames (before ++ event.Change (change.Phase told) ∷ []) new
+grown-booting frames told before old new mid phase endings gives listed places low room grown =
     let e = event.Change (change.Phase told) in
     let first : Start = record { vm = told.vm; line = told.line; more = [] } in
     let olds = map (with_event e) (starts before) in
@@ -263,6 +265,7 @@ grown-booting told before old new mid phase endings gives listed places low room
     let here : get_or (set old.register.places.items told.vm (Some n)) told.vm None ≡ Some n = get_or-set_same old.register.places.items told.vm (Some n) None (rw grown.places.count low) in
     let all : length (olds ++ first ∷ []) ≡ n + 1 = length-append olds (first ∷ []) ∙ ap (λ m. m + 1) count in
     record {
+      count = ap length endings ∙ grown.count;
       each = rw (begun, listed, endings) (growing-more old.endings olds mid.lives.items told.vm told.line
           (given (λ v. told.vm == v) e 0 old.endings old.endings (starts before) old.register mid (phase-other told) (phase-own told) (start-room before room) (ends-left e 0 old.endings (λ f. refl) (λ changed is. cc)) gives grown.places grown.each));
       places = rw (begun, written) (record {
@@ -282,50 +285,51 @@ grown-booting told before old new mid phase endings gives listed places low room
     some-is i j same = cc
 
 -- a slot is active or dead
-pub grown-measured : (told : PhaseChange) (before : List Event) (old new : Lives) → same_phase told.phase Booting ≡ false → same_phase told.phase Empty ≡ false → new.endings ≡ old.endings
-    → GivesTo (λ v. told.vm == v) (event.Change (change.Phase told)) 0 old.register new.register → HasRoom before → AreGrown before old → AreGrown (before ++ event.Change (change.Phase told) ∷ []) new
-grown-measured told before old new begins ends endings gives room grown =
+pub grown-measured : (frames : ℕ) (told : PhaseChange) (before : List Event) (old new : Lives) → same_phase told.phase Booting ≡ false → same_phase told.phase Empty ≡ false → new.endings ≡ old.endings
+    → GivesTo (λ v. told.vm == v) (event.Change (change.Phase told)) 0 old.register new.register → HasRoom before → AreGrown frames before old → AreGrown frames (before ++ event.Change (change.Phase told) ∷ []) new
+grown-measured frames told before old new begins ends endings gives room grown =
     let e = event.Change (change.Phase told) in
-    grown-by e 0 before old new (λ v. told.vm == v) (phase-other told) (phase-own told) (rw begins refl) (λ v. rw (begins, ends) (still (told.vm == v))) room (rw endings (ends-left e 0 old.endings (λ f. refl) (λ changed is. cc))) gives grown
+    grown-by frames e 0 before old new (λ v. told.vm == v) (phase-other told) (phase-own told) (rw begins refl) (λ v. rw (begins, ends) (still (told.vm == v))) room (rw endings (ends-left e 0 old.endings (λ f. refl) (λ changed is. cc))) gives grown
   where
     still : (own : Bool) → cond (own && false) false (cond (own && false) false true) ≡ true
     still true = refl
     still false = refl
 
-pub grown-read : (w : ℕ) (before : List Event) (old new : Lives) → new.endings ≡ old.endings → GivesTo (λ v. w == v) (event.Read w) 0 old.register new.register → HasRoom before → AreGrown before old → AreGrown (before ++ event.Read w ∷ []) new
-grown-read w before old new endings gives room grown =
-    grown-by (event.Read w) 0 before old new (λ v. w == v) (λ v other. other) (λ v own. eqb-true w v own) refl (λ v. refl) room (rw endings (ends-left (event.Read w) 0 old.endings (λ f. refl) (λ changed is. cc))) gives grown
+pub grown-read : (frames w : ℕ) (before : List Event) (old new : Lives) → new.endings ≡ old.endings → GivesTo (λ v. w == v) (event.Read w) 0 old.register new.register → HasRoom before → AreGrown frames before old → AreGrown frames (before ++ event.Read w ∷ []) new
+grown-read frames w before old new endings gives room grown =
+    grown-by frames (event.Read w) 0 before old new (λ v. w == v) (λ v other. other) (λ v own. eqb-true w v own) refl (λ v. refl) room (rw endings (ends-left (event.Read w) 0 old.endings (λ f. refl) (λ changed is. cc))) gives grown
 
-pub grown-write : (w : ℕ) (before : List Event) (old new : Lives) → new.endings ≡ old.endings → GivesTo (λ v. w == v) (event.Write w) 0 old.register new.register → HasRoom before → AreGrown before old → AreGrown (before ++ event.Write w ∷ []) new
-grown-write w before old new endings gives room grown =
-    grown-by (event.Write w) 0 before old new (λ v. w == v) (λ v other. other) (λ v own. eqb-true w v own) refl (λ v. refl) room (rw endings (ends-left (event.Write w) 0 old.endings (λ f. refl) (λ changed is. cc))) gives grown
+pub grown-write : (frames w : ℕ) (before : List Event) (old new : Lives) → new.endings ≡ old.endings → GivesTo (λ v. w == v) (event.Write w) 0 old.register new.register → HasRoom before → AreGrown frames before old → AreGrown frames (before ++ event.Write w ∷ []) new
+grown-write frames w before old new endings gives room grown =
+    grown-by frames (event.Write w) 0 before old new (λ v. w == v) (λ v other. other) (λ v own. eqb-true w v own) refl (λ v. refl) room (rw endings (ends-left (event.Write w) 0 old.endings (λ f. refl) (λ changed is. cc))) gives grown
 
-pub grown-frame : (ending : ℕ) (told : FrameChange) (before : List Event) (old new : Lives) → NotesChanges told old.endings new.endings → NumbersStretches told new.endings ending
+pub grown-frame : (frames ending : ℕ) (told : FrameChange) (before : List Event) (old new : Lives) → NotesChanges told old.endings new.endings → (told.frame < length old.endings → NumbersStretches told new.endings ending)
     → (HaveOwnPlaces old.register.places.items → GivesTo (λ v. concerns v (event.Change (change.Frame told))) (event.Change (change.Frame told)) ending old.register new.register)
-    → HasRoom before → AreGrown before old → AreGrown (before ++ event.Change (change.Frame told) ∷ []) new
-grown-frame ending told before old new notes numbers gives room grown =
+    → told.frame < frames → HasRoom before → AreGrown frames before old → AreGrown frames (before ++ event.Change (change.Frame told) ∷ []) new
+grown-frame frames ending told before old new notes numbers gives low room grown =
     let e = event.Change (change.Frame told) in
-    grown-by e ending before old new (λ v. concerns v e) (λ v other. other) (λ v own. tt) refl (λ v. refl) room
-    (record { noted = notes; numbered = λ changed is. let same : told ≡ changed = cc in rw (← same) numbers })
+    let there : told.frame < length old.endings = rw grown.count low in
+    grown-by frames e ending before old new (λ v. concerns v e) (λ v other. other) (λ v own. tt) refl (λ v. refl) room
+    (record { noted = notes there; numbered = λ changed is. let same : told ≡ changed = cc in rw (← same) (numbers there) })
     (gives (own-places (starts before) old.register.places.items grown.places)) grown
 
 -- some events are taken in, and then more
 pub notes-some : (some more : List Event) (old mid new : Lives) → NotesAll some old mid → NotesAll more mid new → NotesAll (some ++ more) old new
-notes-some some more old mid new first second = λ told within room grown.
+notes-some some more old mid new first second = λ frames told within room grown.
     let all = length-append told (some ++ more) in
     let own = length-append some more in
     let before = length-append told some in
     let both = length-append (told ++ some) more in
-    let early : All IsWithinSlots some = λ k d low. rw (get_or_append_left some more d k low) at (within k d (omega (arith, own, low))) in
-    let late : All IsWithinSlots more = λ k d low. rw (get_or-append-add some more k d) at (within (length some + k) d (omega (arith, own, low))) in
+    let early : All (IsWithin frames) some = λ k d low. rw (get_or_append_left some more d k low) at (within k d (omega (arith, own, low))) in
+    let late : All (IsWithin frames) more = λ k d low. rw (get_or-append-add some more k d) at (within (length some + k) d (omega (arith, own, low))) in
     let short : HasRoom (told ++ some) = omega (arith, all, own, before, room) in
     let long : HasRoom ((told ++ some) ++ more) = omega (arith, all, own, before, both, room) in
-    rw (← append_assoc told some more) (second (told ++ some) late long (first told early short grown))
+    rw (← append_assoc told some more) (second frames (told ++ some) late long (first frames told early short grown))
 
 pub notes-none : (lives : Lives) → NotesAll [] lives lives
-notes-none lives = λ told within room grown. rw (append-nil told) grown
+notes-none lives = λ frames told within room grown. rw (append-nil told) grown
 
 pub notes-one : (e : Event) (old new : Lives) → Notes e old new → NotesAll (e ∷ []) old new
-notes-one e old new notes = λ told within room grown.
+notes-one e old new notes = λ frames told within room grown.
     let count = length-append told (e ∷ []) in
-    notes told (within 0 e (omega arith)) (omega (arith, count, room)) grown
+    notes frames told (within 0 e (omega arith)) (omega (arith, count, room)) grown

@@ -17,5 +17,4 @@ pub mod Grows
 pub mod Growth
 pub mod Gives
 mod Denied
-pub mod Booted
 pub mod Own

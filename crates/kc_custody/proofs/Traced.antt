@@ -1,7 +1,7 @@
 -- The events of a trace name frames and slots that there are.
 use Rattle.std.proofs.Common.{ℕ, ◌+◌, ◌<◌, ◌≤◌, List, [], ◌∷◌, map, All, ap, arith}
 use Rattle.std.specs.List.{range_with_len}
-use Rattle.std.proofs.lemmas.List.Elements.{All-nil, All-cons, All-append, All-map, All-filter, All-weaker, All-from_get_or}
+use Rattle.std.proofs.lemmas.List.Elements.{All-nil, All-cons, All-append, All-map, All-filter, All-from_get_or}
 use Rattle.std.proofs.lemmas.List.FromFn.{get_or-range_with_len, length-range_with_len}
 use Rattle.kc_types.specs.Limits.{slot_limit}
 use Rattle.kc_types.specs.Configuration.{Configuration, slot_count}
@@ -24,7 +24,7 @@ use Rattle.kc_model.specs.Custody.{changes_by, frame_change, frame_changes_by, p
 use Rattle.kc_model.specs.Before.{header_line, is_taken, is_measured, turn_before, frame_before, slots_that, events_before}
 use Rattle.kc_model.specs.Events.{of_owner, access_by, events_by, events_from}
 use Rattle.kc_model.proofs.States.Sizes.{sized-next}
-use Rattle.kc_custody.specs.Within.{IsWithin, IsWithinSlots}
+use Rattle.kc_custody.specs.Within.{IsWithin}
 
 pub few-slots : (c : Configuration) → slot_count c ≤ slot_limit
 unfolding slot_count
@@ -72,16 +72,3 @@ before-within m =
     (All-append P (map frame_before (frame_changes_by header_line (boot m.config) m)) _
     (All-map P frame_before _ (All-map (λ told. P (frame_before told)) (frame_change header_line (boot m.config) m) _ (All-filter (has_moved (boot m.config) m) (λ f. f < m.config.frames) _ (range-below m.config.frames m.config.frames (omega arith)))))
     (All-map P (λ v. turn_before (slot_at m v).phase v) _ (All-filter (is_measured m) (λ v. v < slot_limit) _ slots)))
-
--- so they name slots that there are
-within-slots : (frames : ℕ) (told : Event) → IsWithin frames told → IsWithinSlots told
-within-slots frames (event.Change (change.Frame told)) within = tt
-within-slots frames (event.Change (change.Phase told)) within = within
-within-slots frames (event.Read v) within = tt
-within-slots frames (event.Write v) within = tt
-
-pub events-within-slots : (n : ℕ) (m : State) (calls : List Call) → All IsWithinSlots (events_from n m calls)
-events-within-slots n m calls = All-weaker (IsWithin m.config.frames) IsWithinSlots (within-slots m.config.frames) (events_from n m calls) (events-within n m calls)
-
-pub before-within-slots : (m : State) → All IsWithinSlots (events_before m)
-before-within-slots m = All-weaker (IsWithin m.config.frames) IsWithinSlots (within-slots m.config.frames) (events_before m) (before-within m)

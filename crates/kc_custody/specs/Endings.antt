@@ -1,7 +1,6 @@
 -- Endings: where the sharing of frames ends, and which ending a stretch of sharing has.
-use Rattle.std.specs.Prelude.{ℕ, ◌≡◌, ◌<◌, ◌+◌, ◌==◌, ◌&&◌, Bool, true, false, List, [], ◌∷◌, length, nat_eq, nat_lt, slice_get, Option, None, if◌then◌else◌}
-use Rattle.std.specs.Map.{lookup}
-use Rattle.std.specs.Option.{option_or, unwrap_or}
+use Rattle.std.specs.Prelude.{ℕ, ◌≡◌, ◌<◌, ◌+◌, ◌==◌, ◌&&◌, Bool, true, false, List, [], ◌∷◌, length, nat_lt, slice_get, slice_index_or, replicate, Option, None, if◌then◌else◌}
+use Rattle.std.specs.Option.{option_or}
 use Rattle.kc_types.specs.declared.custody.FrameChange.{FrameChange}
 use Rattle.kc_types.specs.declared.custody.Change.TheVariants as change
 use Rattle.kc_types.specs.declared.custody.Event.{Event}
@@ -17,13 +16,9 @@ pub record FrameEndings : Type 0 where
 abbrev pub no_endings : FrameEndings
 no_endings = record { lines = []; pending = false }
 
--- the endings of frames by their numbers, with an entry for each frame whose sharing began
-abbrev pub EndingsByFrame : Type 0
-EndingsByFrame = List (ℕ × FrameEndings)
-
--- the endings of a frame, none if it has no entry
-abbrev pub endings_of : EndingsByFrame → ℕ → FrameEndings
-endings_of endings frame = unwrap_or (lookup (nat_eq frame) endings) no_endings
+-- no frame's sharing ended or began
+abbrev pub AreNone : ℕ → List FrameEndings → Type 0
+AreNone frames endings = endings ≡ replicate frames no_endings
 
 -- the ending came already, or it is the next one and is to come
 abbrev pub HasEnding : FrameEndings → ℕ → Type 0
@@ -46,22 +41,22 @@ abbrev pub NumbersStretch : FrameChange → FrameEndings → ℕ → Type 0
 NumbersStretch told new number = begins_sharing told ≡ true → HasEnding new number × (slice_get new.lines number ≡ None)
 
 -- the line of a frame's ending
-abbrev pub line_of_ending : EndingsByFrame → ℕ → ℕ → Option ℕ
-line_of_ending endings frame number = slice_get (endings_of endings frame).lines number
+abbrev pub line_of_ending : List FrameEndings → ℕ → ℕ → Option ℕ
+line_of_ending endings frame number = slice_get (slice_index_or endings frame no_endings).lines number
 
 -- the same of the frame with this number
-abbrev pub HasEndingOf : EndingsByFrame → ℕ → ℕ → Type 0
-HasEndingOf endings frame number = HasEnding (endings_of endings frame) number
+abbrev pub HasEndingOf : List FrameEndings → ℕ → ℕ → Type 0
+HasEndingOf endings frame number = HasEnding (slice_index_or endings frame no_endings) number
 
 -- each ending of each frame that was there is there, and has come if it came before, or comes by this event
-abbrev pub NotesEvent : Event → EndingsByFrame → EndingsByFrame → Type 0
-NotesEvent told old new =
-    (frame number : ℕ) → HasEndingOf old frame number → HasEndingOf new frame number × (line_of_ending new frame number ≡ option_or (line_of_ending old frame number) (end_of_sharing frame (told ∷ [])))
+pub record NotesEvent (told : Event) (old new : List FrameEndings) : Type 0 where
+  pub count : length new ≡ length old
+  pub each : (frame number : ℕ) → HasEndingOf old frame number → HasEndingOf new frame number × (line_of_ending new frame number ≡ option_or (line_of_ending old frame number) (end_of_sharing frame (told ∷ [])))
 
--- the change is taken in
-abbrev pub NotesChanges : FrameChange → EndingsByFrame → EndingsByFrame → Type 0
-NotesChanges told old new = NotesEvent (event.Change (change.Frame told)) old new
+-- the change is taken in, if there is such a frame
+abbrev pub NotesChanges : FrameChange → List FrameEndings → List FrameEndings → Type 0
+NotesChanges told old new = told.frame < length old → NotesEvent (event.Change (change.Frame told)) old new
 
 -- if a stretch begins with the change, this is the number of its ending among those of the frame, which is to come
-abbrev pub NumbersStretches : FrameChange → EndingsByFrame → ℕ → Type 0
+abbrev pub NumbersStretches : FrameChange → List FrameEndings → ℕ → Type 0
 NumbersStretches told new number = begins_sharing told ≡ true → HasEndingOf new told.frame number × (line_of_ending new told.frame number ≡ None)

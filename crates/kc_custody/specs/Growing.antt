@@ -13,7 +13,7 @@ use Rattle.kc_model.specs.Resources.{is_in}
 use Rattle.kc_model.specs.Custody.{nothing_measured}
 use Rattle.kc_model.specs.Lives.{is_turn, is_owned_by, life_in, line_of_turn, measurement_told, frames_gained, count_different, most_beyond, is_gain, is_loss, is_read, is_write, sharings}
 use Rattle.kc_custody.specs.declared.open_life.Stretch.{Stretch}
-use Rattle.kc_custody.specs.Endings.{EndingsByFrame, HasEndingOf, line_of_ending, NotesEvent, NumbersStretches}
+use Rattle.kc_custody.specs.Endings.{FrameEndings, HasEndingOf, line_of_ending, NotesEvent, NumbersStretches}
 
 -- what is said of a life: its lines and what was measured, how many different frames it gained and, while it is open, which, counts, and
 -- the stretches begun
@@ -85,11 +85,11 @@ abbrev pub HasRoomFor : Growing → Type 0
 HasRoomFor life = (life.gained + 1 < 2 ^ 64) × (life.lost + 1 < 2 ^ 64)
 
 -- the stretch with the line at which it ends
-abbrev pub sharing_of : EndingsByFrame → Stretch → Sharing
+abbrev pub sharing_of : List FrameEndings → Stretch → Sharing
 sharing_of endings begun = record { frame = begun.frame; gfn = begun.gfn; from = begun.from; to = line_of_ending endings begun.frame begun.ending }
 
 -- the life that is reported, with the lines at which its stretches end
-abbrev pub finished : EndingsByFrame → Growing → Life
+abbrev pub finished : List FrameEndings → Growing → Life
 finished endings life = record {
   vm = life.vm;
   registered = life.registered;
@@ -154,12 +154,12 @@ pub record AreMembers (numbers members : List ℕ) : Type 0 where
   pub same : (f : ℕ) → has_member members f ≡ is_in numbers f
 
 -- the endings of these stretches are among them
-abbrev pub HaveEndings : EndingsByFrame → List Stretch → Type 0
+abbrev pub HaveEndings : List FrameEndings → List Stretch → Type 0
 HaveEndings endings [] = Unit {0}
 HaveEndings endings (stretch ∷ more) = HasEndingOf endings stretch.frame stretch.ending × HaveEndings endings more
 
 -- a growing life is what the events since its start say
-pub record IsGrowing (endings : EndingsByFrame) (start : Start) (life : Growing) : Type 0 where
+pub record IsGrowing (endings : List FrameEndings) (start : Start) (life : Growing) : Type 0 where
   pub counts : life ≡ record (counted start.vm start.line (life_since start)) { frames = life.frames; members = life.members; shared = life.shared }
   pub frames : life.frames ≡ count_different (frames_gained start.vm (life_since start))
   pub members : is_open_since start ≡ true → AreMembers (frames_gained start.vm (life_since start)) life.members
@@ -178,7 +178,7 @@ concerns v (event.Read w) = w == v
 concerns v (event.Write w) = w == v
 
 -- the endings take the event in, and this is the number of the one of a stretch that begins with it
-pub record EndsBy (told : Event) (ending : ℕ) (old new : EndingsByFrame) : Type 0 where
+pub record EndsBy (told : Event) (ending : ℕ) (old new : List FrameEndings) : Type 0 where
   pub noted : NotesEvent told old new
   pub numbered : (changed : FrameChange) → told ≡ event.Change (change.Frame changed) → NumbersStretches changed new ending
 
@@ -191,5 +191,5 @@ IsOf v (event.Write w) = w ≡ v
 
 -- an open life takes an event of its slot in
 abbrev pub TakesIn : Event → ℕ → Growing → Growing → Type 0
-TakesIn told ending old new = (start : Start) (before after : EndingsByFrame) → HasRoom start.more → EndsBy told ending before after → is_open_since start ≡ true
+TakesIn told ending old new = (start : Start) (before after : List FrameEndings) → HasRoom start.more → EndsBy told ending before after → is_open_since start ≡ true
     → IsOf start.vm told → IsGrowing before start old → IsGrowing after (with_event told start) new

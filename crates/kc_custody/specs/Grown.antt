@@ -6,10 +6,10 @@ use Rattle.kc_types.specs.declared.custody.Change.TheVariants as change
 use Rattle.kc_types.specs.declared.custody.Event.{Event}
 use Rattle.kc_types.specs.declared.custody.Event.TheVariants as event
 use Rattle.kc_model.specs.Custody.{same_phase}
-use Rattle.kc_custody.specs.Endings.{EndingsByFrame}
+use Rattle.kc_custody.specs.Endings.{FrameEndings}
 use Rattle.kc_custody.specs.Growing.{Growing, Start, new_life, is_open_since, TakesIn, IsGrowing}
 use Rattle.kc_custody.specs.Growing.{HasRoom}
-use Rattle.kc_custody.specs.Within.{IsWithinSlots}
+use Rattle.kc_custody.specs.Within.{IsWithin}
 use Rattle.kc_custody.specs.declared.register.Register.{Register}
 use Rattle.kc_custody.specs.declared.growing.Lives.{Lives}
 
@@ -32,7 +32,7 @@ abbrev pub no_life : Growing
 no_life = new_life 0 0
 
 -- each start's life
-pub record AreGrowing (endings : EndingsByFrame) (begun : List Start) (lives : List Growing) : Type 0 where
+pub record AreGrowing (endings : List FrameEndings) (begun : List Start) (lives : List Growing) : Type 0 where
   pub count : length lives ≡ length begun
   pub each : (i : ℕ) → i < length begun → IsGrowing endings (slice_index_or begun i no_start) (slice_index_or lives i no_life)
 
@@ -58,15 +58,16 @@ pub record GivesTo (passes : ℕ → Bool) (told : Event) (ending : ℕ) (old ne
   pub taken : (v i : ℕ) → passes v ≡ true → i < length old.lives.items → slice_index_or old.places.items v None ≡ Some i → TakesIn told ending (slice_index_or old.lives.items i no_life) (slice_index_or new.lives.items i no_life)
   pub left : (i : ℕ) → ((v : ℕ) → passes v ≡ true → slice_index_or old.places.items v None ≢ Some i) → slice_index_or new.lives.items i no_life ≡ slice_index_or old.lives.items i no_life
 
--- what these lives have taken in is these events
-pub record AreGrown (told : List Event) (lives : Lives) : Type 0 where
+-- what these lives have taken in is these events, which name frames below `frames`
+pub record AreGrown (frames : ℕ) (told : List Event) (lives : Lives) : Type 0 where
+  pub count : length lives.endings ≡ frames
   pub each : AreGrowing lives.endings (starts told) lives.register.lives.items
   pub places : AreOpen (starts told) lives.register.places.items
 
 -- the lives of any events become those of them and this one
 abbrev pub Notes : Event → Lives → Lives → Type 0
-Notes told old new = (before : List Event) → IsWithinSlots told → HasRoom before → AreGrown before old → AreGrown (before ++ told ∷ []) new
+Notes told old new = (frames : ℕ) (before : List Event) → IsWithin frames told → HasRoom before → AreGrown frames before old → AreGrown frames (before ++ told ∷ []) new
 
 -- and of some events more
 abbrev pub NotesAll : List Event → Lives → Lives → Type 0
-NotesAll more old new = (told : List Event) → All IsWithinSlots more → HasRoom (told ++ more) → AreGrown told old → AreGrown (told ++ more) new
+NotesAll more old new = (frames : ℕ) (told : List Event) → All (IsWithin frames) more → HasRoom (told ++ more) → AreGrown frames told old → AreGrown frames (told ++ more) new

@@ -1,5 +1,5 @@
 //! What is so before the first call, as events.
-ghost use Rattle.std.specs.Prelude.{◌≡◌, ◌<◌, ◌++◌, true, map, IfOk, OnOk};
+ghost use Rattle.std.specs.Prelude.{◌≡◌, ◌<◌, ◌++◌, map, IfOk, OnOk};
 ghost use Rattle.kc_model.specs.Boot.{boot};
 ghost use Rattle.kc_model.specs.State.{slot_at};
 ghost use Rattle.kc_model.specs.Custody.{custody_at, frame_changes_by};
@@ -98,16 +98,12 @@ fn tell_measured(alloc: Global, core: &KCore, told: &mut Vec<Event>) -> Result<(
 
 /// What is so in a core, as events on the header's line that change the boot state of its configuration into it: VMs
 /// are registered, frames come to be as they are, and VMs that are active or dead come to be so, without a measurement.
-/// The frames of a core that is known to be as it was booted are not looked at. `Memory` if memory runs out.
-pub fn events_before(alloc: Global, core: &KCore, is_booted: bool) -> Result<Vec<Event>, Memory>
-    requires { is_booted ≡ true → core.now.state ≡ boot core.now.state.config }
+/// `Memory` if memory runs out.
+pub fn events_before(alloc: Global, core: &KCore) -> Result<Vec<Event>, Memory>
     // No clause can rule out that memory runs out: a test makes them.
     ensures { IfOk result (λ told. told.items ≡ events_before core.now.state) }
 {
     let mut told = Vec::new(alloc);
-    if is_booted {
-        return Ok(told);
-    }
     tell_taken(alloc, core, &mut told)?;
     tell_moved(core, &mut told)?;
     tell_measured(alloc, core, &mut told)?;

@@ -1,8 +1,7 @@
 //! Where the sharing of frames ends.
-ghost use Rattle.std.specs.Prelude.{◌≡◌, ◌≤◌, ◌+◌, [], length, true, OnOk, OnErr, IfOk, slice_get, if◌then◌else◌};
-ghost use Rattle.kc_custody.specs.Endings.{no_endings, endings_of, begins_sharing, NotesChange, NumbersStretch, NotesChanges, NumbersStretches, line_of_ending};
+ghost use Rattle.std.specs.Prelude.{◌≡◌, ◌<◌, length, OnOk, IfOk, slice_get, slice_index_or};
+ghost use Rattle.kc_custody.specs.Endings.{no_endings, AreNone, HasEnding, NotesChange, NumbersStretch, NotesChanges, NumbersStretches, line_of_ending};
 
-use indexmap::IndexMap;
 use kc_types::{FrameChange, Memory};
 use std::alloc::Global;
 use std::marker::Model;
@@ -24,13 +23,13 @@ impl Model for FrameEndings {
 }
 
 impl FrameEndings {
-    /// Starts without any, in the first stretch of sharing. It takes no memory.
-    fn begun(alloc: Global) -> FrameEndings
-        ensures { result ≡ record no_endings { pending = true } }
+    /// Starts with none.
+    fn none(alloc: Global) -> FrameEndings
+        ensures { result ≡ no_endings }
     {
         FrameEndings {
             lines: Vec::new(alloc),
-            pending: true,
+            pending: false,
         }
     }
 
@@ -39,7 +38,6 @@ impl FrameEndings {
     fn note(&mut self, told: &FrameChange) -> Result<usize, Memory>
         ensures noted { OnOk result (NotesChange told.now self.old self.new) }
         ensures number { IfOk result (λ number. NumbersStretch told.now self.new number) }
-        ensures err { OnErr result (self.new ≡ self.old) }
     {
         if told.after.share == 0 {
             if self.pending {
@@ -60,73 +58,52 @@ impl FrameEndings {
     }
 }
 
-/// The endings of each frame whose sharing began. Other frames take neither memory nor time.
+/// The endings of each frame.
 #[derive(Drop)]
 pub(crate) struct Endings {
-    frames: IndexMap<u32, FrameEndings>,
+    frames: Vec<FrameEndings>,
 }
 
 impl Model for Endings {
-    ghost use Rattle.kc_custody.specs.Endings.{EndingsByFrame};
+    ghost use Rattle.std.specs.Prelude.{List};
+    ghost use Rattle.kc_custody.specs.Endings.{FrameEndings as EndingsOfFrame};
 
-    ghost Value = { EndingsByFrame };
+    ghost Value = { List EndingsOfFrame };
 
-    ghost view = { λ e. e.frames.entries };
+    ghost view = { λ e. e.frames.items };
 }
 
 impl Endings {
-    /// Starts with none. It takes no memory.
-    pub(crate) fn none(alloc: Global) -> Endings
-        ensures { result ≡ [] }
+    /// Starts with none of this many frames; `Memory` if memory runs out.
+    pub(crate) fn none(alloc: Global, frames: u32) -> Result<Endings, Memory>
+        ensures { IfOk result (λ endings. AreNone frames endings) }
     {
-        Endings {
-            frames: IndexMap::new(alloc),
+        let mut all = Vec::with_capacity(alloc, frames as usize)?;
+        for _ in 0..frames {
+            all.push(FrameEndings::none(alloc))?;
         }
-    }
-
-    /// Takes in a change of a frame that has no entry; it gets one if its sharing begins.
-    fn note_first(&mut self, alloc: Global, told: &FrameChange) -> Result<usize, Memory>
-        requires { endings_of self.old told.now.frame ≡ no_endings }
-        ensures noted { OnOk result (NotesChanges told.now self.old self.new) }
-        ensures number { IfOk result (λ number. NumbersStretches told.now self.new number) }
-        ensures few { length self.new ≤ length self.old + (if begins_sharing told.now then 1 else 0) }
-        ensures err { OnErr result (self.new ≡ self.old) }
-    {
-        if begins_sharing(told) {
-            self.frames.insert(told.frame, FrameEndings::begun(alloc))?;
-        }
-        Ok(0)
+        Ok(Endings { frames: all })
     }
 
     /// Takes in a change of a frame; returns the number of the ending of a stretch that begins with it. After `Memory`, if
     /// memory runs out, all is as it was.
-    pub(crate) fn note(&mut self, alloc: Global, told: &FrameChange) -> Result<usize, Memory>
+    pub(crate) fn note(&mut self, told: &FrameChange) -> Result<usize, Memory>
         ensures noted { OnOk result (NotesChanges told.now self.old self.new) }
-        ensures number { IfOk result (λ number. NumbersStretches told.now self.new number) }
-        // Only a frame whose sharing begins takes memory.
-        ensures few { length self.new ≤ length self.old + (if begins_sharing told.now then 1 else 0) }
-        ensures err { OnErr result (self.new ≡ self.old) }
+        ensures number { IfOk result (λ number. told.now.frame < length self.old → NumbersStretches told.now self.new number) }
     {
-        match self.frames.get_mut(&told.frame) {
-            Some(frame) => frame.note(told),
-            None => self.note_first(alloc, told),
-        }
+        let Some(frame) = self.frames.get_mut(told.frame as usize) else {
+            return Ok(0);
+        };
+        frame.note(told)
     }
 
     /// The line of an ending of a frame; none if it is still to come.
     pub(crate) fn line(&self, frame: u32, number: usize) -> Option<u32>
         ensures { result ≡ line_of_ending self.now frame number }
     {
-        match self.frames.get(&frame) {
+        match self.frames.get(frame as usize) {
             Some(frame) => frame.line(number),
             None => None,
         }
     }
-}
-
-/// Whether the frame is shared after the change, and was not before.
-pub(crate) fn begins_sharing(told: &FrameChange) -> bool
-    ensures { result ≡ begins_sharing told.now }
-{
-    told.before.share == 0 && told.after.share > 0
 }

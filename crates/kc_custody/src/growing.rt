@@ -1,5 +1,5 @@
 //! Lives that grow event by event, so that no event is kept.
-ghost use Rattle.std.specs.Prelude.{◌≡◌, [], List, OnOk, IfOk};
+ghost use Rattle.std.specs.Prelude.{◌≡◌, [], ℕ, List, OnOk, IfOk};
 ghost use Rattle.kc_types.specs.declared.custody.Event.{Event as AnEvent};
 ghost use Rattle.kc_types.specs.declared.custody.Event.TheVariants as event;
 ghost use Rattle.kc_types.specs.declared.custody.Change.TheVariants as change;
@@ -19,14 +19,14 @@ pub struct Lives {
 }
 
 impl Lives {
-    /// Starts with no events; `Memory` if memory runs out.
-    pub fn none(alloc: Global) -> Result<Lives, Memory>
+    /// Starts with no events, for a core with this many frames; `Memory` if memory runs out.
+    pub fn none(alloc: Global, frames: u32) -> Result<Lives, Memory>
         // No clause can rule out that memory runs out: examples of the program make some.
-        ensures { IfOk result (λ lives. AreGrown [] lives) }
+        ensures { IfOk result (λ lives. AreGrown frames [] lives) }
     {
         Ok(Lives {
             register: Register::none(alloc)?,
-            endings: Endings::none(alloc),
+            endings: Endings::none(alloc, frames)?,
         })
     }
 
@@ -53,7 +53,7 @@ impl Lives {
             Event::Read { vm } => self.register.note(alloc, vm, Event::Read { vm }, 0),
             Event::Write { vm } => self.register.note(alloc, vm, Event::Write { vm }, 0),
             Event::Change(Change::Frame(change)) => {
-                let ending = self.endings.note(alloc, &change)?;
+                let ending = self.endings.note(&change)?;
                 self.register.note_frame(alloc, &change, ending)
             },
             Event::Change(Change::Phase(change)) => self.note_phase(alloc, change),
@@ -72,7 +72,7 @@ impl Lives {
 
     /// The lives, in the order in which they begin; `Memory` if memory runs out.
     pub fn into_lives(self, alloc: Global) -> Result<Vec<Life>, Memory>
-        ensures { IfOk result (λ told. (events : List AnEvent) → AreGrown events self → told.items ≡ lives events) }
+        ensures { IfOk result (λ told. (frames : ℕ) (events : List AnEvent) → AreGrown frames events self → told.items ≡ lives events) }
     {
         let Lives { register, endings } = self;
         register.into_lives(alloc, &endings)

@@ -5,7 +5,7 @@ ghost use Rattle.kc_model.specs.Lives.{is_owned_by};
 ghost use Rattle.kc_custody.specs.Endings.{begins_sharing};
 ghost use Rattle.kc_custody.specs.Growing.{new_life, first_measurement, gaining, losing, owning, sharing, stretch_from, sharing_of, finished, HasRoomFor, TakesIn};
 
-use crate::endings::{Endings, begins_sharing};
+use crate::endings::Endings;
 use indexmap::IndexSet;
 use kc_remarks::is_owned_by;
 use kc_types::{
@@ -288,4 +288,11 @@ fn with_ends(alloc: Global, shared: Vec<Stretch>, endings: &Endings) -> Result<V
         })?;
     }
     Ok(ended)
+}
+
+/// Whether the frame is shared after the change, and was not before.
+fn begins_sharing(told: &FrameChange) -> bool
+    ensures { result ≡ begins_sharing told.now }
+{
+    told.before.share == 0 && told.after.share > 0
 }

@@ -57,6 +57,12 @@ module _ (p f : ℕ) (a b : List (List ℕ)) (low : p < length a) (sets : b ≡ 
 
 -- flags
 
+pub no_flags : (n k : ℕ) → n < 2 ^ 32 → AreFlags (replicate n []) (replicate k false)
+no_flags n k few = record {
+  few = let l = length-replicate {A = List ℕ} n [] in omega arith;
+  has = λ p f low. get_or-same k false (f * length (replicate n []) + p) ∙ sym (ap (λ (xs : List ℕ). has_member xs f) (get_or-same n [] p));
+}
+
 -- more flags that are false
 more_false : (flags : List Bool) (k i : ℕ) → get_or (flags ++ replicate k false) i false ≡ get_or flags i false
 more_false [] k i = get_or-same k false i

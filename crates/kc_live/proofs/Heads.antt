@@ -77,6 +77,21 @@ header_next number config (Three head) digest is whole = by_flag head.is_host_re
           refl,
         )
 
+-- ---- a machine has no fault
+
+pub no_fault : (c : Configuration) → IsConfiguration c → fault_of c ≡ None
+no_fault c is =
+    let some = is.some_frames in
+    let one = is.some_leaves in
+    rw (
+      ne_eqb c.frames 0 (λ z. absurd (omega (arith, some, z))),
+      le-ltb (most_frames c.version) c.frames is.few_frames,
+      le-ltb c.frames (c.core + c.host) is.within,
+      ne_eqb c.leaves 0 (λ z. absurd (omega (arith, one, z))),
+      le-ltb (most_leaves c.version) c.leaves is.few_leaves,
+      le-ltb digest_limit (length c.approved) is.few_digests,
+    ) refl
+
 -- a machine with the same parts is the same
 pub same_machine : (c : Configuration) (version : Version) (frames core host leaves : ℕ) (approved : List (List ℕ)) → version ≡ c.version → frames ≡ c.frames → core ≡ c.core → host ≡ c.host → leaves ≡ c.leaves → approved ≡ c.approved
     → record { version = version; frames = frames; core = core; host = host; leaves = leaves; approved = approved } ≡ c

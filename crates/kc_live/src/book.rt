@@ -1,7 +1,6 @@
 //! The history of a core, volume by volume, from a configuration's boot state on.
 ghost use Rattle.std.specs.Prelude.{◌≡◌, ◌<◌, ◌≤◌, ◌↔◌, ◌++◌, ◌∷◌, [], length, vec_capacity, IsErr, IfOk, IfErr, OnOk, OnErr};
 ghost use Rattle.kc_types.specs.Limits.{call_limit, digest_limit};
-ghost use Rattle.kc_model.specs.Boot.{boot};
 
 use crate::fault::LiveFault;
 use crate::journal::{Journal, VolumeDigest, header_in, see_digests};
@@ -9,7 +8,7 @@ use crate::ready::Ready;
 use crate::receipt::{Entry, Receipt};
 use kc_core::KCore;
 use kc_trace::{Header, Position};
-use kc_types::Memory;
+use kc_types::{Config, Memory};
 use std::alloc::Global;
 use std::marker::Model;
 
@@ -38,13 +37,13 @@ impl Model for Book {
 impl Book {
     ghost use Rattle.kc_live.specs.Book.{IsDigestOf, IsLegal, IsKept, new_book, next_recording, receipt_of, recorded, volume_in};
 
-    /// Begins the first volume of a history, whose header has a head that says so: with this core, reserved or sparse, in
-    /// the boot state of its configuration, no calls, and room for as many as there can be. `Memory` if memory runs out.
-    pub fn new(alloc: Global, core: KCore) -> Result<Book, Memory>
-        requires { core.state ≡ boot core.state.config }
+    /// Begins the first volume of a history, whose header has a head that says so: with the core in the boot state of its
+    /// configuration, no calls, and room for as many as there can be. `Memory` if memory runs out.
+    pub fn new(alloc: Global, config: Config) -> Result<Book, Memory>
         // No clause can rule out that memory runs out: tests make books.
-        ensures { IfOk result (λ book. book ≡ new_book core.state.config) }
+        ensures { IfOk result (λ book. book ≡ new_book config) }
     {
+        let core = KCore::boot(alloc, config)?;
         see_digests(core.config());
         Ok(Book {
             journal: Journal::of(alloc, core, Some(Position::First))?,

@@ -8,7 +8,6 @@ use crate::book::{Book, History, Volume};
 use crate::fault::LiveFault;
 use crate::journal::VolumeDigest;
 use crate::seat::Seat;
-use kc_core::KCore;
 use kc_types::{CALL_LIMIT, Call, Config, DIGEST_LIMIT, Memory};
 use std::alloc::Global;
 use std::sync::{Mutex, Wait};
@@ -22,25 +21,13 @@ pub struct LiveCore {
 }
 
 impl LiveCore {
-    /// Begins with a reserved core in the boot state of its configuration, and no calls. Its volumes have heads, from the
-    /// first on. `Memory` if memory runs out.
+    /// Begins with the core in the boot state of its configuration, and no calls. Its volumes have heads, from the first on.
+    /// `Memory` if memory runs out.
     // No clause can name what is under the lock: tests call, close and settle.
     pub fn new(alloc: Global, config: Config) -> Result<LiveCore, Memory> {
-        let core = KCore::boot(alloc, config)?;
         Ok(LiveCore {
             alloc,
-            book: Mutex::new(Book::new(alloc, core)?),
-        })
-    }
-
-    /// Begins as `new` does, with a sparse core: its frames have no memory while their bytes are zero. What a call needs to
-    /// write to one is allocated before the lock is taken.
-    // No clause can name what is under the lock: tests call, close and settle.
-    pub fn new_sparse(alloc: Global, config: Config) -> Result<LiveCore, Memory> {
-        let core = KCore::boot_sparse(alloc, config)?;
-        Ok(LiveCore {
-            alloc,
-            book: Mutex::new(Book::new(alloc, core)?),
+            book: Mutex::new(Book::new(alloc, config)?),
         })
     }
 

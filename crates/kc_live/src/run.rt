@@ -17,7 +17,7 @@ use crate::settling::Marks;
 use crate::stop::{LiveCause, LiveStop};
 use crate::threads::{Made, Places, make_calls};
 use kc_core::Gate;
-use kc_types::{CALL_LIMIT, Config, Memory, Version};
+use kc_types::{CALL_LIMIT, Config, Memory};
 use std::alloc::Global;
 use std::sync::Wait;
 use std::thread::Threads;
@@ -44,14 +44,6 @@ fn stopped(cause: LiveCause, history: History, is_settled: bool) -> LiveStop
     }
 }
 
-/// Begins the history of a run, with a sparse core if the machine is of version 3: its frames may be more than memory holds.
-fn begin(alloc: Global, config: Config) -> Result<LiveCore, Memory> {
-    match config.version() {
-        Version::One | Version::Two => LiveCore::new(alloc, config),
-        Version::Three => LiveCore::new_sparse(alloc, config),
-    }
-}
-
 /// Takes all memory that a run needs beside its calls, before it begins: a copy of the configuration, the core, room
 /// to settle its history, and places for the threads of this many programs.
 fn open(
@@ -64,7 +56,7 @@ fn open(
     ensures places { IfOk result (λ r. programs ≤ r.3) }
 {
     let kept = config.copy()?;
-    let core = begin(alloc, config)?;
+    let core = LiveCore::new(alloc, config)?;
     let marks = Marks::with_room(alloc, CALL_LIMIT)?;
     let places = Places::with_room(alloc, programs)?;
     Ok((kept, core, marks, places))

@@ -9,4 +9,4 @@
 mod page;
 mod page_memory;
 
-pub use page::{Page, PageBytes, PageRecord, scrub_all};
+pub use page::{Page, PageBytes, PageRecord, scrub_all, scrub_each};

@@ -190,7 +190,7 @@ pub struct Page {
 }
 
 /// Zeroes the bytes of all pages, and keeps their records.
-fn scrub_each(pages: &mut [Page])
+pub fn scrub_each(pages: &mut [Page])
     ensures { pages.new ≡ map scrubbed_page pages.old }
 {
     for page in pages.iter_mut() {

@@ -11,6 +11,9 @@ use Rattle.kc_parts.specs.Parts.{Held, AreHeldSlots, IsRising, place_of, is_fill
 pub numbers-more : (n : ℕ) → range_with_len 0 (n + 1) ≡ range_with_len 0 n ++ n ∷ []
 numbers-more n = sym (map-id (range_with_len 0 (n + 1))) ∙ map-range_with_len_more (λ f. f) 0 n n (omega arith) ∙ ap (λ fs. fs ++ n ∷ []) (map-id (range_with_len 0 n))
 
+pub pages-more : {X : Type 0} (at : ℕ → X) (n : ℕ) → map at (range_with_len 0 (n + 1)) ≡ map at (range_with_len 0 n) ++ at n ∷ []
+pages-more at n = map-range_with_len_more at 0 n n (omega arith)
+
 -- if all numbers from one on have places, each is at its distance from it
 place-range : (a n k : ℕ) → k < n → place_of (range_with_len a n) (a + k) ≡ k
 place-range a zero k lt = absurd (omega (arith, lt))

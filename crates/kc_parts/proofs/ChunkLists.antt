@@ -90,6 +90,21 @@ page-set (c ∷ d ∷ cs) at w are within =
           rw (second, same) (ap (λ ps. c ++ ps) (page-set (d ∷ cs) (at - 16384) w (later c (d ∷ cs) are) rest) ∙ sym (set-append_right c (all_pages (d ∷ cs)) 16384 at w full past))
     ]
 
+-- a chunk may become any other that is as long
+pub same-long : (cs : List (List Page)) (k : ℕ) (c : List Page) → AreChunks cs → length c ≡ length (get_or cs k []) → AreChunks (set cs k c)
+same-long cs k c are long = record {
+  some = λ j low. subst (λ n. 0 < n) (sym (kept cs k c j long)) (are.some j (omega (arith, low, length-set cs k c)));
+  full = λ j low. kept cs k c j long ∙ are.full j (omega (arith, low, length-set cs k c));
+  small = λ j. subst (λ n. n ≤ 16384) (sym (kept cs k c j long)) (are.small j);
+}
+  where
+    kept : (cs : List (List Page)) (k : ℕ) (c : List Page) (j : ℕ) → length c ≡ length (get_or cs k []) → length (get_or (set cs k c) j []) ≡ length (get_or cs j [])
+    kept [] k c j long = refl
+    kept (d ∷ cs) zero c zero long = long
+    kept (d ∷ cs) zero c (suc j) long = refl
+    kept (d ∷ cs) (suc k) c zero long = refl
+    kept (d ∷ cs) (suc k) c (suc j) long = kept cs k c j long
+
 -- full chunks, and a last one
 pub full-then : (cs : List (List Page)) (c : List Page) → AreFull cs → 0 < length c → length c ≤ 16384 → AreChunks (cs ++ c ∷ [])
 full-then [] c full some small = record {

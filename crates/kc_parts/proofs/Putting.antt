@@ -11,7 +11,7 @@ use Rattle.kc_parts.specs.Cuts.{either}
 use Rattle.kc_parts.specs.Moves.{AreFrames, IsEmptyPlace, IsLaid, only_at}
 use Rattle.kc_parts.proofs.Filled.{cells, cells-append, length-cells, cell-no_place}
 use Rattle.kc_parts.proofs.SlotMoves.{either-none}
-use Rattle.kc_parts.proofs.Placeholders.{placeholders-front}
+use Rattle.kc_parts.proofs.Blanks.{blanks-front}
 
 -- one more place at the end
 cell-last : (ns : List ℕ) (cs : List (Option Page)) (n : ℕ) (c : Option Page) (g : ℕ) → length cs ≡ length ns → ((k : ℕ) → k < length ns → get_or ns k 0 ≢ n)
@@ -111,7 +111,7 @@ front-held {ns = ns} {hs = hs} {ps = ps} {n = n} {b = b} {p = p} last =
       frames = front-frames ns n (rw (← last.numbers) last.held.frames);
       flags = lengths.0;
       pages = lengths.1;
-      placeholders = placeholders-front hs ps b p lengths.2 (rw (← last.filled, ← last.pages) last.held.placeholders);
+      blanks = blanks-front hs ps b p lengths.2 (rw (← last.filled, ← last.pages) last.held.blanks);
     }
 
 pub last-empty : {all_ns ns : List ℕ} {all_hs hs : List Bool} {all_ps ps : List Page} {n : ℕ} {b : Bool} {p : Page} → IsLast all_ns ns all_hs hs all_ps ps n b p → (h : Held)

@@ -16,7 +16,7 @@ use Rattle.kc_parts.specs.Cuts.HeldPart.{page_part, slot_part, ends_part}
 use Rattle.kc_parts.specs.Moves.{AreAmong, AreFramesOf, AreMoved, IsLifted, WithSlots, page_among}
 use Rattle.kc_parts.proofs.Filled.{cells, page_at-cells, cell-by_numbers}
 use Rattle.kc_parts.proofs.Named.{among-at}
-use Rattle.kc_parts.proofs.Placeholders.{placeholders-filled}
+use Rattle.kc_parts.proofs.Blanks.{blanks-filled}
 
 pub not-before : (ns : List ℕ) (i n : ℕ) → i ≤ length ns → ((j : ℕ) → j < i → get_or ns j 0 < n) → is_among (take i ns) n ≡ false
 not-before ns zero n h low = refl
@@ -93,7 +93,7 @@ held-taken wanted ns hs ps start n are filled count pages = record {
   frames = are.frames;
   flags = ap length filled ∙ length-replicate n true ∙ count;
   pages = sym (length-map ps Some) ∙ ap length pages ∙ length-map ns (page_at start);
-  placeholders = rw filled (placeholders-filled n ps);
+  blanks = rw filled (blanks-filled n ps);
 }
 
 -- the same, in the form that the steps leave

@@ -12,7 +12,7 @@ use Rattle.kc_page.specs.declared.page.Page.{Page}
 use Rattle.kc_vms.specs.Vm.{VmSlot}
 use Rattle.kc_parts.specs.Parts.{IsHeld, page_at, vm_at}
 use Rattle.kc_parts.specs.Booting.{parts_of, IsWhole}
-use Rattle.kc_parts.proofs.Placeholders.{placeholders-filled}
+use Rattle.kc_parts.proofs.Blanks.{blanks-filled}
 use Rattle.kc_parts.proofs.Boots.{page-whole, rising-range, cell-at}
 
 pub held-parts : (pages : List Page) → length pages ≤ frame_limit → IsHeld (range_with_len 0 (length pages)) (replicate (length pages) true) pages
@@ -24,7 +24,7 @@ held-parts pages few = record {
   ];
   flags = length-replicate (length pages) true ∙ sym (length-range_with_len 0 (length pages));
   pages = sym (length-range_with_len 0 (length pages));
-  placeholders = placeholders-filled (length pages) pages;
+  blanks = blanks-filled (length pages) pages;
 }
 
 module _ (pages : List Page) (vms : List (Option VmSlot)) (free : Ends) (is_reserved : Bool) where

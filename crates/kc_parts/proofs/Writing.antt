@@ -58,3 +58,7 @@ write-place ns hs ps vms free is_reserved f at b p held is low = record {
         ∙ cell-set ns (cells hs ps) (place_of ns f) g (cond b (Some p) None) held.rising (length-cells hs ps (held.flags ∙ sym held.pages) ∙ held.flags) low
         ∙ ap (λ n. cond (nat_eq g n) (cond b (Some p) None) (cell_in ns (cells hs ps) g)) (place-number ns f low)
         ∙ ap (cond (nat_eq g f) (cond b (Some p) None)) (sym (page_at-cells ns hs ps g held.flags held.pages))
+
+-- the page at a place is that of the frame there
+pub full-page : (h : Held) (i : ℕ) → IsRising h.numbers → i < length h.numbers → IsSome (page_at h (get_or h.numbers i 0)) → slice_get h.pages i ≡ page_at h (get_or h.numbers i 0)
+full-page h i up low here = rw (filled-here h.numbers h.filled h.pages (get_or h.numbers i 0) here, place-found h.numbers i (get_or h.numbers i 0) up low refl) refl

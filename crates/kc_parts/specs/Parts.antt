@@ -19,7 +19,7 @@ pub record HeldSlots : Type 0 where
   pub slots : List (Option VmSlot)
 
 -- `numbers` are the frames that there are places for, ascending; `filled` says which places are filled; `pages` has a
--- page at each place, a placeholder if the place is empty; `is_reserved` says whether each page always has memory for its
+-- page at each place, which is blank if the place is empty; `is_reserved` says whether each page always has memory for its
 -- bytes
 pub record Held : Type 0 where
   pub numbers : List ℕ
@@ -33,15 +33,15 @@ abbrev pub IsRising : List ℕ → Type 0
 IsRising numbers = (i j : ℕ) → i < j → j < length numbers → get_or numbers i 0 < get_or numbers j 0
 
 -- the page at a place that is empty: its record says nothing, and its bytes are zero and have no memory
-abbrev pub placeholder_page : Page
-placeholder_page = record {
+abbrev pub blank_page : Page
+blank_page = record {
   meta = record { owner = Core; share = 0; gfn = None; present = false; prev = None; next = None };
   bytes = record { bytes = zero_page; is_reserved = false };
 }
 
--- each place that is not filled has a placeholder
-abbrev pub ArePlaceholders : List Bool → List Page → Type 0
-ArePlaceholders filled held = (i : ℕ) → get_or filled i true ≡ false → get_or held i placeholder_page ≡ placeholder_page
+-- each place that is not filled has a blank
+abbrev pub AreBlanks : List Bool → List Page → Type 0
+AreBlanks filled held = (i : ℕ) → get_or filled i true ≡ false → get_or held i blank_page ≡ blank_page
 
 -- what holds of the representation
 pub record IsHeld (numbers : List ℕ) (filled : List Bool) (held : List Page) : Type 0 where
@@ -49,7 +49,7 @@ pub record IsHeld (numbers : List ℕ) (filled : List Bool) (held : List Page) :
   pub frames : (i : ℕ) → get_or numbers i 0 < frame_limit
   pub flags : length filled ≡ length numbers
   pub pages : length held ≡ length numbers
-  pub placeholders : ArePlaceholders filled held
+  pub blanks : AreBlanks filled held
 
 -- what holds of the representation of slots
 pub record AreHeldSlots (numbers : List ℕ) (slots : List (Option VmSlot)) : Type 0 where

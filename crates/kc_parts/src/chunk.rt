@@ -79,8 +79,8 @@ fn make(alloc: Global, pages: &mut Vec<Page>, layout: Layout, first: u32, count:
 }
 
 impl Chunk {
-    /// Makes the chunk of this many frames from this one on, as they are at boot; `Memory` if memory runs
-    /// out.
+    /// Makes the chunk of this many frames from this one on, as they are at boot; `Memory` if there is no room for their
+    /// pages.
     pub(crate) fn at_boot(
         alloc: Global,
         layout: Layout,

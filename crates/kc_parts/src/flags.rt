@@ -38,7 +38,7 @@ fn write_all(count: usize, each: &mut Vec<bool>)
 }
 
 impl Flags {
-    /// This many flags, all set; `Memory` if memory runs out.
+    /// This many flags, all set; `Memory` if there is no room for them.
     pub(crate) fn all_set(alloc: Global, count: usize) -> Result<Flags, Memory>
         ensures { IfOk result (λ flags. flags ≡ replicate count true) }
     {

@@ -6,12 +6,13 @@
 //! - numbers and flags that are not in memory as long as no page is taken out: `src/frame_numbers.rt`, `src/flags.rt`
 //! - the pages of VMs whose slots are marked, zeroed: `src/marks.rt`
 //! - how parts are taken out and put back: `specs/Cuts.antt`, `src/parts.rt`
-//! - what is left in the place of a page that is taken out: `specs/Parts.antt`, `placeholder_page`; `src/placeholder.rt`
+//! - what is left in the place of a page that is taken out: `specs/Parts.antt`, `blank_page`; `src/blank.rt`
 //! - when parts are a state's, with its links and ends: `specs/Restricted.antt`
 //! - what calls look up by number: `src/look_ups.rt`
 //! - the lists, linked through the records: `src/lists.rt`; a slot that is emptied: `src/emptying.rt`
 #![tactic(auto)]
 
+mod blank;
 mod boot;
 mod chunk;
 mod emptying;
@@ -26,7 +27,6 @@ mod page_list;
 mod parts;
 mod place;
 mod place_counts;
-mod placeholder;
 mod slots;
 mod wanted;
 

@@ -59,7 +59,7 @@ fn scrub_marked_chunks(chunks: &mut [Chunk], marks: &Marks)
 }
 
 impl PageList {
-    /// Makes the pages of all frames at boot, reserved or sparse. `Memory` if memory runs out.
+    /// Makes the pages of all frames at boot, reserved or sparse. `Memory` if there is no room for them.
     pub(crate) fn at_boot(
         alloc: Global,
         config: &Config,

@@ -9,13 +9,13 @@ ghost use Rattle.kc_parts.specs.Chunks.{page_of, page_read};
 ghost use Rattle.kc_parts.specs.Marks.{scrubbed_if_marked};
 
 use crate::PlaceCounts;
+use crate::blank::blank_pages;
 use crate::boot::{boot_ends, boot_vms};
 use crate::chunk::PageRef;
 use crate::flags::Flags;
 use crate::frame_numbers::FrameNumbers;
 use crate::marks::Marks;
 use crate::page_list::PageList;
-use crate::placeholder::placeholder_pages;
 use crate::slots::VmSlots;
 use crate::wanted::{wanted_frames, wanted_slots, wants_free};
 use kc_page::Page;
@@ -27,9 +27,9 @@ use std::mem::swap;
 use std::thread::Threads;
 
 /// A store of pages, VM slots and the ends of the free list. Each page and each slot has a place of its own, in the
-/// order of the numbers. The place stays when the page or slot is taken out, with a placeholder in it, so that putting it
-/// back takes no memory. Parts are reserved or sparse: each page of reserved parts always has memory for its bytes, and
-/// placeholders have none.
+/// order of the numbers. The place stays when the page or slot is taken out, with a blank page in it, so that putting
+/// it back takes no memory. Parts are reserved or sparse: each page of reserved parts always has memory for its bytes, and
+/// blanks have none.
 #[derive(Drop)]
 pub struct Parts {
     numbers: FrameNumbers,
@@ -57,7 +57,7 @@ impl Model for Parts {
 
 impl Parts {
     ghost use Rattle.kc_types.specs.Configuration.{IsConfiguration};
-    ghost use Rattle.kc_parts.specs.Parts.{IsHeld, placeholder_page, place_in, page_at, held_slot, vm_at};
+    ghost use Rattle.kc_parts.specs.Parts.{IsHeld, blank_page, place_in, page_at, held_slot, vm_at};
     ghost use Rattle.kc_parts.specs.Booting.{IsBooted, parts_of};
     ghost use Rattle.kc_parts.specs.Lending.{LendsPage, LendsPageHere, LendsVm, LendsVmHere, LendsFree};
     ghost use Rattle.kc_model.specs.Resources.{is_wanted};
@@ -275,7 +275,7 @@ impl Parts {
         let filled = Flags::all_set(alloc, numbers.len())?;
         let slots = wanted_slots(alloc, wanted)?;
         let mut vms = VmSlots::places(alloc, slots)?;
-        let mut pages = PageList::of(alloc, placeholder_pages(alloc, numbers.len())?)?;
+        let mut pages = PageList::of(alloc, blank_pages(alloc, numbers.len())?)?;
         self.lift_slots(&mut vms);
         let free = self.lift_free(wants_free(wanted));
         self.lift_pages(numbers.as_slice(), &mut pages);
@@ -329,10 +329,10 @@ impl Parts {
         if asked { self.free.take() } else { None }
     }
 
-    /// Takes the pages of these frames, which are here, in exchange for as many placeholders.
+    /// Takes the pages of these frames, which are here, in exchange for as many blanks.
     fn lift_pages(&mut self, numbers: &[u32], pages: &mut PageList)
         requires rising { IsRising numbers.now }
-        requires placeholder { pages.old ≡ replicate (length numbers.now) placeholder_page }
+        requires blank { pages.old ≡ replicate (length numbers.now) blank_page }
         requires here { (i : ℕ) → i < length numbers.now → IsSome (page_at self.old (get_or numbers.now i 0)) }
         ensures taken { map Some pages.new ≡ map (page_at self.old) numbers.now }
         ensures rest { IsLifted numbers.now self.old self.new }
@@ -342,10 +342,10 @@ impl Parts {
         }
     }
 
-    /// Takes the page of a frame, which is here, in exchange for a placeholder.
+    /// Takes the page of a frame, which is here, in exchange for a blank.
     fn lift_page(&mut self, number: u32, page: &mut Page)
         requires here { IsSome (page_at self.old number) }
-        requires placeholder { page.old ≡ placeholder_page }
+        requires blank { page.old ≡ blank_page }
         ensures taken { Some page.new ≡ page_at self.old number }
         ensures rest { IsWrite number None self.old self.new }
     {
@@ -368,7 +368,7 @@ impl Parts {
         }
     }
 
-    /// Lays a page into its place, which is empty, if `filled`; otherwise the page is a placeholder.
+    /// Lays a page into its place, which is empty, if `filled`; otherwise the page is a blank.
     fn lay_back(&mut self, number: u32, filled: bool, page: Page)
         requires { filled ≡ true → IsEmptyPlace self.old number }
         ensures { IsLaid (only_at number (cond filled (Some page) None)) self.old self.new }

@@ -5,7 +5,7 @@ ghost use Rattle.kc_picture.specs.Cells.{IsOf, IsTrueToShare};
 use crate::colour::{CORE, Colour, EDGE, FREE, HOST, SEVERAL};
 use crate::coordinate::{Coordinate, Points};
 use crate::put;
-use crate::rows::{first_of_row, frame_at, row_of};
+use crate::rows::{first_of_row, row_of};
 use crate::scale::{END, NAMES, PLOT, START, lines_of_column, nice};
 use crate::sums::{FIRST_VM, MOST_COLUMNS, Sums, at, owners_of, sums_of, weigh};
 use crate::svg::{Area, Paint, REMARK, Svg};
@@ -168,12 +168,9 @@ fn cells_of(alloc: Global, sums: &Sums, size: u64) -> Result<Vec<Cell>, Memory> 
 #[derive(Clone, Copy)]
 struct Row {
     grid: Grid,
-    /// The place of its first frame, and that of the next row's.
+    /// Its first frame, and that of the next row.
     first: u64,
     next: u64,
-    /// The numbers of its first frame and of its last.
-    first_frame: u64,
-    last_frame: u64,
     top: Coordinate,
     /// Whether the cells show one VM alone.
     alone: bool,
@@ -191,8 +188,8 @@ impl Row {
     fn block(&self, from: u64, to: u64) -> Block {
         let (lines, columns) = (self.grid.lines, self.grid.columns.max(1));
         Block {
-            first_frame: self.first_frame,
-            last_frame: self.last_frame,
+            first_frame: self.first,
+            last_frame: self.next.saturating_sub(1),
             first_line: (from.saturating_mul(lines) / columns).saturating_add(1),
             last_line: to.saturating_mul(lines).div_ceil(columns),
         }
@@ -284,19 +281,13 @@ fn has_edge(left: Whose, right: Whose) -> bool {
 }
 
 /// Writes the numbers of some frames beside their rows.
-fn name_rows(svg: &mut Svg, top: Coordinate, grid: &Grid, frames: &[u32]) {
+fn name_rows(svg: &mut Svg, top: Coordinate, grid: &Grid) {
     let step = nice(grid.frames, 8);
     for i in 0..9u64 {
-        let place = step.saturating_mul(i);
-        if place < grid.frames {
-            let above = row_of(place, grid.rows, grid.frames).saturating_mul(grid.height);
-            svg.numbered(
-                NAMES,
-                top + above + 800,
-                REMARK,
-                "",
-                frame_at(frames, place),
-            );
+        let frame = step.saturating_mul(i);
+        if frame < grid.frames {
+            let above = row_of(frame, grid.rows, grid.frames).saturating_mul(grid.height);
+            svg.numbered(NAMES, top + above + 800, REMARK, "", frame);
         }
     }
 }
@@ -320,30 +311,25 @@ pub fn explain_cells(svg: &mut Svg, base: Coordinate, grid: &Grid, vm: Option<u3
     svg.end_words();
 }
 
-/// Draws the cells of these frames from a height on, by the numbers of the bars in each row; if `alone`, those of what one
-/// VM had. `Memory` if memory runs out.
+/// Draws the cells of all frames from a height on, by the numbers of the bars in each row; if `alone`, those of what one VM
+/// had. `Memory` if there was none for a row.
 pub fn draw_cells(
     svg: &mut Svg,
     grid: &Grid,
     top: Coordinate,
     bars: &[Bar],
-    frames: &[u32],
     by_row: &[Vec<usize>],
     alone: bool,
 ) -> Result<(), Memory> {
-    name_rows(svg, top, grid, frames);
+    name_rows(svg, top, grid);
     svg.begin_lines(grid.height);
     let owners = owners_of(bars);
     for (i, list) in by_row.iter().enumerate() {
         let number = i as u64;
-        let first = first_of_row(number, grid.rows, grid.frames);
-        let next = first_of_row(number.saturating_add(1), grid.rows, grid.frames);
         let row = Row {
             grid: *grid,
-            first,
-            next,
-            first_frame: frame_at(frames, first),
-            last_frame: frame_at(frames, next.saturating_sub(1)),
+            first: first_of_row(number, grid.rows, grid.frames),
+            next: first_of_row(number.saturating_add(1), grid.rows, grid.frames),
             top: top + number.saturating_mul(grid.height),
             alone,
         };

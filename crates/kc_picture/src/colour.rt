@@ -8,9 +8,8 @@ use std::fmt;
 #[derive(Clone, Copy, PartialEq, Eq)]
 pub struct Colour(u32);
 
-/// One for each slot up to 63, and again for those after. Of the first eight, in this order, neighbours differ in
-/// lightness too, and the second eight are these, darker. Each of the others is as far as it can be from all before it
-/// and from the colours below, by CIELAB's distance.
+/// One for each slot up to 63, and again for those after. Of the first eight, in this order, neighbours differ in lightness too, and the second eight are these,
+/// darker. Each of the others is as far as it can be from all before it and from the colours below, by CIELAB's distance.
 const HUES: [u32; 64] = [
     0x0072b2, 0xe69f00, 0x009e73, 0xcc79a7, 0x56b4e9, 0xd55e00, 0xf0e442, 0x882255, 0x00446a,
     0x8a5f00, 0x005e45, 0x7a4864, 0x336c8b, 0x7f3800, 0x908827, 0x511433, 0x0000ff, 0xff00dd,

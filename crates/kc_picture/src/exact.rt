@@ -1,8 +1,7 @@
-//! Frames by their numbers, a bar a stretch.
+//! Every frame by its number, a bar a stretch.
 use crate::colour::{Colour, FAINT, FREE, INK, LIFE};
 use crate::coordinate::{Coordinate, Points};
 use crate::put;
-use crate::rows::frame_at;
 use crate::scale::{NAMES, Scale};
 use crate::svg::{Anchor, Area, PLAIN, Paint, REMARK, Svg};
 use crate::titles::bar_title;
@@ -181,17 +180,11 @@ impl Strip {
     }
 }
 
-/// Draws these frames, each by its bars: the first in this strip, the others below it.
-pub(crate) fn draw_bars(
-    svg: &mut Svg,
-    first: Strip,
-    bars: &[Bar],
-    frames: &[u32],
-    by_frame: &[Vec<usize>],
-) {
+/// Draws all frames, each by its bars: the first in this strip, the others below it.
+pub(crate) fn draw_bars(svg: &mut Svg, first: Strip, bars: &[Bar], by_frame: &[Vec<usize>]) {
     let mut strip = first;
-    for (place, row) in by_frame.iter().enumerate() {
-        strip.name(svg, frame_at(frames, place as u64));
+    for (frame, row) in by_frame.iter().enumerate() {
+        strip.name(svg, frame as u64);
         strip.draw_bars(svg, bars, row);
         strip.top = strip.top + strip.height;
     }

@@ -14,8 +14,8 @@
 //! - how the rest is drawn, which no definition says: lives in lanes: `src/stay_drawing.rt`; words beside marks:
 //!   `src/labels.rt`; title and axis: `src/sheet.rt`; legend: `src/legend.rt`; marks of calls: `src/shapes.rt`
 //!
-//! The picture of all frames, or of a machine of version 3 of each that changes:
-//! - which bars it has: `kc_model/specs/Bars.antt`, `specs/Frames.antt`, `src/stretches.rt`
+//! The picture of all frames:
+//! - which bars it has: `kc_model/specs/Bars.antt`, `src/stretches.rt`
 //! - what the titles of bars and cells say, and whose a cell is: `specs/Titles.antt`, `specs/Cells.antt`, `src/titles.rt`,
 //!   `src/cells.rt`
 //! - how frames are drawn, which no definition says: by bars: `src/exact.rt`; by cells: `src/cells.rt` over `src/sums.rt`;

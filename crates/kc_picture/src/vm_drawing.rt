@@ -10,7 +10,7 @@ use crate::legend::Shown;
 use crate::mark_drawing::{Plot, draw_marks};
 use crate::marks::Mark;
 use crate::put;
-use crate::rows::{bars_by_row, frames_in_rows};
+use crate::rows::bars_by_row;
 use crate::scale::NAMES;
 use crate::sheet::Sheet;
 use crate::svg::{HEADING, MARGIN, REMARK, Svg};
@@ -100,12 +100,12 @@ pub fn picture_of_vm(
 ) -> Result<Vec<u8>, Memory>
     ensures { IfOk result (λ text. HasFoot heading.now text.items) }
 {
+    let frames = u64::from(config.frames());
     keep_bars_of(&mut bars, vm);
-    let frames = frames_in_rows(alloc, config, &bars)?;
     let rows = rows_of(alloc, &bars)?;
     // Whether each frame has a row of its own.
     let exact = rows.len() <= MOST_ROWS && bars.len() <= MOST_BARS;
-    let grid = grid_of(frames.len() as u64, (calls as u64).saturating_add(1));
+    let grid = grid_of(frames, (calls as u64).saturating_add(1));
     let (count, height) = if exact {
         (rows.len() as u64, row_height(rows.len() as u64))
     } else {
@@ -125,24 +125,16 @@ pub fn picture_of_vm(
         first: strip(above, height),
         bottom: sheet.frames + above + all,
     };
-    let mut svg = sheet.open(alloc, u64::from(config.frames()))?;
+    let mut svg = sheet.open(alloc, frames)?;
     head_rows(&mut svg, &plot, exact);
     let shown = if exact {
         draw_rows(&mut svg, &plot, &rows, &bars)?;
         draw_marks(&mut svg, &plot, &rows, marks)?;
         Shown::Rows
     } else {
-        let by_row = bars_by_row(alloc, &bars, grid.rows, &frames)?;
+        let by_row = bars_by_row(alloc, &bars, grid.rows, frames)?;
         explain_cells(&mut svg, head_of(&plot), &grid, Some(vm));
-        draw_cells(
-            &mut svg,
-            &grid,
-            plot.first.top,
-            &bars,
-            &frames,
-            &by_row,
-            true,
-        )?;
+        draw_cells(&mut svg, &grid, plot.first.top, &bars, &by_row, true)?;
         draw_marks(&mut svg, &plot, &IndexSet::new(alloc), marks)?;
         Shown::Cells
     };

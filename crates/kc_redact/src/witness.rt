@@ -3,11 +3,12 @@ ghost use Rattle.std.specs.Prelude.{◌≡◌, ◌≤◌, ◌+◌, ◌++◌, ◌
 ghost use Rattle.sha2.specs.Sha256.{sha256};
 ghost use Rattle.kc_types.specs.declared.call.Call.{Call};
 ghost use Rattle.kc_trace.specs.declared.header.Header.{Header};
-ghost use Rattle.kc_trace.specs.Header.{trace_header, longest_header};
+ghost use Rattle.kc_trace.specs.Header.{trace_header};
+ghost use Rattle.kc_trace.specs.Spelling.{longest_call};
 ghost use Rattle.kc_redact.specs.Witness.{witness_header, witnessed, HasSeen};
 
 use crate::redacting::push_redacted;
-use kc_trace::{Header, LONGEST_HEADER, push_header};
+use kc_trace::{Header, LONGEST_CALL, push_header};
 use kc_types::{Call, Memory};
 use sha2::{Digest, Sha256};
 use std::alloc::Global;
@@ -15,7 +16,7 @@ use std::marker::Model;
 
 /// Appends the header that a trace with this header is witnessed under, for which there is room.
 fn push_witness_header(text: &mut Vec<u8>, header: &Header)
-    requires { vec_len text.old + longest_header ≤ vec_capacity text.old }
+    requires { vec_len text.old + longest_call ≤ vec_capacity text.old }
     ensures line { text.new.items ≡ text.old.items ++ trace_header (witness_header header.now) }
     ensures capacity { vec_capacity text.old ≤ vec_capacity text.new }
 {
@@ -31,20 +32,20 @@ fn push_witness_header(text: &mut Vec<u8>, header: &Header)
 #[derive(Drop)]
 pub struct Witness {
     hasher: Sha256,
-    /// Room for the longest header, and for the longest line.
+    /// Room for the longest line.
     line: Vec<u8>,
 }
 
 impl Model for Witness {
     ghost use Rattle.std.specs.Prelude.{◌≤◌, vec_capacity};
     ghost use Rattle.sha2.specs.declared.Sha256.{Sha256};
-    ghost use Rattle.kc_trace.specs.Header.{longest_header};
+    ghost use Rattle.kc_trace.specs.Spelling.{longest_call};
 
     ghost Value = { Sha256 };
 
     ghost view = { λ w. w.hasher };
 
-    ghost invariant = { λ w. longest_header ≤ vec_capacity w.line };
+    ghost invariant = { λ w. longest_call ≤ vec_capacity w.line };
 }
 
 impl Witness {
@@ -55,7 +56,7 @@ impl Witness {
     {
         let mut witness = Witness {
             hasher: Sha256::new(),
-            line: Vec::with_capacity(alloc, LONGEST_HEADER)?,
+            line: Vec::with_capacity(alloc, LONGEST_CALL)?,
         };
         witness.restart(header);
         Ok(witness)

@@ -17,7 +17,7 @@ use crate::heads::{read_first_head, read_next_head};
 use kc_faults::TextFault;
 use kc_texts::{Failed, Sink, Source, read_secret, write_whole};
 use kc_trace::{
-    Head, Header, HeaderFault, LONGEST_HEADER, TraceFault, push_header, read_header, read_trace,
+    Head, Header, HeaderFault, LONGEST_CALL, TraceFault, push_header, read_header, read_trace,
 };
 use std::alloc::Global;
 
@@ -90,7 +90,7 @@ fn give_under<K: Sink>(
         (out.new ≡ out.old) result }
     ensures fault { IfErr result (λ fault. (fault ≡ TextFault.Memory) ⊎ (fault ≡ TextFault.Write)) }
 {
-    let Ok(mut front) = Vec::with_capacity(alloc, LONGEST_HEADER) else {
+    let Ok(mut front) = Vec::with_capacity(alloc, LONGEST_CALL) else {
         return Err(TextFault::Memory);
     };
     push_header(&mut front, &Header::Three(head));

@@ -1,8 +1,8 @@
 //! Reading a trace, redacting it and writing it.
-ghost use Rattle.std.specs.Prelude.{◌≡◌, ◌≤◌, ◌⊎◌, ◌∷◌, ◌++◌, [], false, is_err, vec_capacity, IfErr, IfSome, OnOk, OnErr, Err};
+ghost use Rattle.std.specs.Prelude.{◌≡◌, ◌⊎◌, ◌∷◌, [], false, IfErr, IfSome, OnOk, Err};
 ghost use Rattle.std.specs.Io.KnownBytes.{Appends, IsAtEnd};
 ghost use Rattle.kc_trace.specs.declared.fault.TraceFault.{TraceFault};
-ghost use Rattle.kc_trace.specs.Spelling.{lines_of, longest_call, text_of};
+ghost use Rattle.kc_trace.specs.Spelling.{text_of};
 ghost use Rattle.kc_trace.specs.Trace.{IsRefused};
 ghost use Rattle.kc_texts.specs.Written.{AppendsBeginning};
 ghost use Rattle.kc_texts.specs.Ends.{seen};
@@ -12,32 +12,13 @@ ghost use Rattle.kc_redact_text.specs.Redacts.{Redacts, BeginsRedaction, IsRedac
 use crate::calls::RedactedCall;
 use crate::reading::read_redacted;
 use kc_faults::TextFault;
-use kc_texts::{Failed, Sink, Source, give_lines, write_whole};
-use kc_trace::{Header, LONGEST_HEADER, push_header};
+use kc_texts::{Sink, Source, give_lines};
+use kc_trace::{Header, push_header};
 use std::alloc::Global;
 
 /// How many bytes are written at once: no more than a processor's nearest cache holds, since most are zeros that were
 /// put there just before.
 const PIECE: usize = 32_768;
-
-/// Gives a header to a sink, and then the lines of calls, in pieces as large as the empty buffer has room for: memory does
-/// not grow. After an `Err` the sink has taken a beginning of them.
-fn give_calls<K: Sink>(
-    out: &mut K,
-    header: &[u8],
-    piece: Vec<u8>,
-    calls: Vec<RedactedCall>,
-) -> Result<(), Failed>
-    requires out { K.failed out.old ≡ false }
-    requires empty { piece.items ≡ [] }
-    requires room { longest_call ≤ vec_capacity piece }
-    ensures ok { OnOk result (Appends (K.taken out.old) (K.taken out.new) (header.now ++ lines_of calls.items)) }
-    ensures begun { OnErr result (AppendsBeginning (K.taken out.old) (K.taken out.new) (header.now ++ lines_of calls.items)) }
-    ensures mark { K.failed out.new ≡ is_err result }
-{
-    write_whole(out, header)?;
-    give_lines(out, piece, calls)
-}
 
 /// Writes the header of a trace and its calls. All memory that this needs is taken before the first byte is written.
 pub(crate) fn give_redacted<K: Sink>(
@@ -53,14 +34,11 @@ pub(crate) fn give_redacted<K: Sink>(
         (out.new ≡ out.old) result }
     ensures fault { IfErr result (λ fault. (fault ≡ TextFault.Memory) ⊎ (fault ≡ TextFault.Write)) }
 {
-    let Ok(mut front) = Vec::with_capacity(alloc, LONGEST_HEADER) else {
+    let Ok(mut piece) = Vec::with_capacity(alloc, PIECE) else {
         return Err(TextFault::Memory);
     };
-    let Ok(piece) = Vec::with_capacity(alloc, PIECE) else {
-        return Err(TextFault::Memory);
-    };
-    push_header(&mut front, header);
-    match give_calls(out, &front, piece, calls) {
+    push_header(&mut piece, header);
+    match give_lines(out, piece, calls) {
         Ok(()) => Ok(()),
         Err(_) => Err(TextFault::Write),
     }

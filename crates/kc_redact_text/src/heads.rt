@@ -18,7 +18,7 @@ use crate::reading::read_redacted;
 use kc_cli::read_configuration;
 use kc_faults::TextFault;
 use kc_texts::{Line, Source};
-use kc_trace::{Head, Header, HeaderFault, LONGEST_HEADER, Position, TraceFault, push_header};
+use kc_trace::{Head, Header, HeaderFault, LONGEST_CALL, Position, TraceFault, push_header};
 use kc_types::Memory;
 use sha2::{Digest, Sha256};
 use std::alloc::Global;
@@ -73,7 +73,7 @@ fn digest_of(alloc: Global, header: &Header, calls: &[RedactedCall]) -> Result<[
     // No clause can rule out that memory runs out: tests ask for digests.
     ensures { IfOk result (λ digest. digest ≡ sha256 (text_of header.now calls.now)) }
 {
-    let mut line = Vec::with_capacity(alloc, LONGEST_HEADER)?;
+    let mut line = Vec::with_capacity(alloc, LONGEST_CALL)?;
     push_header(&mut line, header);
     let mut hasher = Sha256::new();
     hasher.update(line.as_slice());

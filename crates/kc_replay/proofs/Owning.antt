@@ -87,6 +87,12 @@ of_slot n owner.Host v low = refl
 of_slot n owner.Free v low = differs v n low
 of_slot n (owner.Vm w) v low = at_below n w v ∙ low_too n w v low
 
+of_free : (n : ℕ) (o : Owner) → is_at (principal_of n o) n ≡ same_owner o owner.Free
+of_free n owner.Core = refl
+of_free n owner.Host = refl
+of_free n owner.Free = eq-eqb n n refl
+of_free n (owner.Vm w) = not_past n (Some w)
+
 -- a frame that is not the core's exists
 asked : (m : State) → IsLawful m → (o : Owner) → same_owner owner.Core o ≡ false → (f : ℕ) → (nat_lt f m.config.frames && same_owner (frame_at m f).owner o) ≡ same_owner (frame_at m f).owner o
 asked m lawful o differs f = by (same_owner (frame_at m f).owner o) refl
@@ -96,6 +102,16 @@ asked m lawful o differs f = by (same_owner (frame_at m f).owner o) refl
         let low : f < m.config.frames = rw lawful.frames at (exists m f (λ core. let no : same_owner (frame_at m f).owner o ≡ false = ap (λ x. same_owner x o) core ∙ differs in cc)) in
         let is : nat_lt f m.config.frames ≡ true = grind (arith, nat_tests) in rw is refl
     by false e = and-false (nat_lt f m.config.frames)
+
+pub all_owned : (m : State) (n : ℕ) (pairs : List (ℕ × ℕ)) → IsLawful m → n ≡ m.config.frames → IsOwnedBelow m n pairs → IsOwned m pairs
+all_owned m n pairs lawful all so_far = record {
+  by_slot = λ v f low.
+      let h : has_pair pairs v f ≡ (nat_lt f m.config.frames && is_at (principal_of (slot_count m.config) (frame_at m f).owner) v) = rw all at (so_far.has v f) in
+      h ∙ (ap (λ (x : Bool). nat_lt f m.config.frames && x) (of_slot (slot_count m.config) (frame_at m f).owner v low) ∙ asked m lawful (owner.Vm v) refl f);
+  by_free = λ f.
+      let h : has_pair pairs (slot_count m.config) f ≡ (nat_lt f m.config.frames && is_at (principal_of (slot_count m.config) (frame_at m f).owner) (slot_count m.config)) = rw all at (so_far.has (slot_count m.config) f) in
+      h ∙ (ap (λ (x : Bool). nat_lt f m.config.frames && x) (of_free (slot_count m.config) (frame_at m f).owner) ∙ asked m lawful owner.Free refl f);
+}
 
 same_at : (o : Option ℕ) (p q : ℕ) → is_at o p ≡ true → is_at o q ≡ true → p ≡ q
 same_at None p q h g = cc

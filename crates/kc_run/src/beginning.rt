@@ -8,7 +8,7 @@ use crate::files::{Files, Unopened};
 use kc_cli::DEFAULT_CONFIG;
 use kc_faults::TextFault;
 use kc_texts::{Failed, Headed, Source};
-use kc_trace::{Header, LONGEST_HEADER, push_header};
+use kc_trace::{Header, LONGEST_CALL, push_header};
 use std::alloc::Global;
 
 /// What is left of a text in memory, of which no read fails.
@@ -60,7 +60,7 @@ pub(crate) fn header_text<T: Headed>(
     let Some(head) = input.head(alloc)? else {
         return Ok(None);
     };
-    let Ok(mut text) = Vec::with_capacity(alloc, LONGEST_HEADER) else {
+    let Ok(mut text) = Vec::with_capacity(alloc, LONGEST_CALL) else {
         return Err(TextFault::Memory);
     };
     push_header(&mut text, &Header::Three(head));

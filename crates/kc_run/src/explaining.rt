@@ -350,9 +350,7 @@ impl<'a> Reading<'a> {
                 );
             },
             ConfigTextFault::Config(ConfigFault::TooManyDigests) => {
-                let _ = eprintln!(rt;
-                    "  {config}: approved has at most 64 entries, with version 3 at most 4096"
-                );
+                let _ = eprintln!(rt; "  {config}: approved has at most 64 entries");
             },
             ConfigTextFault::NotJson => {
                 let look = look_of(config.noted().head(), Header::None);

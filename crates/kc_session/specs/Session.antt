@@ -2,12 +2,14 @@
 use Rattle.std.specs.Prelude.{◌≡◌, ◌≢◌, ℕ, ◌+◌, List, [], ◌∷◌, ◌++◌, Option, Some, None, IfSome, length, map}
 use Rattle.kc_types.specs.Limits.{call_limit}
 use Rattle.kc_types.specs.Actors.{actor}
+use Rattle.kc_types.specs.Configuration.{Configuration}
 use Rattle.kc_types.specs.declared.call.Call.{Call}
 use Rattle.kc_types.specs.declared.call.Actor.{Actor}
 use Rattle.kc_types.specs.declared.custody.FrameChange.{FrameChange}
 use Rattle.kc_trace.specs.declared.header.Header.{Header}
 use Rattle.kc_trace.specs.declared.header.Position.{Position}
 use Rattle.kc_model.specs.State.{State}
+use Rattle.kc_model.specs.Boot.{boot}
 use Rattle.kc_model.specs.Next.{next}
 use Rattle.kc_model.specs.Custody.{frame_changes_by, first_line}
 use Rattle.kc_model.specs.Volumes.{IsCoreState}
@@ -39,6 +41,9 @@ kept_of r changes = record { header = r.header; log = r.log; changes = changes }
 -- a session whose core is in this state, and that was asked nothing yet: its trace has a head with this position, or none
 abbrev pub begun : Option Position → State → Kept
 begun position m = kept_of (new_recording position m) []
+
+abbrev pub new_session : Option Position → Configuration → Kept
+new_session position config = begun position (boot config)
 
 -- the session goes on from the state that the text spells, and was asked nothing yet: it fills the volume that the text says, or one without a head
 abbrev pub GoesOnFrom : Kept → List ℕ → Type 0

@@ -12,7 +12,7 @@ ghost use Rattle.kc_model.specs.Ranged.{IsRanged};
 ghost use Rattle.kc_live.specs.Book.{IsServed, MayRecord, calls_of, header_at, reply_to};
 ghost use Rattle.kc_redact.specs.Redacted.{IsRedaction};
 ghost use Rattle.kc_state_text.specs.Refused.{IsRefusedPlaced};
-ghost use Rattle.kc_session.specs.Session.{begun, turned, onward_of, with_call, GoesOnFrom, IsOf, IsAnothers, IsAnswer, IsUnmade, IsUnanswered, trace_lines, redacted_lines, lines_in, line_in};
+ghost use Rattle.kc_session.specs.Session.{new_session, begun, turned, onward_of, with_call, GoesOnFrom, IsOf, IsAnothers, IsAnswer, IsUnmade, IsUnanswered, trace_lines, redacted_lines, lines_in, line_in};
 
 use kc_core::KCore;
 use kc_custody::{note_marks, tell_marks};
@@ -20,10 +20,9 @@ use kc_live::{Entry, Journal, Ready};
 use kc_redact::push_redacted;
 use kc_state_text::{StateFault, read_state_alone};
 use kc_trace::{
-    LONGEST_CALL, LONGEST_HEADER, LONGEST_REPLY, Position, call_of_line, push_call, push_header,
-    push_reply,
+    LONGEST_CALL, LONGEST_REPLY, Position, call_of_line, push_call, push_header, push_reply,
 };
-use kc_types::{Actor, CALL_LIMIT, Call, FrameChange, Memory, Reply, actor_of};
+use kc_types::{Actor, CALL_LIMIT, Call, Config, FrameChange, Memory, Reply, actor_of};
 use std::alloc::{AllocError, Global};
 use std::marker::Model;
 
@@ -123,12 +122,10 @@ impl Model for Session {
 }
 
 impl Session {
-    /// Opens a session with a core, reserved or sparse, as it is; its first volume has no calls, and a head with this
-    /// position or none. `Memory` if memory runs out.
-    pub fn new(alloc: Global, core: KCore, position: Option<Position>) -> Result<Session, Memory>
+    /// Begins with a core that was asked nothing yet, and with this position of the first volume, or none.
+    fn of(alloc: Global, core: KCore, position: Option<Position>) -> Result<Session, Memory>
         requires lawful { IsLawful core.state }
         requires header { MayRecord (header_at core.state.config position) }
-        // No clause can rule out that memory runs out: tests open sessions.
         ensures { IfOk result (λ session. session ≡ begun position core.state) }
     {
         Ok(Session {
@@ -139,9 +136,19 @@ impl Session {
         })
     }
 
-    /// Opens a session with a sparse core in the state that a text of up to 1,073,741,824 bytes describes, asked nothing
-    /// yet; else gives the text's first fault, or `Memory`, which may come whatever the text is. If the text says which
-    /// volume goes on from the state, the session's trace has a head that says so.
+    /// Opens a session with the core in the boot state of its configuration, asked nothing yet; its first volume has a head
+    /// with this position, or none. `Memory` if memory runs out.
+    pub fn new(alloc: Global, config: Config, position: Option<Position>) -> Result<Session, Memory>
+        requires { MayRecord (header_at config position) }
+        // No clause can rule out that memory runs out: tests open sessions.
+        ensures { IfOk result (λ session. session ≡ new_session position config) }
+    {
+        Session::of(alloc, KCore::boot(alloc, config)?, position)
+    }
+
+    /// Opens a session with the core in the state that a text of up to 1,073,741,824 bytes describes, asked nothing yet; else
+    /// gives the text's first fault, or `Memory`, which may come whatever the text is. If the text says which volume goes on
+    /// from the state, the session's trace has a head that says so.
     pub fn resume(alloc: Global, text: &[u8]) -> Result<Session, StateFault>
         requires { length text.now ≤ byte_limit }
         // What is read is the state's one text.
@@ -151,7 +158,7 @@ impl Session {
         let read = read_state_alone(alloc, text)?;
         let core = read.core;
         let position = read.position;
-        match Session::new(alloc, core, position) {
+        match Session::of(alloc, core, position) {
             Ok(session) => Ok(session),
             Err(_) => Err(StateFault::Memory),
         }
@@ -277,17 +284,16 @@ impl Session {
     pub fn line(&self, form: Form, number: usize) -> Result<Option<Vec<u8>>, Memory>
         ensures { IfOk result (λ told. option_map (λ line. line.items) told ≡ slice_get (lines_in form self.now) number) }
     {
+        let mut told = Vec::with_capacity(self.alloc, LONGEST_CALL)?;
         if number == 0 {
-            let mut header = Vec::with_capacity(self.alloc, LONGEST_HEADER)?;
-            push_header(&mut header, self.journal.header());
-            return Ok(Some(header));
+            push_header(&mut told, self.journal.header());
+            return Ok(Some(told));
         }
         let place = number - 1;
         let Some(entry) = self.journal.entries().get(place) else {
             return Ok(None);
         };
-        let mut line = Vec::with_capacity(self.alloc, LONGEST_CALL)?;
-        push_line(&mut line, form, &entry.call);
-        Ok(Some(line))
+        push_line(&mut told, form, &entry.call);
+        Ok(Some(told))
     }
 }

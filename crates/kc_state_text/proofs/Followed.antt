@@ -24,6 +24,18 @@ read-more Is spelled n text xs rest x more read next = record {
       ∙ ap (λ l. l ++ more) (ap (λ l. flat_map spelled xs ++ l) (sym (append-nil (spelled x))) ∙ sym (flat_map-append spelled xs (x ∷ [])));
 }
 
+-- none more
+pub read-lacks : {X : Type 0} (Is : X → Type 0) (spelled : X → List ℕ) (first count n : ℕ) (text : List ℕ) (xs : List X) (rest : List ℕ) → n < count → AreRead Is spelled n text xs rest → HasNone Is spelled rest
+    → Lacks Is spelled first count text (first + n)
+read-lacks Is spelled first count n text xs rest few read none = record {
+  xs = xs;
+  rest = rest;
+  read = record { many = refl; each = read.each; whole = read.whole };
+  few = (let m = read.many in omega (arith, m, few));
+  none = none;
+  number = (let m = read.many in omega (arith, m));
+}
+
 module _ {X : Type 0} (Is : X → Type 0) (name : List ℕ) (spelled : X → List (List ℕ)) where
   -- there are at least as many bytes as lines
   pub many-lines : (xs : List X) → length xs ≤ length (flat_map (λ x. line name (spelled x)) xs)

@@ -60,6 +60,11 @@ vcpus-lack vcpus words rest all few e lacks others more are is =
 one-image : (x y : Image) (c d : List (List ℕ)) → AreImageWords x → AreImageWords y → image_words x ++ c ≡ image_words y ++ d → c ≡ d
 one-image x y c d a b e = cc
 
+pub images-more : (images : List Image) (image : Image) (words rest more : List (List ℕ)) → words ≡ images_words images ++ rest → rest ≡ image_words image ++ more → words ≡ images_words (images ++ image ∷ []) ++ more
+images-more images image words rest more e f =
+    e ∙ ap (λ (ws : List (List ℕ)). images_words images ++ ws) f ∙ sym (append_assoc (images_words images) (image_words image) more)
+    ∙ ap (λ (ws : List (List ℕ)). ws ++ more) (ap (λ (ws : List (List ℕ)). images_words images ++ ws) (sym (append-nil (image_words image))) ∙ sym (flat_map-append image_words images (image ∷ [])))
+
 few-images : (xs ys : List Image) (left : List (List ℕ)) → All AreImageWords xs → All AreImageWords ys → flat_map image_words xs ++ left ≡ flat_map image_words ys → length xs ≤ length ys
 few-images [] ys left a b e = omega arith
 few-images (x ∷ xs) [] left a b e = absurd cc
@@ -98,3 +103,10 @@ no-images name words first second vcpus e begins lacks slot is g =
     let eight = begins.is.eight in
     let there = is.vcpus in
     lacks slot.images (record { few = is.few_images; each = is.each_image }) (append-same (vcpus_words vcpus) (vcpus_words slot.vcpus) second (images_words slot.images) (omega (arith, long, other, eight, there)) same).1
+
+pub slot-read : (name : List ℕ) (words first second : List (List ℕ)) (vcpus : List Vcpu) (images : List Image) → words ≡ name ∷ first → BeginsAs AreVcpus vcpus_words first vcpus second → IsWhole AreImages images_words second images
+    → IsWhole IsSlotLine (after_name name slot_words) words (record { vcpus = vcpus; images = images })
+slot-read name words first second vcpus images e begins whole = record {
+  is = record { vcpus = begins.is.eight; each_vcpu = begins.is.each; few_images = whole.is.few; each_image = whole.is.each };
+  whole = e ∙ ap (λ (ws : List (List ℕ)). name ∷ ws) (begins.whole ∙ ap (λ (ws : List (List ℕ)). vcpus_words vcpus ++ ws) whole.whole);
+}

@@ -1,8 +1,8 @@
 -- What a state of version 1 or 2 has is within what its text may say.
 use Rattle.std.proofs.Common.{ℕ, true, ◌≡◌, ◌≤◌, refl, arith}
 use Rattle.std.proofs.lemmas.Bool.{false≢true}
-use Rattle.kc_types.specs.Limits.{second_frame_limit, second_slot_limit, first_vcpu_limit, first_gfn_limit, first_image_limit, first_image_size_limit, first_digest_limit}
-use Rattle.kc_types.specs.Configuration.{Configuration, IsConfiguration, most_frames, slot_count, slots_of, vcpus_of, gfns_of, most_images, most_image_bytes, most_digests, has_dump}
+use Rattle.kc_types.specs.Limits.{second_frame_limit, second_slot_limit, first_vcpu_limit, first_gfn_limit, first_image_limit, first_image_size_limit}
+use Rattle.kc_types.specs.Configuration.{Configuration, IsConfiguration, most_frames, slot_count, slots_of, vcpus_of, gfns_of, most_images, most_image_bytes, has_dump}
 use Rattle.kc_types.specs.declared.version.Version.{Version}
 use Rattle.kc_types.specs.declared.version.Version.TheVariants.{One, Two, Three}
 
@@ -42,8 +42,3 @@ pub few-bytes : (version : Version) → has_dump version ≡ true → most_image
 few-bytes One has = omega arith
 few-bytes Two has = omega arith
 few-bytes Three has = absurd (false≢true has)
-
-pub few-digests : (version : Version) → has_dump version ≡ true → most_digests version ≤ first_digest_limit
-few-digests One has = omega arith
-few-digests Two has = omega arith
-few-digests Three has = absurd (false≢true has)

@@ -6,7 +6,7 @@ use Rattle.std.proofs.lemmas.List.{length-map, get_or_default}
 use Rattle.std.proofs.lemmas.List.Elements.{All-map}
 use Rattle.kc_types.specs.Configuration.{Configuration, slot_count, has_dump}
 use Rattle.kc_types.specs.Limits.{byte_limit, slot_limit}
-use Rattle.kc_types.proofs.Ranges.{same-version, few-frames as few_frames, few-slots as few_slots, few-digests as few_digests}
+use Rattle.kc_types.proofs.Ranges.{same-version, few-frames as few_frames, few-slots as few_slots}
 use Rattle.kc_types.specs.declared.owner.Owner.TheVariants.{Core}
 use Rattle.kc_model.specs.State.{State, Frame, Slot, Vcpu, slot_at, untouched, no_slot, absent_vcpu}
 use Rattle.kc_model.specs.Lawful.{IsLawful, IsPage, IsLawfulSlot}
@@ -28,7 +28,7 @@ use Rattle.kc_state_text.specs.declared.fault.StateFault.TheVariants.{NoHeader, 
 use Rattle.kc_model.specs.Volumes.{IsDigest, IsCoreState}
 use Rattle.kc_state_text.specs.StateText.{Front, state_header, sizes_words, sizes_line, approved_words, approved_line, slot_words, slot_line, page_words, page_line, front_text, front_of, sizes_of, state_text}
 use Rattle.kc_state_text.specs.Refused.{AreSizes, IsVcpuWord, IsSlotLine, IsFront, IsWholeFront, LacksLine, StopsBefore, StopsWithin, IsDumpFault, IsTextOf, TellsNone, IsRefusedState}
-use Rattle.kc_state_text.proofs.Limits.{few-frames, few-slots, vcpus-of, few-gfns, few-images, few-bytes, few-digests}
+use Rattle.kc_state_text.proofs.Limits.{few-frames, few-slots, vcpus-of, few-gfns, few-images, few-bytes}
 use Rattle.kc_state_text.proofs.Spelled.{AreNumbers, numbers-are-words, numbers-same, sizes-are-words, sizes-same, approved-are-words, approved-same, slot-are-words, slot-same, page-are-words, page-same}
 use Rattle.kc_state_text.proofs.Followed.{first-same, lines-same, lines-go-on}
 
@@ -139,7 +139,7 @@ module _ (m : State) (is : IsCoreState m) (has : has_dump m.config.version ≡ t
       slots = (let a = length-map m.slots slot_rest in let b = is.lawful.slots in let c = few-slots m.config has in omega (arith, a, b, c));
       frames = (let a = length-map m.frames (λ (frame : Frame). frame.bytes) in let b = is.lawful.frames in let c = few-frames m.config is.lawful.config has in omega (arith, a, b, c));
       host = (let a = few-frames m.config is.lawful.config has in let b = is.lawful.config.within in omega (arith, a, b));
-      approved = (let a = is.lawful.config.few_digests in let b = few-digests m.config.version has in omega (arith, a, b));
+      approved = is.lawful.config.few_digests;
     };
     approved = is.digests;
     slots = slots-fit;
@@ -202,7 +202,7 @@ numbers-of : (m : State) → IsCoreState m → AreNumbers (sizes_of (rest_of m))
 numbers-of m is =
     let few = few_frames m.config.version m.config.frames is.lawful.config.few_frames in
     let within = is.lawful.config.within in
-    let digests = few_digests m.config.version (length m.config.approved) is.lawful.config.few_digests in
+    let digests = is.lawful.config.few_digests in
     record {
       slots = (let a = length-map m.slots slot_rest in let b = is.lawful.slots in let c = slots-few m.config in omega (arith, a, b, c));
       frames = (let a = length-map m.frames (λ (frame : Frame). frame.bytes) in let b = is.lawful.frames in omega (arith, a, b, few));

@@ -9,7 +9,7 @@ use Rattle.std.proofs.lemmas.List.{length-map}
 use Rattle.std.proofs.lemmas.Option.{same_Some}
 use Rattle.hex.specs.Hex.{encode_lower}
 use Rattle.kc_types.specs.Bytes.{IsData}
-use Rattle.kc_types.specs.Limits.{second_frame_limit, second_slot_limit, first_gfn_limit, first_digest_limit}
+use Rattle.kc_types.specs.Limits.{second_frame_limit, second_slot_limit, first_gfn_limit, digest_limit}
 use Rattle.kc_model.specs.State.{Vcpu, Image}
 use Rattle.kc_model.specs.Lawful.{IsPage}
 use Rattle.kc_lines.specs.Words.{number_in, data_of, digest_in}
@@ -62,6 +62,9 @@ rest-same x y xs ys e = cc
 
 pub decimal-same : (a b : ℕ) → a < 2 ^ 32 → b < 2 ^ 32 → decimal a ≡ decimal b → a ≡ b
 decimal-same a b x y e = same_Some a b (sym (number_of-decimal a x) ∙ ap number_in e ∙ number_of-decimal b y)
+
+few-same : (most : ℕ) → most < 2 ^ 32 → (a b : ℕ) → a ≤ most → b ≤ most → decimal a ≡ decimal b → a ≡ b
+few-same most low a b x y e = decimal-same a b (omega (arith, low, x)) (omega (arith, low, y)) e
 
 pub digits-same : (a b : List ℕ) → IsData a → IsData b → encode_lower a ≡ encode_lower b → a ≡ b
 digits-same a b x y e = same_Some a b (sym (data_of-encode_lower a x) ∙ ap data_of e ∙ data_of-encode_lower b y)

@@ -6,7 +6,7 @@ use Rattle.hex.specs.Hex.{lower_digits}
 use Rattle.hex.proofs.HexLemmas.{length-encode_with}
 use Rattle.std.specs.Fmt.{decimal}
 use Rattle.hex.specs.Hex.{encode_lower}
-use Rattle.kc_types.specs.Limits.{second_frame_limit, second_slot_limit, first_digest_limit}
+use Rattle.kc_types.specs.Limits.{second_frame_limit, second_slot_limit, digest_limit}
 use Rattle.kc_model.specs.State.{Vcpu}
 use Rattle.kc_lines.specs.Words.{number_in, digest_in}
 use Rattle.kc_lines.proofs.Words.{chosen}
@@ -65,7 +65,7 @@ module _ (name : List ℕ) (words : List (List ℕ)) where
       (rest-same (decimal b) (decimal s.frames) third _ (sym h ∙ rest-same (decimal a) (decimal s.slots) second _ (sym f ∙ sizes-after first s e g)))
 
   pub no-approved : (a b c : ℕ) (first second third fourth : List (List ℕ)) → words ≡ name ∷ first → first ≡ decimal a ∷ second → second ≡ decimal b ∷ third → third ≡ decimal c ∷ fourth
-      → LacksFirst (IsAtMost first_digest_limit) number_words fourth → LacksWhole AreSizes (after_name name sizes_words) words
+      → LacksFirst (IsAtMost digest_limit) number_words fourth → LacksWhole AreSizes (after_name name sizes_words) words
   no-approved a b c first second third fourth e f h k lacks s is g =
       lacks s.approved [] is.approved
       (rest-same (decimal c) (decimal s.host) fourth _ (sym k ∙ rest-same (decimal b) (decimal s.frames) third _ (sym h ∙ rest-same (decimal a) (decimal s.slots) second _ (sym f ∙ sizes-after first s e g))))

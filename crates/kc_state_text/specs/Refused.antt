@@ -1,6 +1,6 @@
 -- Which text is which state's, and why a text is not a state's.
 use Rattle.std.specs.Prelude.{ℕ, ◌≡◌, ◌<◌, ◌≤◌, ◌+◌, ◌^◌, ◌⊎◌, List, [], ◌++◌, length, All, Option, Some, false, None, IfSome}
-use Rattle.kc_types.specs.Limits.{second_frame_limit, second_slot_limit, first_gfn_limit, first_vcpu_limit, first_image_limit, first_digest_limit}
+use Rattle.kc_types.specs.Limits.{second_frame_limit, second_slot_limit, first_gfn_limit, first_vcpu_limit, first_image_limit, digest_limit}
 use Rattle.kc_model.specs.State.{Vcpu, Image}
 use Rattle.kc_model.specs.Lawful.{IsPage}
 use Rattle.kc_dump_text.specs.Grammar.{IsDumpText}
@@ -25,7 +25,7 @@ pub record AreSizes (sizes : numbers.Sizes) : Type 0 where
   pub slots : sizes.slots ≤ second_slot_limit
   pub frames : sizes.frames ≤ second_frame_limit
   pub host : sizes.host ≤ second_frame_limit
-  pub approved : sizes.approved ≤ first_digest_limit
+  pub approved : sizes.approved ≤ digest_limit
 
 -- a virtual processor that is not registered waits for nothing
 pub record IsVcpuWord (vcpu : Vcpu) : Type 0 where

@@ -14,8 +14,8 @@ use arrayvec::ArrayVec;
 use kc_lines::{LineWords, read_digest, read_number};
 use kc_snapshot::SlotRest;
 use kc_types::{
-    FIRST_DIGEST_LIMIT, FIRST_GFN_LIMIT, FIRST_IMAGE_LIMIT, FIRST_VCPU_LIMIT, Image,
-    SECOND_FRAME_LIMIT, SECOND_SLOT_LIMIT, Vcpu,
+    DIGEST_LIMIT, FIRST_GFN_LIMIT, FIRST_IMAGE_LIMIT, FIRST_VCPU_LIMIT, Image, SECOND_FRAME_LIMIT,
+    SECOND_SLOT_LIMIT, Vcpu,
 };
 
 /// Reads the line of sizes, each one that a configuration may have.
@@ -29,7 +29,7 @@ pub fn read_sizes(line: &[u8]) -> Option<Sizes>
     let slots = take_number_to(&mut words, SECOND_SLOT_LIMIT)?;
     let frames = take_number_to(&mut words, SECOND_FRAME_LIMIT)?;
     let host = take_number_to(&mut words, SECOND_FRAME_LIMIT)?;
-    let approved = take_number_to(&mut words, FIRST_DIGEST_LIMIT as u32)?;
+    let approved = take_number_to(&mut words, DIGEST_LIMIT as u32)?;
     words.end()?;
     Some(Sizes {
         slots,

@@ -3,7 +3,8 @@ use Rattle.std.proofs.Common.{◌≡◌, ◌≤◌, ◌⊎◌, ℕ, List, [], �
 use Rattle.std.specs.Io.KnownBytes.{Keeps, Consumes, IsAtEnd, prepend_known}
 use Rattle.kc_trace.specs.declared.header.Head.{Head}
 use Rattle.kc_trace.specs.declared.header.Header.TheVariants.{Three}
-use Rattle.kc_trace.specs.Header.{IsHead, trace_header, longest_header}
+use Rattle.kc_trace.specs.Header.{IsHead, trace_header}
+use Rattle.kc_trace.specs.Spelling.{longest_call}
 use Rattle.kc_trace.proofs.HeadWidths.{head_width}
 use Rattle.kc_texts.specs.Headed.{HasHead, IsHeadOf}
 
@@ -35,7 +36,7 @@ front (x ∷ a) b (y ∷ c) d e le =
     (later.0, ap (λ z. z ∷ a) head ∙ ap (λ l. y ∷ l) later.1)
 
 -- if the bytes ahead have no head, all bytes have none: a whole head would be ahead
-pub no_head : (ahead : List ℕ) (left : Option (List ℕ)) → (longest_header ≤ length ahead) ⊎ IsAtEnd left
+pub no_head : (ahead : List ℕ) (left : Option (List ℕ)) → (longest_call ≤ length ahead) ⊎ IsAtEnd left
     → ((head : Head) (rest : List ℕ) → IsHead head → ahead ≡ trace_header (Three head) ++ rest → ⊥) → IsHeadOf (prepend_known ahead left) None
 no_head ahead None enough none = tt
 no_head ahead (Some bytes) (inr ended) none = λ head is has. none head has.calls is (sym (append-nil ahead) ∙ ap (λ b. ahead ++ b) (sym ended) ∙ has.text_is)

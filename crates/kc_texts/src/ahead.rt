@@ -1,12 +1,12 @@
 //! Sources of traces whose head can be seen before they are read.
 ghost use Rattle.std.specs.Prelude.{◌≡◌, ◌≤◌, ◌<◌, ◌⊎◌, [], false, true, length, drop, vec_len, IfOk, OnOk, Err};
 ghost use Rattle.std.specs.Io.KnownBytes.{IsAtEnd, Keeps, prepend_known};
-ghost use Rattle.kc_trace.specs.Header.{longest_header};
+ghost use Rattle.kc_trace.specs.Spelling.{longest_call};
 ghost use Rattle.kc_texts.specs.Headed.{IsHeadOf};
 
 use crate::source::{Failed, Source};
 use crate::whole::ReadFault;
-use kc_trace::{Head, Header, LONGEST_HEADER, read_header};
+use kc_trace::{Head, Header, LONGEST_CALL, read_header};
 use std::alloc::Global;
 
 /// A source of a trace.
@@ -22,7 +22,8 @@ pub trait Headed: Source {
         ensures read { result ≡ Err ReadFault.Read → Self.failed self.new ≡ true };
 }
 
-/// A source of which bytes may have been read ahead: as many as the longest header has, and up to a piece more.
+/// A source of which bytes may have been read ahead: at least as many as the longest line of a call has, since no header
+/// has more, and less than twice as many.
 #[derive(Drop)]
 pub struct Ahead<S: Source + Drop> {
     pub inner: S,
@@ -48,7 +49,7 @@ impl<S: Source + Drop> Ahead<S> {
     /// Reads ahead until a whole header is there, if there is one, or the source is at its end.
     fn fill(&mut self) -> Result<(), ReadFault>
         requires { S.failed self.old.inner ≡ false }
-        ensures enough { OnOk result ((longest_header ≤ length (drop self.new.position self.new.ahead.items))
+        ensures enough { OnOk result ((longest_call ≤ length (drop self.new.position self.new.ahead.items))
             ⊎ IsAtEnd (S.left self.new.inner)) }
         ensures same { OnOk result (Keeps
             (prepend_known (drop self.old.position self.old.ahead.items) (S.left self.old.inner))
@@ -57,8 +58,8 @@ impl<S: Source + Drop> Ahead<S> {
         ensures memory { result ≡ Err ReadFault.Memory → S.failed self.new.inner ≡ false }
         ensures read { result ≡ Err ReadFault.Read → S.failed self.new.inner ≡ true }
     {
-        let mut buffer = [0u8; 8_192];
-        while self.ahead.len() - self.position < LONGEST_HEADER {
+        let mut buffer = [0u8; LONGEST_CALL];
+        while self.ahead.len() - self.position < LONGEST_CALL {
             let Ok(n) = self.inner.read(&mut buffer) else {
                 return Err(ReadFault::Read);
             };

@@ -6,7 +6,8 @@ use Rattle.std.specs.Str.{bytes_eq}
 use Rattle.std.proofs.lemmas.Bool.{leb-true, leb-false, le-leb, lt-leb, cases_lt}
 use Rattle.std.proofs.lemmas.List.{map-append, length-append, length-map, length-replicate}
 use Rattle.std.proofs.lemmas.List.Elements.{All-replicate}
-use Rattle.kc_types.specs.Configuration.{Configuration, IsConfiguration, slot_count, most_digests}
+use Rattle.kc_types.specs.Limits.{digest_limit}
+use Rattle.kc_types.specs.Configuration.{Configuration, IsConfiguration, slot_count}
 use Rattle.kc_types.specs.declared.version.Version.TheVariants as version
 use Rattle.kc_model.specs.Volumes.{IsDigest}
 use Rattle.kc_lines.proofs.Words.{chosen, map_some, name_is}
@@ -45,7 +46,7 @@ all_pushed [] digest each is = (is, tt)
 all_pushed (d ∷ digests) digest each is = (each.0, all_pushed digests digest each.1 is)
 
 -- with more digests, as long as they are few
-config_with : (config : Configuration) (digests : List (List ℕ)) → IsConfiguration config → length digests ≤ most_digests config.version → IsConfiguration (record config { approved = digests })
+config_with : (config : Configuration) (digests : List (List ℕ)) → IsConfiguration config → length digests ≤ digest_limit → IsConfiguration (record config { approved = digests })
 config_with config digests is few = record {
   some_frames = is.some_frames;
   few_frames = is.few_frames;
@@ -230,7 +231,7 @@ next_last (x ∷ xs) [] line last more same e = absurd (omega (arith, same))
 next_last (x ∷ xs) (y ∷ ys) line last more same e = next_last xs ys line last more (omega (arith, same)) cc
 
 -- one line is of one number of digests
-same_awaited : (config other : Configuration) (one two : ℕ) → IsConfiguration config → IsConfiguration other → one ≤ most_digests config.version → two ≤ most_digests other.version → machine_line config one ≡ machine_line other two → one ≡ two
+same_awaited : (config other : Configuration) (one two : ℕ) → IsConfiguration config → IsConfiguration other → one ≤ digest_limit → two ≤ digest_limit → machine_line config one ≡ machine_line other two → one ≡ two
 same_awaited config other one two is other_is few_one few_two e =
     let both : Some (record { config = emptied config; awaited = one }) ≡ Some (record { config = emptied other; awaited = two }) =
     sym (machine_again config one is few_one) ∙ ap (λ l. machine_in (words_in l)) e ∙ machine_again other two other_is few_two in

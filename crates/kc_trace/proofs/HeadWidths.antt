@@ -1,4 +1,4 @@
--- Each line of a head is one line, and no longer than that of a call; and how long a header is.
+-- Each line of a head is one line, and no longer than that of a call, and so is the head.
 use Rattle.std.proofs.Common.{ℕ, ◌≡◌, ◌≤◌, Bool, true, false, List, [], ◌∷◌, ◌++◌, length, map, refl, ap, arith, length-append}
 use Rattle.std.specs.Prelude.{◌*◌, codes}
 use Rattle.std.specs.List.{AllByRecursion, flat_map}
@@ -7,14 +7,13 @@ use Rattle.kc_trace.specs.declared.header.Head.{Head}
 use Rattle.kc_trace.specs.declared.header.Position.{Position}
 use Rattle.kc_trace.specs.declared.header.Position.TheVariants.{First, Later}
 use Rattle.kc_trace.specs.declared.header.Header.TheVariants.{Three}
-use Rattle.kc_trace.specs.Header.{IsHead, IsPosition, machine_numbers, machine_line, approved_line, position_words, redaction_words, last_line, position_line, head_lines, ended_lines, trace_header, longest_header}
+use Rattle.kc_trace.specs.Header.{IsHead, IsPosition, machine_numbers, machine_line, approved_line, position_words, redaction_words, last_line, position_line, head_lines, ended_lines, trace_header}
 use Rattle.hex.specs.Hex.{encode_lower, lower_digits}
 use Rattle.hex.proofs.HexLemmas.{length-encode_with}
 use Rattle.kc_model.specs.Volumes.{IsDigest}
-use Rattle.kc_types.specs.Limits.{line_limit}
-use Rattle.kc_types.proofs.Ranges.{few-digests}
+use Rattle.kc_types.specs.Limits.{digest_limit, line_limit}
 use Rattle.kc_lines.specs.Lines.{IsOneLine}
-use Rattle.kc_types.specs.Configuration.{Configuration, IsConfiguration, most_digests}
+use Rattle.kc_types.specs.Configuration.{Configuration, IsConfiguration}
 use Rattle.kc_model.specs.Ranged.{IsWord}
 use Rattle.std.proofs.lemmas.Fmt.{length-decimal-le}
 use Rattle.kc_lines.proofs.Words.{width, join_is_one_line, length-join}
@@ -27,7 +26,7 @@ width_of (number ∷ numbers) each = omega (arith, length-decimal-le 10 number (
 abbrev pub Fits : List ℕ → Type 0
 Fits line = IsOneLine line × (length line ≤ line_limit)
 
-pub machine_fits : (config : Configuration) (awaited : ℕ) → IsConfiguration config → awaited ≤ most_digests config.version → Fits (machine_line config awaited)
+pub machine_fits : (config : Configuration) (awaited : ℕ) → IsConfiguration config → awaited ≤ digest_limit → Fits (machine_line config awaited)
 unfolding machine_line
 machine_fits config awaited is few =
     (join_is_one_line (codes "config") (map decimal (machine_numbers config awaited)) (machine_line_words config awaited is few), omega (arith, length-join (codes "config") (map decimal (machine_numbers config awaited)), width_of (machine_numbers config awaited) (numbers_fit config awaited is few)))
@@ -62,7 +61,7 @@ position_fits position is = last_fits position false is
 
 -- ---- how long a head is
 
-machine_width : (config : Configuration) (awaited : ℕ) → IsConfiguration config → awaited ≤ most_digests config.version → length (machine_line config awaited) ≤ 83
+machine_width : (config : Configuration) (awaited : ℕ) → IsConfiguration config → awaited ≤ digest_limit → length (machine_line config awaited) ≤ 83
 unfolding machine_line
 machine_width config awaited is few = omega (arith, length-join (codes "config") (map decimal (machine_numbers config awaited)), width_of (machine_numbers config awaited) (numbers_fit config awaited is few))
 
@@ -80,11 +79,11 @@ digests_width : (digests : List (List ℕ)) → AllByRecursion IsDigest digests 
 digests_width [] each = refl
 digests_width (digest ∷ digests) each = omega (arith, length-append (approved_line digest ++ 10 ∷ []) (flat_map (λ d. approved_line d ++ 10 ∷ []) digests), length-append (approved_line digest) (10 ∷ []), approved_width digest each.0, digests_width digests each.1)
 
--- a header is no longer than the longest
-pub head_width : (head : Head) → IsHead head → length (trace_header (Three head)) ≤ longest_header
+-- a head is no longer than the longest line of a call
+pub head_width : (head : Head) → IsHead head → length (trace_header (Three head)) ≤ line_limit
 head_width head is =
     let config = head.config in
-    let few = few-digests config.version (length config.approved) is.config.few_digests in
+    let few = is.config.few_digests in
     let machine : List ℕ = machine_line config (length config.approved) ++ 10 ∷ [] in
     let digests : List ℕ = flat_map (λ digest. approved_line digest ++ 10 ∷ []) config.approved in
     let last : List ℕ = last_line head.position head.is_host_redacted ++ 10 ∷ [] in
@@ -97,7 +96,7 @@ head_width head is =
       length-append digests last,
       length-append (machine_line config (length config.approved)) (10 ∷ []),
       length-append (last_line head.position head.is_host_redacted) (10 ∷ []),
-      machine_width config (length config.approved) is.config is.config.few_digests,
+      machine_width config (length config.approved) is.config few,
       digests_width config.approved is.digests,
       last_line_width head.position head.is_host_redacted is.position,
     )

@@ -16,9 +16,10 @@ use Rattle.hex.specs.Hex.{encode_lower, lower_digits}
 use Rattle.hex.proofs.HexLemmas.{length-encode_with}
 use Rattle.kc_model.specs.Volumes.{IsDigest}
 use Rattle.kc_types.specs.Bytes.{IsData}
-use Rattle.kc_types.specs.Configuration.{Configuration, IsConfiguration, most_frames, most_leaves, most_digests, slots_of, slot_count}
+use Rattle.kc_types.specs.Limits.{digest_limit}
+use Rattle.kc_types.specs.Configuration.{Configuration, IsConfiguration, most_frames, most_leaves, slots_of, slot_count}
 use Rattle.kc_types.specs.ConfigFaults.{fault_of}
-use Rattle.kc_types.proofs.Ranges.{few-frames, few-slots, few-leaves, few-digests}
+use Rattle.kc_types.proofs.Ranges.{few-frames, few-slots, few-leaves}
 use Rattle.kc_types.specs.declared.config.ConfigFault.{ConfigFault}
 use Rattle.kc_types.specs.declared.config.ConfigFault.TheVariants.{Frames, CoreHost, Leaves, TooManyDigests}
 use Rattle.kc_types.specs.declared.version.Version.{Version}
@@ -241,7 +242,7 @@ configuration_is c e =
     let frames = none_if (c.frames == 0 || nat_lt (most_frames c.version) c.frames) Frames _ e in
     let sums = none_if (nat_lt c.frames (c.core + c.host)) CoreHost _ frames.1 in
     let leaves = none_if (c.leaves == 0 || nat_lt (most_leaves c.version) c.leaves) Leaves _ sums.1 in
-    let digests = none_if (nat_lt (most_digests c.version) (length c.approved)) TooManyDigests _ leaves.1 in
+    let digests = none_if (nat_lt digest_limit (length c.approved)) TooManyDigests _ leaves.1 in
     let frame = or_parts (c.frames == 0) (nat_lt (most_frames c.version) c.frames) frames.0 in
     let leaf = or_parts (c.leaves == 0) (nat_lt (most_leaves c.version) c.leaves) leaves.0 in
     let some : c.frames ≢ 0 = eqb-false _ _ frame.0 in
@@ -255,7 +256,7 @@ configuration_is c e =
       few_digests = ltb-false _ _ digests.0;
     }
 
-pub no_fault : (c : Configuration) → IsConfiguration c → fault_of c ≡ None
+no_fault : (c : Configuration) → IsConfiguration c → fault_of c ≡ None
 no_fault c is =
     let some = is.some_frames in
     let one = is.some_leaves in
@@ -265,13 +266,13 @@ no_fault c is =
       le-ltb c.frames (c.core + c.host) is.within,
       ne_eqb c.leaves 0 (λ z. absurd (omega (arith, one, z))),
       le-ltb (most_leaves c.version) c.leaves is.few_leaves,
-      le-ltb (most_digests c.version) (length c.approved) is.few_digests,
+      le-ltb digest_limit (length c.approved) is.few_digests,
     ) refl
 
 -- a machine that was begun keeps the limits of configurations, and has as many digests as it approves, or fewer
 pub record IsBegun (begun : Begun) : Type 0 where
   pub config : IsConfiguration begun.config
-  pub few : begun.awaited ≤ most_digests begun.config.version
+  pub few : begun.awaited ≤ digest_limit
   pub within : length begun.config.approved ≤ begun.awaited
   pub digests : AllByRecursion IsDigest begun.config.approved
 
@@ -305,7 +306,7 @@ record IsMachineLine (words : List (List ℕ)) (begun : Begun) : Type 0 where
   spelled : words ≡ codes "config" ∷ map decimal (machine_numbers begun.config begun.awaited)
   empty : begun.config.approved ≡ []
   config : IsConfiguration begun.config
-  few : begun.awaited ≤ most_digests begun.config.version
+  few : begun.awaited ≤ digest_limit
 
 -- numbers that a line has in this order
 abbrev in_order : ℕ × ℕ → ℕ × ℕ → ℕ × ℕ → ℕ → List ℕ
@@ -340,9 +341,9 @@ unfolding slot_count
 machine_is rules frames others awaited begun e =
     let v = then_some (λ v. machine_of v rules.1 frames.0 frames.1 others.0 others.1 awaited) (version_numbered rules.0) begun e in
     let config : Configuration = record { version = v.0; frames = frames.0; core = frames.1; host = others.0; leaves = others.1; approved = [] } in
-    elim (chosen (rules.1 == slots_of v.0 && nat_le awaited (most_digests v.0)) (begun_if config awaited) None (Some begun) v.2) [
+    elim (chosen (rules.1 == slots_of v.0 && nat_le awaited digest_limit) (begun_if config awaited) None (Some begun) v.2) [
       | inl h ↦
-          let tests = and_parts (rules.1 == slots_of v.0) (nat_le awaited (most_digests v.0)) h.0 in
+          let tests = and_parts (rules.1 == slots_of v.0) (nat_le awaited digest_limit) h.0 in
           let is = begun_is config awaited begun h.1 in
           let whole : codes "config" ∷ map decimal (in_order rules frames others awaited) ≡ codes "config" ∷ map decimal (machine_numbers config awaited) =
           ap (λ (n : ℕ). codes "config" ∷ map decimal (in_order (n, rules.1) frames others awaited)) (numbered rules.0 v.0 v.1)
@@ -379,14 +380,14 @@ few_versions version.One = omega arith
 few_versions version.Two = omega arith
 few_versions version.Three = omega arith
 
-pub numbers_fit : (config : Configuration) (awaited : ℕ) → IsConfiguration config → awaited ≤ most_digests config.version → AllByRecursion IsWord (machine_numbers config awaited)
+pub numbers_fit : (config : Configuration) (awaited : ℕ) → IsConfiguration config → awaited ≤ digest_limit → AllByRecursion IsWord (machine_numbers config awaited)
 unfolding slot_count
 numbers_fit config awaited is few =
     let frames = few-frames config.version config.frames is.few_frames in
     let sums = is.within in
     let leaves = is.few_leaves in
     let most = few-leaves config.version in
-    (omega (arith, few_versions config.version), (omega (arith, few-slots config.version), (omega (arith, frames), (omega (arith, sums, frames), (omega (arith, sums, frames), (omega (arith, leaves, most), (omega (arith, few-digests config.version awaited few), tt)))))))
+    (omega (arith, few_versions config.version), (omega (arith, few-slots config.version), (omega (arith, frames), (omega (arith, sums, frames), (omega (arith, sums, frames), (omega (arith, leaves, most), (omega (arith, few), tt)))))))
 
 -- the machine without approved digests
 abbrev pub emptied : Configuration → Configuration
@@ -402,13 +403,13 @@ emptied_is config is = record {
   few_digests = omega arith;
 }
 
-machine_by_again : (config : Configuration) (awaited : ℕ) → IsConfiguration config → awaited ≤ most_digests config.version
+machine_by_again : (config : Configuration) (awaited : ℕ) → IsConfiguration config → awaited ≤ digest_limit
     → machine_by (version_number config.version, slot_count config) (config.frames, config.core) (config.host, config.leaves) awaited ≡ Some (record { config = emptied config; awaited = awaited })
 unfolding slot_count
 machine_by_again config awaited is few =
-    rw (numbered_again config.version, eq-eqb (slots_of config.version) (slots_of config.version) refl, le-leb awaited (most_digests config.version) few, no_fault (emptied config) (emptied_is config is)) refl
+    rw (numbered_again config.version, eq-eqb (slots_of config.version) (slots_of config.version) refl, le-leb awaited digest_limit few, no_fault (emptied config) (emptied_is config is)) refl
 
-machine_words_again : (config : Configuration) (awaited : ℕ) → IsConfiguration config → awaited ≤ most_digests config.version
+machine_words_again : (config : Configuration) (awaited : ℕ) → IsConfiguration config → awaited ≤ digest_limit
     → machine_in (codes "config" ∷ map decimal (machine_numbers config awaited)) ≡ Some (record { config = emptied config; awaited = awaited })
 unfolding machine_in take_pair
 machine_words_again config awaited is few =
@@ -423,10 +424,10 @@ machine_words_again config awaited is few =
       number_of-decimal awaited fits.1.1.1.1.1.1.0,
     ) (machine_by_again config awaited is few)
 
-pub machine_line_words : (config : Configuration) (awaited : ℕ) → IsConfiguration config → awaited ≤ most_digests config.version → list_all is_word (codes "config" ∷ map decimal (machine_numbers config awaited)) ≡ true
+pub machine_line_words : (config : Configuration) (awaited : ℕ) → IsConfiguration config → awaited ≤ digest_limit → list_all is_word (codes "config" ∷ map decimal (machine_numbers config awaited)) ≡ true
 machine_line_words config awaited is few = numbers_are_words (machine_numbers config awaited) (numbers_fit config awaited is few)
 
-pub machine_again : (config : Configuration) (awaited : ℕ) → IsConfiguration config → awaited ≤ most_digests config.version → machine_in (words_in (machine_line config awaited)) ≡ Some (record { config = emptied config; awaited = awaited })
+pub machine_again : (config : Configuration) (awaited : ℕ) → IsConfiguration config → awaited ≤ digest_limit → machine_in (words_in (machine_line config awaited)) ≡ Some (record { config = emptied config; awaited = awaited })
 unfolding machine_line
 machine_again config awaited is few =
     ap machine_in (split_join (codes "config") (map decimal (machine_numbers config awaited)) (machine_line_words config awaited is few)) ∙ machine_words_again config awaited is few

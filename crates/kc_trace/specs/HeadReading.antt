@@ -2,7 +2,8 @@
 use Rattle.std.specs.Prelude.{ℕ, Bool, true, false, ◌==◌, ◌&&◌, ◌+◌, nat_le, List, [], ◌∷◌, ◌++◌, codes, length, Option, Some, None, is_none, option_map, option_and_then, if◌then◌else◌}
 use Rattle.std.specs.List.{slice_split}
 use Rattle.std.specs.Str.{bytes_eq}
-use Rattle.kc_types.specs.Configuration.{Configuration, slots_of, most_digests}
+use Rattle.kc_types.specs.Limits.{digest_limit}
+use Rattle.kc_types.specs.Configuration.{Configuration, slots_of}
 use Rattle.kc_trace.specs.Header.{Begun}
 use Rattle.kc_types.specs.ConfigFaults.{fault_of}
 use Rattle.kc_types.specs.declared.version.Version.{Version}
@@ -66,7 +67,7 @@ begun_if config awaited = if is_none (fault_of config) then Some (record { confi
 -- the machine of these numbers, of which it has as many slots as its version
 abbrev pub machine_of : Version → ℕ → ℕ → ℕ → ℕ → ℕ → ℕ → Option Begun
 machine_of v slots frames core host leaves awaited =
-    if slots == slots_of v && nat_le awaited (most_digests v)
+    if slots == slots_of v && nat_le awaited digest_limit
     then begun_if (record { version = v; frames = frames; core = core; host = host; leaves = leaves; approved = [] }) awaited
     else None
 

@@ -1,9 +1,8 @@
 -- How headers of traces are spelled; that of header 3 goes on with a head.
-use Rattle.std.specs.Prelude.{ℕ, Bool, true, false, ◌+◌, ◌*◌, ◌≤◌, ◌<◌, ◌^◌, List, [], ◌∷◌, ◌++◌, codes, length, map}
+use Rattle.std.specs.Prelude.{ℕ, Bool, true, false, ◌+◌, ◌≤◌, ◌<◌, ◌^◌, List, [], ◌∷◌, ◌++◌, codes, length, map}
 use Rattle.std.specs.List.{AllByRecursion, flat_map, join_with_byte}
 use Rattle.std.specs.Fmt.{decimal}
 use Rattle.hex.specs.Hex.{encode_lower}
-use Rattle.kc_types.specs.Limits.{digest_limit}
 use Rattle.kc_types.specs.Configuration.{Configuration, IsConfiguration, slot_count}
 use Rattle.kc_types.specs.declared.version.Version.{Version}
 use Rattle.kc_types.specs.declared.version.Version.TheVariants as version
@@ -95,15 +94,6 @@ ended_lines lines = flat_map (λ line. line ++ 10 ∷ []) lines
 -- the text of a header
 abbrev pub trace_header : Header → List ℕ
 trace_header header = ended_lines (header_lines header)
-
--- the most bytes of a header: a line for each approved digest, and the other lines
-abbrev pub longest_header : ℕ
-longest_header = 74 * digest_limit + 200
-
--- the room that a header needs
-abbrev pub header_room : Header → ℕ
-header_room (Three head) = longest_header
-header_room header = 14
 
 -- the number of the line of the first call, counted from 1
 abbrev pub first_call_line : Header → ℕ

@@ -6,7 +6,7 @@ ghost use Rattle.kc_trace.specs.HeadReading.{take_name, take_word, take_number, 
 
 use crate::header::{Head, Header, Position};
 use kc_lines::{LineWords, read_digest, read_number, split_line};
-use kc_types::{Config, Memory, Version};
+use kc_types::{Config, DIGEST_LIMIT, Memory, Version};
 use std::alloc::Global;
 use std::marker::Model;
 
@@ -62,14 +62,14 @@ pub struct Begun {
 
 impl Model for Begun {
     ghost use Rattle.std.specs.Prelude.{◌≤◌, length};
-    ghost use Rattle.kc_types.specs.Configuration.{most_digests};
+    ghost use Rattle.kc_types.specs.Limits.{digest_limit};
     ghost use Rattle.kc_trace.specs.Header.{Begun as Seen};
 
     ghost Value = { Seen };
 
     ghost view = { λ b. record { config = record b.config { approved = b.approved.items }; awaited = b.awaited } };
 
-    ghost invariant = { λ b. (b.awaited ≤ most_digests b.config.version) × (length b.approved.items ≤ b.awaited) };
+    ghost invariant = { λ b. (b.awaited ≤ digest_limit) × (length b.approved.items ≤ b.awaited) };
 }
 
 /// How much of a header was read.
@@ -102,7 +102,7 @@ fn read_machine(alloc: Global, line: &[u8]) -> Option<Begun>
     let awaited = take_number(&mut words)?;
     words.end()?;
     let version = version_numbered(version)?;
-    if slots != version.slots() || awaited > version.most_digests() {
+    if slots != version.slots() || awaited as usize > DIGEST_LIMIT {
         return None;
     }
     let approved = Vec::new(alloc);
@@ -202,13 +202,6 @@ fn read_first(line: &[u8]) -> Option<NextLine>
     }
 }
 
-/// Copies approved digests.
-fn copy_digests(digests: &Vec<[u8; 32]>) -> Result<Vec<[u8; 32]>, Memory>
-    ensures { IfOk result (λ made. made.items ≡ digests.now.items) }
-{
-    Ok(digests.clone()?)
-}
-
 impl Begun {
     /// Makes a copy.
     fn copy(&self) -> Result<Begun, Memory>
@@ -217,7 +210,7 @@ impl Begun {
         Ok(Begun {
             config: self.config.copy()?,
             awaited: self.awaited,
-            approved: copy_digests(&self.approved)?,
+            approved: self.approved.clone()?,
         })
     }
 

@@ -1,7 +1,6 @@
 //! The headers of traces, and what one of header 3 says: which machine its calls are made on, and where in a history
 //! they come.
-ghost use Rattle.std.specs.Prelude.{◌≡◌, ◌+◌, ◌≤◌, IfOk};
-ghost use Rattle.kc_types.specs.Limits.{digest_limit};
+ghost use Rattle.std.specs.Prelude.{◌≡◌, ◌≤◌, IfOk};
 ghost use Rattle.kc_trace.specs.Header.{has_head, is_host_redacted, host_redacted, first_call_line};
 ghost use Rattle.kc_trace.specs.Expected.{head_number};
 
@@ -118,7 +117,7 @@ impl Header {
     /// The number of the line of the first call, counted from 1: 2, or 4 more than digests are approved.
     pub fn first_call_line(&self) -> u32
         ensures value { result ≡ first_call_line self.now }
-        ensures few { result ≤ digest_limit + 4 }
+        ensures few { result ≤ 68 }
     {
         match self {
             Header::One => 2,

@@ -2,14 +2,12 @@
 ghost use Rattle.std.specs.Prelude.{◌≡◌, ◌≤◌, ◌+◌, ◌*◌, ◌++◌, ◌∷◌, [], codes, length, vec_len, vec_capacity};
 ghost use Rattle.std.specs.Fmt.{decimal};
 ghost use Rattle.std.specs.List.{flat_map, join_with_byte};
-ghost use Rattle.kc_trace.specs.Header.{version_number, machine_numbers, position_words, redaction_words, machine_line, approved_line, last_line, position_line, head_lines, ended_lines, trace_header, header_room};
+ghost use Rattle.kc_trace.specs.Spelling.{longest_call};
+ghost use Rattle.kc_trace.specs.Header.{version_number, machine_numbers, position_words, redaction_words, machine_line, approved_line, last_line, position_line, head_lines, ended_lines, trace_header};
 
 use crate::header::{Head, Header, Position};
 use kc_lines::{push_bytes, push_digits, push_number};
-use kc_types::{Config, DIGEST_LIMIT, Version};
-
-/// The most bytes of a header: a line for each approved digest, and the other lines.
-pub const LONGEST_HEADER: usize = 74 * DIGEST_LIMIT + 200;
+use kc_types::{Config, Version};
 
 fn version_number(version: Version) -> u32
     ensures value { result ≡ version_number version }
@@ -141,7 +139,7 @@ pub fn push_position(text: &mut Vec<u8>, position: Position)
 
 /// Appends the lines of a head, each with its newline.
 fn push_head(text: &mut Vec<u8>, head: &Head)
-    requires { vec_len text.old + 303285 ≤ vec_capacity text.old }
+    requires { vec_len text.old + 4917 ≤ vec_capacity text.old }
     ensures items { text.new.items ≡ text.old.items ++ ended_lines (head_lines head.now) }
     ensures capacity { vec_capacity text.old ≤ vec_capacity text.new }
 {
@@ -151,9 +149,10 @@ fn push_head(text: &mut Vec<u8>, head: &Head)
     push_last(text, head.position, head.is_host_redacted);
 }
 
-/// Appends the lines of a header, each with its newline, for which there is room: memory does not grow.
+/// Appends the lines of a header, each with its newline, for which there is room: memory does not grow. They are no
+/// longer than the longest line of a call.
 pub fn push_header(text: &mut Vec<u8>, header: &Header)
-    requires { vec_len text.old + header_room header.now ≤ vec_capacity text.old }
+    requires { vec_len text.old + longest_call ≤ vec_capacity text.old }
     ensures line { text.new.items ≡ text.old.items ++ trace_header header.now }
     ensures capacity { vec_capacity text.old ≤ vec_capacity text.new }
 {

@@ -36,7 +36,7 @@ pub use expected::{Expected, HeaderFault, MachinePart};
 pub use fault::TraceFault;
 pub use head_reader::{read_header, read_position};
 pub use header::{Head, Header, Position};
-pub use header_writer::{LONGEST_HEADER, push_header, push_position};
+pub use header_writer::{push_header, push_position};
 pub use line::call_of_line;
 pub use reader::{TraceReader, read_trace};
 pub use remark_writer::{call_name, push_access, push_denied};

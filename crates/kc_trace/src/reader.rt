@@ -1,7 +1,7 @@
 //! Reading a trace, whole or in pieces.
 ghost use Rattle.std.specs.Prelude.{◌≡◌, ◌≢◌, ◌⊎◌, ◌+◌, ◌<◌, ◌≤◌, List, [], length, Some, None, Ok, Err, IfOk, IfErr, OnOk, OnErr, MatchOption, MatchResult, option_map};
 ghost use Rattle.std.specs.Option.{option_to_list};
-ghost use Rattle.kc_types.specs.Limits.{call_limit, digest_limit};
+ghost use Rattle.kc_types.specs.Limits.{call_limit};
 ghost use Rattle.kc_types.specs.declared.call.Call.{Call};
 ghost use Rattle.kc_trace.specs.declared.header.Header.{Header};
 ghost use Rattle.kc_trace.specs.Header.{first_call_line};
@@ -193,7 +193,7 @@ impl Progress {
     /// The number of the line of the first call, counted from 1.
     fn first_call_line(&self) -> u32
         ensures value { (header : Header) → self.now.header ≡ Some header → result ≡ first_call_line header }
-        ensures few { result ≤ digest_limit + 4 }
+        ensures few { result ≤ 68 }
     {
         match &self.header {
             Some(header) => header.first_call_line(),

@@ -9,7 +9,6 @@ ghost use Rattle.kc_model.specs.Ranged.{IsRanged};
 ghost use Rattle.kc_types.specs.Limits.{line_limit};
 ghost use Rattle.kc_trace.specs.Trace.{IsTrace};
 ghost use Rattle.kc_trace.specs.Spelling.{is_range_call, header_of, line_of, longest_call, trace_of};
-ghost use Rattle.kc_trace.specs.Header.{header_room};
 
 use crate::header::Header;
 use crate::header_writer::push_header;
@@ -165,8 +164,7 @@ fn any_is_range_call(calls: &[Call]) -> bool
 /// The first header that may have all of these calls after it.
 #[tactic(auto, unfolding(crate::specs::Spelling::header_of))]
 pub fn header_of(calls: &[Call]) -> Header
-    ensures header { result ≡ header_of calls.now }
-    ensures room { header_room result ≡ 14 }
+    ensures { result ≡ header_of calls.now }
 {
     if any_is_range_call(calls) {
         Header::Two

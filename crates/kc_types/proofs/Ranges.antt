@@ -1,7 +1,7 @@
 -- The limits of a version are within the ranges of the numbers, and the number of slots determines the version.
 use Rattle.std.proofs.Common.{ℕ, ◌≡◌, ◌≤◌, refl, arith}
-use Rattle.kc_types.specs.Limits.{frame_limit, slot_limit, vcpu_limit, gfn_limit, leaf_limit, image_limit, digest_limit}
-use Rattle.kc_types.specs.Configuration.{Configuration, most_frames, slot_count, slots_of, vcpus_of, gfns_of, roots_of, most_leaves, most_images, most_digests}
+use Rattle.kc_types.specs.Limits.{frame_limit, slot_limit, vcpu_limit, gfn_limit, leaf_limit, image_limit}
+use Rattle.kc_types.specs.Configuration.{Configuration, most_frames, slot_count, slots_of, vcpus_of, gfns_of, roots_of, most_leaves, most_images}
 use Rattle.kc_types.specs.declared.version.Version.{Version}
 use Rattle.kc_types.specs.declared.version.Version.TheVariants.{One, Two, Three}
 
@@ -14,6 +14,11 @@ pub few-slots : (version : Version) → slots_of version ≤ slot_limit
 few-slots One = omega arith
 few-slots Two = omega arith
 few-slots Three = omega arith
+
+pub few-vcpus : (version : Version) → vcpus_of version ≤ vcpu_limit
+few-vcpus One = omega arith
+few-vcpus Two = omega arith
+few-vcpus Three = omega arith
 
 pub few-gfns : (version : Version) → gfns_of version ≤ gfn_limit
 few-gfns One = omega arith
@@ -29,11 +34,6 @@ pub few-leaves : (version : Version) → most_leaves version ≤ leaf_limit
 few-leaves One = omega arith
 few-leaves Two = omega arith
 few-leaves Three = omega arith
-
-pub few-digests : (version : Version) (n : ℕ) → n ≤ most_digests version → n ≤ digest_limit
-few-digests One n few = omega (arith, few)
-few-digests Two n few = omega (arith, few)
-few-digests Three n few = omega (arith, few)
 
 pub few-images : (version : Version) → most_images version ≤ image_limit
 few-images One = omega arith

@@ -1,6 +1,6 @@
 -- What the core is started with.
 use Rattle.std.specs.Prelude.{ℕ, Bool, true, false, ◌+◌, ◌/◌, ◌≤◌, ◌<◌, nat_lt, List, length, if◌then◌else◌}
-use Rattle.kc_types.specs.Limits.{frame_limit, slot_limit, vcpu_limit, gfn_limit, leaf_entries, leaf_limit, image_limit, image_size_limit, digest_limit, first_frame_limit, second_frame_limit, first_slot_limit, second_slot_limit, first_vcpu_limit, first_gfn_limit, first_leaf_limit, first_image_limit, first_image_size_limit, first_digest_limit}
+use Rattle.kc_types.specs.Limits.{frame_limit, slot_limit, vcpu_limit, gfn_limit, leaf_entries, leaf_limit, image_limit, image_size_limit, digest_limit, first_frame_limit, second_frame_limit, first_slot_limit, second_slot_limit, first_vcpu_limit, first_gfn_limit, first_leaf_limit, first_image_limit, first_image_size_limit}
 use Rattle.kc_types.specs.declared.version.Version.{Version}
 use Rattle.kc_types.specs.declared.version.Version.TheVariants.{One, Two, Three}
 use Rattle.kc_types.specs.declared.owner.Owner.{Owner}
@@ -51,12 +51,6 @@ most_image_bytes One = first_image_size_limit
 most_image_bytes Two = first_image_size_limit
 most_image_bytes Three = image_size_limit
 
--- the most digests that are approved
-abbrev pub most_digests : Version → ℕ
-most_digests One = first_digest_limit
-most_digests Two = first_digest_limit
-most_digests Three = digest_limit
-
 -- whether a boot is approved as a whole, by its launch measurement, and not image by image
 abbrev pub measures_launch : Version → Bool
 measures_launch One = false
@@ -94,4 +88,4 @@ pub record IsConfiguration (c : Configuration) : Type 0 where
   pub within : c.core + c.host ≤ c.frames
   pub some_leaves : 0 < c.leaves
   pub few_leaves : c.leaves ≤ most_leaves c.version
-  pub few_digests : length c.approved ≤ most_digests c.version
+  pub few_digests : length c.approved ≤ digest_limit

@@ -1,6 +1,6 @@
 -- The limits of `src/limits.rt`, under the names that definitions use.
 use Rattle.std.specs.Prelude.{ℕ}
-use Rattle.kc_types.specs.declared.limits.TheConstants.{PAGE_SIZE, LEAF_ENTRIES, FRAME_LIMIT, SLOT_LIMIT, VCPU_LIMIT, GFN_LIMIT, LEAF_LIMIT, IMAGE_LIMIT, IMAGE_SIZE_LIMIT, DIGEST_LIMIT, FIRST_FRAME_LIMIT, SECOND_FRAME_LIMIT, FIRST_SLOT_LIMIT, SECOND_SLOT_LIMIT, FIRST_VCPU_LIMIT, FIRST_GFN_LIMIT, FIRST_LEAF_LIMIT, FIRST_IMAGE_LIMIT, FIRST_IMAGE_SIZE_LIMIT, FIRST_DIGEST_LIMIT, SHARE_LIMIT, RANGE_LIMIT, CALL_LIMIT, WORKER_LIMIT, LINE_LIMIT, BYTE_LIMIT}
+use Rattle.kc_types.specs.declared.limits.TheConstants.{PAGE_SIZE, LEAF_ENTRIES, FRAME_LIMIT, SLOT_LIMIT, VCPU_LIMIT, GFN_LIMIT, LEAF_LIMIT, IMAGE_LIMIT, IMAGE_SIZE_LIMIT, FIRST_FRAME_LIMIT, SECOND_FRAME_LIMIT, FIRST_SLOT_LIMIT, SECOND_SLOT_LIMIT, FIRST_VCPU_LIMIT, FIRST_GFN_LIMIT, FIRST_LEAF_LIMIT, FIRST_IMAGE_LIMIT, FIRST_IMAGE_SIZE_LIMIT, DIGEST_LIMIT, SHARE_LIMIT, RANGE_LIMIT, CALL_LIMIT, WORKER_LIMIT, LINE_LIMIT, BYTE_LIMIT}
 
 abbrev pub page_size : ℕ
 page_size = PAGE_SIZE
@@ -31,9 +31,6 @@ image_limit = IMAGE_LIMIT
 abbrev pub image_size_limit : ℕ
 image_size_limit = IMAGE_SIZE_LIMIT
 
-abbrev pub digest_limit : ℕ
-digest_limit = DIGEST_LIMIT
-
 -- ---- the limits of versions 1 and 2: `Configuration` says which of them holds
 
 abbrev pub first_frame_limit : ℕ
@@ -63,10 +60,10 @@ first_image_limit = FIRST_IMAGE_LIMIT
 abbrev pub first_image_size_limit : ℕ
 first_image_size_limit = FIRST_IMAGE_SIZE_LIMIT
 
-abbrev pub first_digest_limit : ℕ
-first_digest_limit = FIRST_DIGEST_LIMIT
-
 -- ---- the rules of every version
+
+abbrev pub digest_limit : ℕ
+digest_limit = DIGEST_LIMIT
 
 abbrev pub share_limit : ℕ
 share_limit = SHARE_LIMIT

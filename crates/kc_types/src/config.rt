@@ -4,7 +4,7 @@ ghost use Rattle.kc_types.specs.Limits.{frame_limit, slot_limit, leaf_limit, dig
 ghost use Rattle.kc_types.specs.Configuration.{IsConfiguration, boot_owner, gfns_of, slot_count, vcpus_of};
 ghost use Rattle.kc_types.specs.ConfigFaults.{Configures};
 
-use crate::{FrameNo, Gfn, Memory, Owner, VcpuId, Version, VmId};
+use crate::{DIGEST_LIMIT, FrameNo, Gfn, Memory, Owner, VcpuId, Version, VmId};
 use std::marker::Model;
 use thiserror::Error;
 
@@ -72,7 +72,7 @@ pub enum ConfigFault {
     /// The number of leaf tables is 0 or above the version's limit: 64, or 262,144 in version 3.
     #[error("leaves")]
     Leaves,
-    /// More digests are approved than the version's limit: 64, or 4,096 in version 3.
+    /// More than 64 digests are approved.
     #[error("approved")]
     TooManyDigests,
 }
@@ -114,7 +114,7 @@ impl Config {
         if leaves == 0 || leaves > version.most_leaves() {
             return Err(ConfigFault::Leaves);
         }
-        if approved.len() > version.most_digests() as usize {
+        if approved.len() > DIGEST_LIMIT {
             return Err(ConfigFault::TooManyDigests);
         }
         Ok(Config {
@@ -239,7 +239,7 @@ impl Config {
         }
     }
 
-    /// The approved digests, at most 64 (in version 3, 4,096).
+    /// The approved digests, at most 64.
     pub fn approved(&self) -> &[[u8; 32]]
         ensures value { result.now ≡ self.now.approved }
         ensures few { length result.now ≤ digest_limit }

@@ -22,8 +22,6 @@ pub const LEAF_LIMIT: u32 = 262_144;
 pub const IMAGE_LIMIT: usize = 16;
 /// The most bytes of a boot image.
 pub const IMAGE_SIZE_LIMIT: u32 = 1_073_741_824;
-/// The most digests that a configuration approves.
-pub const DIGEST_LIMIT: usize = 4_096;
 
 // ---- the limits of versions 1 and 2: `Version` says which of them holds
 
@@ -45,11 +43,11 @@ pub const FIRST_LEAF_LIMIT: u32 = 64;
 pub const FIRST_IMAGE_LIMIT: usize = 4;
 /// The most bytes of a boot image in versions 1 and 2.
 pub const FIRST_IMAGE_SIZE_LIMIT: u32 = 1_048_576;
-/// The most digests that a configuration of version 1 or 2 approves.
-pub const FIRST_DIGEST_LIMIT: usize = 64;
 
 // ---- the rules of every version
 
+/// The most digests of boot images that a configuration approves.
+pub const DIGEST_LIMIT: usize = 64;
 /// The most grants of one frame.
 pub const SHARE_LIMIT: u32 = 100;
 /// The most guest frames that one call names.

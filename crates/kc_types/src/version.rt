@@ -1,13 +1,13 @@
 //! Versions of the rules, and the limits of each. A configuration asks for one, and a dump names it.
 ghost use Rattle.std.specs.Prelude.{◌≡◌, ◌≤◌};
-ghost use Rattle.kc_types.specs.Limits.{frame_limit, slot_limit, vcpu_limit, gfn_limit, leaf_limit, image_limit, digest_limit};
-ghost use Rattle.kc_types.specs.Configuration.{most_frames, slots_of, vcpus_of, gfns_of, roots_of, most_leaves, most_images, most_image_bytes, most_digests, measures_launch, has_dump};
+ghost use Rattle.kc_types.specs.Limits.{frame_limit, slot_limit, vcpu_limit, gfn_limit, leaf_limit, image_limit};
+ghost use Rattle.kc_types.specs.Configuration.{most_frames, slots_of, vcpus_of, gfns_of, roots_of, most_leaves, most_images, most_image_bytes, measures_launch, has_dump};
 
 use crate::{
-    DIGEST_LIMIT, FIRST_DIGEST_LIMIT, FIRST_FRAME_LIMIT, FIRST_GFN_LIMIT, FIRST_IMAGE_LIMIT,
-    FIRST_IMAGE_SIZE_LIMIT, FIRST_LEAF_LIMIT, FIRST_SLOT_LIMIT, FIRST_VCPU_LIMIT, FRAME_LIMIT,
-    GFN_LIMIT, IMAGE_LIMIT, IMAGE_SIZE_LIMIT, LEAF_ENTRIES, LEAF_LIMIT, SECOND_FRAME_LIMIT,
-    SECOND_SLOT_LIMIT, SLOT_LIMIT, VCPU_LIMIT,
+    FIRST_FRAME_LIMIT, FIRST_GFN_LIMIT, FIRST_IMAGE_LIMIT, FIRST_IMAGE_SIZE_LIMIT,
+    FIRST_LEAF_LIMIT, FIRST_SLOT_LIMIT, FIRST_VCPU_LIMIT, FRAME_LIMIT, GFN_LIMIT, IMAGE_LIMIT,
+    IMAGE_SIZE_LIMIT, LEAF_ENTRIES, LEAF_LIMIT, SECOND_FRAME_LIMIT, SECOND_SLOT_LIMIT, SLOT_LIMIT,
+    VCPU_LIMIT,
 };
 
 /// The first version; the second, which has larger limits and two more calls; and the third, for a machine of real size.
@@ -103,17 +103,6 @@ impl Version {
         match self {
             Version::One | Version::Two => FIRST_IMAGE_SIZE_LIMIT,
             Version::Three => IMAGE_SIZE_LIMIT,
-        }
-    }
-
-    /// The most digests that a configuration approves: 64, or 4,096 in version 3.
-    pub fn most_digests(self) -> u32
-        ensures value { result ≡ most_digests self }
-        ensures few { result ≤ digest_limit }
-    {
-        match self {
-            Version::One | Version::Two => FIRST_DIGEST_LIMIT as u32,
-            Version::Three => DIGEST_LIMIT as u32,
         }
     }
 

@@ -7,7 +7,6 @@ use Rattle.kc_types.specs.Limits.{byte_limit, call_limit, page_size}
 use Rattle.kc_types.specs.declared.call.Actor.{Actor}
 use Rattle.kc_types.specs.declared.config.ConfigFault.TheVariants as numbers
 use Rattle.kc_model.specs.State.{mapped_at}
-use Rattle.kc_model.specs.Boot.{boot}
 use Rattle.kc_model.specs.Custody.{custody_at}
 use Rattle.kc_snapshot.specs.Dumping.{dump_of}
 use Rattle.kc_snapshot.specs.Form.{in_form}
@@ -23,7 +22,7 @@ use Rattle.kc_trace.specs.ReplyText.{longest_reply}
 use Rattle.kc_trace.specs.declared.header.Position.{Position}
 use Rattle.kc_config_text.specs.declared.config_text.ConfigTextFault.TheVariants as texts
 use Rattle.sha2.specs.Sha256.{sha256}
-use Rattle.kc_session.specs.Session.{Kept, begun, turned, onward_of, GoesOnFrom, IsAnswer, IsUnanswered, lines_in, redacted_lines}
+use Rattle.kc_session.specs.Session.{Kept, new_session, turned, onward_of, GoesOnFrom, IsAnswer, IsUnanswered, lines_in, redacted_lines}
 use Rattle.kc_session.specs.declared.session.Form.{Form}
 use Rattle.kc_session.specs.declared.session.AskFault.TheVariants as asks
 use Rattle.kcore_c.specs.Record.{record_of, change_of, IsNextOf, HasNoneOf}
@@ -80,7 +79,7 @@ Puts Says old new used status = Says (length old) (take used new) status × (use
 
 -- the session is that of a core in the boot state of the configuration that the text is, and its first volume has a head with this position, or none
 abbrev pub IsBooted : Option Position → Option Kept → List ℕ → Type 0
-IsBooted position session text = (config : Configuration) × (config_in text ≡ Ok config) × (session ≡ Some (begun position (boot config)))
+IsBooted position session text = (config : Configuration) × (config_in text ≡ Ok config) × (session ≡ Some (new_session position config))
 
 -- opening a session with a text, and with a head of this position, or none
 abbrev pub BootSays : Option Position → Option Kept → Option Kept → List ℕ → Status → Type 0

@@ -14,7 +14,6 @@
 ghost use Rattle.std.specs.Prelude.{◌≡◌, Some, None};
 ghost use Rattle.kc_trace.specs.ReplyText.{longest_reply};
 ghost use Rattle.kc_trace.specs.Spelling.{longest_call};
-ghost use Rattle.kc_trace.specs.Header.{longest_header};
 ghost use Rattle.kc_trace.specs.declared.header.Position.TheVariants.{First};
 ghost use Rattle.kc_session.specs.declared.session.Form.TheVariants.{Whole, Redacted};
 ghost use Rattle.kc_snapshot.specs.declared.form.StateForm.TheVariants as forms;
@@ -31,7 +30,7 @@ mod status;
 pub use handle::Handle;
 use kc_session::Form;
 use kc_snapshot::StateForm;
-use kc_trace::{LONGEST_CALL, LONGEST_HEADER, LONGEST_REPLY, Position};
+use kc_trace::{LONGEST_CALL, LONGEST_REPLY, Position};
 use record::asking;
 pub use record::{Change, Record, Sizes};
 pub use request::{Answer, Request};
@@ -46,7 +45,7 @@ pub extern "C" fn kcore_longest_reply() -> usize
     LONGEST_REPLY
 }
 
-/// The number of bytes of the longest line of a call in a trace, with its newline.
+/// The number of bytes of the longest line of a trace, with its newline.
 #[unsafe(no_mangle)]
 pub extern "C" fn kcore_longest_line() -> usize
     ensures { result ≡ longest_call }
@@ -54,21 +53,13 @@ pub extern "C" fn kcore_longest_line() -> usize
     LONGEST_CALL
 }
 
-/// The most bytes of the header of a trace, with all lines of its head: the room that `kcore_line` needs for it.
-#[unsafe(no_mangle)]
-pub extern "C" fn kcore_longest_header() -> usize
-    ensures { result ≡ longest_header }
-{
-    LONGEST_HEADER
-}
-
-/// Opens a session whose core is reserved, and in the boot state of the configuration that a text of up to 1,073,741,824
-/// bytes is. If it cannot, the handle stays as it is.
+/// Opens a session whose core is in the boot state of the configuration that a text of up to 1,073,741,824 bytes is.
+/// If it cannot, the handle stays as it is.
 #[unsafe(no_mangle)]
 pub extern "C" fn kcore_boot(alloc: Global, core: &mut Handle, config: &[u8]) -> u32
     ensures { IsCode (BootSays None core.old.held.session core.new.held.session config.now) result }
 {
-    session::boot(alloc, core, config, true, None).code()
+    session::boot(alloc, core, config, None).code()
 }
 
 /// Opens a session as `kcore_boot` does, whose traces have heads: that of its first volume says that it is the first, and
@@ -77,16 +68,7 @@ pub extern "C" fn kcore_boot(alloc: Global, core: &mut Handle, config: &[u8]) ->
 pub extern "C" fn kcore_boot_history(alloc: Global, core: &mut Handle, config: &[u8]) -> u32
     ensures { IsCode (BootSays (Some First) core.old.held.session core.new.held.session config.now) result }
 {
-    session::boot(alloc, core, config, true, Some(Position::First)).code()
-}
-
-/// Opens a session as `kcore_boot_history` does, whose core is sparse: its frames have no memory while their bytes are
-/// zero. A call that is the first to write to one takes it, and if memory runs out then, nothing has changed.
-#[unsafe(no_mangle)]
-pub extern "C" fn kcore_boot_sparse(alloc: Global, core: &mut Handle, config: &[u8]) -> u32
-    ensures { IsCode (BootSays (Some First) core.old.held.session core.new.held.session config.now) result }
-{
-    session::boot(alloc, core, config, false, Some(Position::First)).code()
+    session::boot(alloc, core, config, Some(Position::First)).code()
 }
 
 /// Opens a session whose core is in the state that a text spells, and that was asked nothing yet. If the text says which
@@ -268,9 +250,8 @@ pub extern "C" fn kcore_sizes(alloc: Global, core: &mut Handle, size: &mut Sizes
 }
 
 /// Gives a line of the volume's trace, by its place from 0, with its newline: the header, with all lines of its head if it
-/// has one, then a line for each call that was answered, so that all of them, one after the other, are the trace. A buffer
-/// of `kcore_longest_header` bytes has room for the header, and one of `kcore_longest_line` for each other line. The bytes
-/// after the first `used` stay; if no line is given, `used` is 0.
+/// has one, then a line for each call that was answered, so that all of them, one after the other, are the trace. The
+/// bytes after the first `used` stay; if no line is given, `used` is 0.
 #[unsafe(no_mangle)]
 pub extern "C" fn kcore_line(
     alloc: Global,

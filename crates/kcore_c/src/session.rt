@@ -1,11 +1,9 @@
 //! What is done with the session of a handle.
-ghost use Rattle.std.specs.Prelude.{◌≡◌, ◌≤◌, ◌↔◌, Some, None, false, IsTrue, length, take, drop, IfOk, IfErr, IfSome, OnOk};
+ghost use Rattle.std.specs.Prelude.{◌≡◌, ◌≤◌, ◌↔◌, Some, None, false, IsTrue, length, take, drop, IfOk, IfErr, IfSome};
 ghost use Rattle.kc_config_text.specs.ConfigText.{config_in, ConfigFails};
 ghost use Rattle.kcore_c.specs.Status.{BootSays, CallSays, DoSays, LineSays, DigestSays, ResumeSays, StateSays, DumpSays, BlankDigestSays, IsResumed, TurnSays, EndSays, IsBooted, Puts, place_of};
 ghost use Rattle.kc_types.specs.Configuration.{has_dump};
 ghost use Rattle.kc_types.specs.Limits.{byte_limit};
-ghost use Rattle.kc_model.specs.Boot.{boot};
-ghost use Rattle.kc_model.specs.Lawful.{IsLawful};
 ghost use Rattle.kc_trace.specs.Header.{IsPosition};
 ghost use Rattle.kc_snapshot.specs.Dumping.{dump_of};
 ghost use Rattle.kc_state_text.specs.Refused.{IsRefusedPlaced};
@@ -21,7 +19,7 @@ use kc_session::{Form, Session};
 use kc_snapshot::{StateForm, dump_alone};
 use kc_state_text::{StateFault, state_digest, whole_text};
 use kc_trace::{LONGEST_REPLY, Position};
-use kc_types::{Actor, BYTE_LIMIT, Config, Memory, PAGE_SIZE};
+use kc_types::{Actor, BYTE_LIMIT, Memory, PAGE_SIZE};
 use std::alloc::Global;
 
 /// The number of bytes of a digest.
@@ -55,23 +53,9 @@ fn try_fill(out: &mut [u8], used: &mut usize, bytes: &[u8]) -> bool
     true
 }
 
-/// Makes a core in the boot state of a configuration, reserved or sparse.
-fn booted(alloc: Global, config: Config, is_reserved: bool) -> Result<KCore, Memory>
-    ensures state { IfOk result (λ core. core.state ≡ boot config) }
-    ensures reserved { IfOk result (λ core. core.is_reserved ≡ is_reserved) }
-    ensures lawful { OnOk result (IsLawful (boot config)) }
-{
-    if is_reserved {
-        KCore::boot(alloc, config)
-    } else {
-        KCore::boot_sparse(alloc, config)
-    }
-}
-
 fn opened(
     alloc: Global,
     text: &[u8],
-    is_reserved: bool,
     position: Option<Position>,
 ) -> Result<Box<Session>, ConfigTextFault>
     requires { IfSome position IsPosition }
@@ -79,10 +63,8 @@ fn opened(
     ensures fault { IfErr result (λ fault. ConfigFails fault (config_in text.now)) }
 {
     let config = read_config(alloc, text)?;
-    let Ok(core) = booted(alloc, config, is_reserved) else {
-        return Err(ConfigTextFault::Memory);
-    };
-    let Ok(session) = Session::new(alloc, core, position) else {
+    let _frames = config.frames();
+    let Ok(session) = Session::new(alloc, config, position) else {
         return Err(ConfigTextFault::Memory);
     };
     match Box::new(alloc, session) {
@@ -91,15 +73,8 @@ fn opened(
     }
 }
 
-/// Opens a session with the text of its configuration, whose core is reserved or sparse, and with a head of this
-/// position, or none.
-pub fn boot(
-    alloc: Global,
-    core: &mut Handle,
-    text: &[u8],
-    is_reserved: bool,
-    position: Option<Position>,
-) -> Status
+/// Opens a session with the text of its configuration, and with a head of this position, or none.
+pub fn boot(alloc: Global, core: &mut Handle, text: &[u8], position: Option<Position>) -> Status
     requires { IfSome position IsPosition }
     ensures { BootSays position core.old.held.session core.new.held.session text.now result }
 {
@@ -109,7 +84,7 @@ pub fn boot(
     if text.len() > BYTE_LIMIT {
         return Status::TooLong;
     }
-    match opened(alloc, text, is_reserved, position) {
+    match opened(alloc, text, position) {
         Ok(session) => {
             core.put(session);
             Status::Done

@@ -16,9 +16,7 @@ use kc_footprints::Plan;
 use kc_live::{Entry, History, LiveCore, LiveStop, Seat, Volume, VolumeDigest, run_trace};
 use kc_replay::{Outcome, footprints, replay};
 use kc_snapshot::dump;
-use kc_trace::{
-    LONGEST_CALL, LONGEST_HEADER, push_call, push_header, read_trace, write_replies, write_trace,
-};
+use kc_trace::{LONGEST_CALL, push_call, push_header, read_trace, write_replies, write_trace};
 use kc_types::{Actor, Call, Config, Resource, actor_of};
 use std::io::Write;
 use std::rt::Clock;
@@ -208,7 +206,7 @@ fn print_digest(rt: &HostRuntime, said: VolumeDigest) -> Result<()> {
 
 /// Prints the trace of a volume, with its header.
 fn print_volume(rt: &HostRuntime, volume: &Volume) -> Result<()> {
-    let mut text = Vec::with_capacity(rt.alloc(), LONGEST_HEADER)?;
+    let mut text = Vec::with_capacity(rt.alloc(), LONGEST_CALL)?;
     push_header(&mut text, volume.header());
     for entry in volume.entries() {
         text.reserve(LONGEST_CALL)?;

@@ -206,20 +206,9 @@ fn volumes_of<R: Threads + Wait + Sync>(
     Some(volumes)
 }
 
-/// A core of a small machine, reserved or sparse.
-fn small_core(alloc: Global, is_reserved: bool) -> Option<LiveCore> {
-    let config = small_config(alloc)?;
-    let core = if is_reserved {
-        LiveCore::new(alloc, config)
-    } else {
-        LiveCore::new_sparse(alloc, config)
-    };
-    core.ok()
-}
-
 /// Boots a VM and turns the core over while host and guest call.
-fn run_over<R: Threads + Wait + Sync>(rt: &R, alloc: Global, is_reserved: bool) -> Option<Turned> {
-    let core = small_core(alloc, is_reserved)?;
+fn run_over<R: Threads + Wait + Sync>(rt: &R, alloc: Global) -> Option<Turned> {
+    let core = LiveCore::new(alloc, small_config(alloc)?).ok()?;
     let mut host = Seat::new(alloc, Actor::Host);
     let mut guest = Seat::new(alloc, Actor::Vcpu(0, 0));
     boot(rt, alloc, &core, &mut host)?;
@@ -234,8 +223,8 @@ fn run_over<R: Threads + Wait + Sync>(rt: &R, alloc: Global, is_reserved: bool) 
 }
 
 /// Whether the volumes can be followed to the core that they left, and the receipts are theirs.
-fn is_followed<R: Threads + Wait + Sync>(rt: &R, alloc: Global, is_reserved: bool) -> Option<bool> {
-    let turned = run_over(rt, alloc, is_reserved)?;
+fn is_followed<R: Threads + Wait + Sync>(rt: &R, alloc: Global) -> Option<bool> {
+    let turned = run_over(rt, alloc)?;
     let (same, left) = followed(rt, alloc, &turned.volumes)?;
     let is_left = dump_of(rt, alloc, &left)? == dump_of(rt, alloc, &turned.core)?;
     let Turned {
@@ -249,12 +238,7 @@ fn is_followed<R: Threads + Wait + Sync>(rt: &R, alloc: Global, is_reserved: boo
 
 #[test]
 fn a_core_that_turns_over_is_followed(rt: HostRuntime) {
-    assert_eq!(rt; is_followed(&rt, rt.alloc(), true), Some(true));
-}
-
-#[test]
-fn a_sparse_core_that_turns_over_is_followed(rt: HostRuntime) {
-    assert_eq!(rt; is_followed(&rt, rt.alloc(), false), Some(true));
+    assert_eq!(rt; is_followed(&rt, rt.alloc()), Some(true));
 }
 
 /// Makes this many calls from one seat, each of which is refused.
@@ -277,7 +261,7 @@ fn calls_of_volume<R: Wait>(rt: &R, core: &LiveCore) -> Option<usize> {
 
 /// Fills a volume and turns the core over; returns whether the volume is full, and the next one is begun.
 fn is_begun_anew<R: Wait>(rt: &R, alloc: Global) -> Option<bool> {
-    let core = small_core(alloc, true)?;
+    let core = LiveCore::new(alloc, small_config(alloc)?).ok()?;
     let mut seat = Seat::new(alloc, Actor::Host);
     let is_full = is_filled(rt, &core, &mut seat);
     let calls = calls_of_volume(rt, &core)?;

@@ -53,7 +53,7 @@ class Bars(Case):
         ends = [it.element for it in self.picture.texts if it.element.get("text-anchor") == "end" and it.box[2] < LEFT]
         ends = [it for it in ends if re.fullmatch(r"(frame )?\d+", it.text)]
         numbers = [(int(it.text.split(" ")[-1]), number(it, "y")) for it in ends]
-        want(sorted(it for it, _ in numbers) == list(self.shown), f"frames are numbered {numbers}")
+        want(sorted(it for it, _ in numbers) == list(range(self.config["frames"])), f"frames are numbered {numbers}")
         for frame, y in numbers:
             top, bottom = rows.get(frame) or (y, y)
             want(top <= y <= bottom, f"the number of frame {frame} is at {y}, and its row from {top} to {bottom}")

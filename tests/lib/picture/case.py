@@ -3,7 +3,6 @@ import collections
 import functools
 import re
 
-import rules
 from picture.colours import (
     DEAD, EDGE, HUES, INK, LEFT, LIFE, MOST_BARS, MOST_CALLS, MOST_COLUMNS, MOST_FRAMES, MOST_ROWS, MOST_ROWS_OF_VM,
     OTHERS, PLOT, REFUSED, SEVERAL, colour_of_vm, learned, nearer,
@@ -26,11 +25,7 @@ class Case:
         for it in told.lives:
             if vm in (None, it.vm):
                 self.lives[it.vm].append(it)
-        # The frames that have rows, if rows are of frames by number: of a machine of version 3 those that have bars.
-        self.shown = range(config["frames"])
-        if config["version"] in rules.WITH_LAUNCH:
-            self.shown = sorted({it.frame for it in self.bars})
-        few = len(self.shown) <= MOST_FRAMES and self.calls <= MOST_CALLS
+        few = config["frames"] <= MOST_FRAMES and self.calls <= MOST_CALLS
         if vm is not None:
             few = len({it.frame for it in self.bars}) <= MOST_ROWS_OF_VM
         self.has_bars = few and len(self.bars) <= MOST_BARS
@@ -87,7 +82,7 @@ class Case:
 
     def heading_of_frames(self):
         if self.vm is None:
-            return f"{'Each frame that changes' if self.config['version'] in rules.WITH_LAUNCH else 'Every frame'}, by number"
+            return "Every frame, by number"
         if self.has_bars:
             return f"Each frame of vm {self.vm}, in the order in which they came"
         return f"Frames of vm {self.vm}, by number"
@@ -116,7 +111,8 @@ class Case:
         return self.last // columns if self.last % columns == 0 else self.last // columns + 2
 
     def remark_on_cells(self):
-        frames, lines = -(-len(self.shown) // min(len(self.shown), MOST_ROWS)), self.most_lines(min(self.last, MOST_COLUMNS))
+        rows = min(self.config["frames"], MOST_ROWS)
+        frames, lines = -(-self.config["frames"] // rows), self.most_lines(min(self.last, MOST_COLUMNS))
         said = f"a cell: up to {count_of(frames, 'frame')} through up to {count_of(lines, 'line')}; "
         if self.vm is not None:
             return f"{said}paler the less of it vm {self.vm} had; underlined where it shared any"

@@ -42,11 +42,7 @@ class Cells(Case):
         edges = [it for it in self.picture.shapes if it.kind == "rect" and it.looks.get("fill") == "none"]
         plots = [it.box for it in edges if it.looks["stroke"] == EDGE]
         want(len(plots) == 1, f"there are {len(plots)} frames of cells")
-        return plots[0], min(len(self.shown), MOST_ROWS), min(self.last, MOST_COLUMNS)
-
-    def row_of(self, place):
-        """The row of the frame at a place among those that have rows."""
-        return place * self.grid[1] // len(self.shown)
+        return plots[0], min(self.config["frames"], MOST_ROWS), min(self.last, MOST_COLUMNS)
 
     @functools.cached_property
     def weights(self):
@@ -55,11 +51,10 @@ class Cells(Case):
         _, rows, columns = self.grid
         parts = [[collections.Counter() for _ in range(columns)] for _ in range(rows)]
         shared, size = [[False] * columns for _ in range(rows)], [0] * rows
-        places = {frame: place for place, frame in enumerate(self.shown)}
-        for place in places.values():
-            size[self.row_of(place)] += self.last
+        for frame in range(self.config["frames"]):
+            size[frame * rows // self.config["frames"]] += self.last
         for bar in self.bars:
-            row = self.row_of(places[bar.frame])
+            row = bar.frame * rows // self.config["frames"]
             begin, end = (bar.first - 1) * columns, bar.last * columns
             for column in range(begin // self.last, -(-end // self.last)):
                 inside = min(end, (column + 1) * self.last) - max(begin, column * self.last)
@@ -116,9 +111,9 @@ class Cells(Case):
         want(not wrong, f"cells that lack a title, or have two: {wrong[:4]}")
 
     def title_of_cells(self, row, columns):
-        (_, rows, all_columns), whose, count = self.grid, self.whose(row, columns[0]), len(self.shown)
-        near = range(row * count // rows, min(count, (row + 1) * count // rows + 2))
-        frames = [self.shown[it] for it in near if self.row_of(it) == row]
+        (_, rows, all_columns), whose, all_frames = self.grid, self.whose(row, columns[0]), self.config["frames"]
+        near = range(row * all_frames // rows, min(all_frames, (row + 1) * all_frames // rows + 2))
+        frames = [it for it in near if it * rows // all_frames == row]
         mine = f"frame {frames[0]}" if len(frames) == 1 else f"frames {frames[0]} to {frames[-1]}"
         first, last = lines_in(self.last, all_columns, columns[0])[0], lines_in(self.last, all_columns, columns[-1])[1]
         if whose == "none":
@@ -149,11 +144,11 @@ class Cells(Case):
     def try_rows(self):
         """The numbers of some frames, from the first rows to the last, are beside their rows."""
         (left, top, _, bottom), rows, _ = self.grid
-        frames, numbered = len(self.shown), []
+        frames, numbered = self.config["frames"], []
         for it in self.picture.texts:
             if it.element.text.isdigit() and number(it.element, "x") < left - 1 and it.box[3] < bottom + 9:
                 row = (number(it.element, "y") - 8 - top) * rows / (bottom - top)
-                numbered.append(self.shown.index(int(it.element.text)))
-                want(is_near(row, self.row_of(numbered[-1])), f"the number of frame {it.element.text} is in row {row}")
+                numbered.append(int(it.element.text))
+                want(is_near(row, numbered[-1] * rows // frames), f"the number of frame {numbered[-1]} is in row {row}")
         want(len(numbered) >= min(3, frames), f"rows are numbered {numbered}")
         want(max(numbered) >= 0.7 * (frames - 1) or frames < 4, f"of {frames} rows these are numbered: {numbered}")

@@ -62,11 +62,8 @@ class Told:
             self.count(1, custody, 1)
         for line, call in enumerate(lines, 2):
             self.make(line, call)
-        changed = {it.frame for it in self.bars}
         for frame, (first, custody) in enumerate(self.begun):
-            # (frames of a machine of version 3 that do not change are not shown)
-            if config["version"] not in rules.WITH_LAUNCH or frame in changed:
-                self.bars.append(Bar(frame, first, self.last, *custody))
+            self.bars.append(Bar(frame, first, self.last, *custody))
 
     def custody(self, frame):
         it = self.core.frames[frame]

@@ -19,6 +19,14 @@ use Rattle.kc_model.specs.Boot.{boot}
 use Rattle.kc_types.specs.Configuration.{Configuration, slot_count}
 use Rattle.kc_types.specs.declared.owner.Owner.TheVariants.{Vm}
 
+-- of two alike states both are private
+pub private-alike : (s : Secret) (m n : State) → hidden s m ≡ hidden s n → IsPrivate s m → IsPrivate s n
+private-alike s m n same private f e =
+    let frames = frames-hidden s m n same f in
+    let shares : (frame_at m f).share ≡ (frame_at n f).share = ap (λ (x : Frame). x.share) frames in
+    let secrets : is_secret s (is_running n s.vm) (frame_at m f) ≡ is_secret s (is_running n s.vm) (frame_at n f) = ap (is_secret s (is_running n s.vm)) frames in
+    sym shares ∙ private f (subst (λ t. is_secret s t (frame_at m f) ≡ true) (sym (running-alike s m n same)) (secrets ∙ e))
+
 -- the same call with other secret bytes, on the other state
 pub both-step : (s : Secret) (m n : State) (call other : Call) → IsLawful m → IsLawful n → AreAlike s m n → hidden_call s call ≡ hidden_call s other → IsStep (view_of s) m call (next m call) (next n other)
 both-step s m n call other m_is n_is alike calls =
@@ -68,6 +76,19 @@ alike-boot s c = record { same = refl; private = λ f secret. no_secret f secret
     no_secret f secret =
         let open_it : is_secret s (is_running (boot c) s.vm) (frame_at (boot c) f) ≡ false = ap (λ t. is_secret s t (frame_at (boot c) f)) idle ∙ and-false _ _ in
         absurd cc
+
+-- of a lawful state the secret frames are those that the running slot maps at secret guest frames
+pub secret-mapped : (s : Secret) (m : State) (f : ℕ) → IsLawful m → s.vm < slot_count m.config → is_secret s (is_running m s.vm) (frame_at m f) ≡ true → (g : ℕ) × (mapped_at m s.vm g ≡ Some f) × (s.gfns g ≡ true)
+secret-mapped s m f is v_in e = by-gfn (frame_at m f).gfn refl (second (same_owner (frame_at m f).owner (Vm s.vm)) _ _ e)
+  where
+    second : (p q r : Bool) → (p && (q && r)) ≡ true → q ≡ true
+    second true true r h = refl
+    second true false r h = cc
+    second false q r h = cc
+
+    by-gfn : (gfn : Option ℕ) → (frame_at m f).gfn ≡ gfn → has_gfn s.gfns gfn ≡ true → (g : ℕ) × (mapped_at m s.vm g ≡ Some f) × (s.gfns g ≡ true)
+    by-gfn None at h = absurd cc
+    by-gfn (Some g) at h = (g, (is.mapped s.vm g f v_in).1 (secret-owner s (is_running m s.vm) (frame_at m f) e, at), h)
 
 pub shows_nothing-boot : (c : Configuration) (calls : List Call) (replies : List Reply) (new : State) → IsLawful (boot c) → ShowsNothing (boot c) calls replies new → ShowsNothingFromBoot c calls replies new
 shows_nothing-boot c calls replies new is shown s others traces grants = shown s (boot c) others is (alike-boot s c) traces grants

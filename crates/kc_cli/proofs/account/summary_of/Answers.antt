@@ -9,5 +9,5 @@ pub returns : goal.returns
 returns c =
     let subject = c.args.subject.now in
     IfOk-weaker c.summary_text.result _ _
-    (λ text same events grown. same ∙ ap (λ (told : List Life). summary_text_of subject.heading subject.config subject.volumes.items subject.answered.calls subject.answered.denials.total c.args.attempts.now (selected_lives c.args.vm told)) (c.in_ok-lives.ensures events grown))
+    (λ text same frames events grown. same ∙ ap (λ (told : List Life). summary_text_of subject.heading subject.config subject.volumes.items subject.answered.calls subject.answered.denials.total c.args.attempts.now (selected_lives c.args.vm told)) (c.in_ok-lives.ensures frames events grown))
     (rw (c.as_slice.ensures.value, c.deref.ensures.value, c.select_lives.ensures) at c.summary_text.ensures)

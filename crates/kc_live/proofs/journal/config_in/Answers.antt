@@ -1,8 +1,7 @@
 use Rattle.std.proofs.Common.{◌≡◌, ◌∙◌, ◌++◌, ◌∷◌, [], List, ℕ, get_or, Some, None, ap, sym, arith}
 use Rattle.std.proofs.lemmas.List.{take_all, take_more}
 use Rattle.kc_types.specs.ConfigFaults.{fault_of}
-use Rattle.kc_trace.proofs.HeadWords.{no_fault}
-use Rattle.kc_live.proofs.Heads.{same_machine}
+use Rattle.kc_live.proofs.Heads.{no_fault, same_machine}
 use Rattle.kc_live.proofs.journal.config_in.Goals as goal
 
 pub loop-digest-preserved : goal.loop-digest-preserved

@@ -45,6 +45,3 @@ pub returns-clause-settled : goal.returns-clause-settled
 returns-clause-settled g c =
     let none = no_cause c.make_calls-rows.result.stop c.is_answer-is_settled.result cc in
     rw c.as_slice-2.ensures.value at (c.is_answer-is_settled.ensures.0 none.1).2
-
-pub returns-clause-rows : goal.returns-clause-rows
-returns-clause-rows g c = c.make_calls-rows.ensures.whole (no_cause c.make_calls-rows.result.stop c.is_answer-is_settled.result cc).0

@@ -1,7 +1,7 @@
-use Rattle.std.proofs.Common.{Err, refl, ◌∙◌}
+use Rattle.std.proofs.Common.{refl, ◌∙◌}
 use Rattle.std.proofs.lemmas.Result.{err_from_is_err_and}
 use Rattle.kc_cli.proofs.Sources.{sink_err}
-use Rattle.kc_faults.proofs.Told.{sources_err, texts_after, texts_err}
+use Rattle.kc_faults.proofs.Told.{sources_err, texts_err}
 use Rattle.kc_redact_text.proofs.Given.{answers_host, writes_host, begins_host}
 use Rattle.kc_redact_text.proofs.host.redact_host_text.Goals as goal
 
@@ -25,8 +25,3 @@ pub returns-in_err-give_redacted-clause-sink : goal.returns-in_err-give_redacted
 returns-in_err-give_redacted-clause-sink g c =
     let made = err_from_is_err_and c.from_residual-in_err-give_redacted.result c.from_residual-in_err-give_redacted.ensures.1 in
     rw (made.1, made.2) (sink_err _ _ _ _ c.in_err-give_redacted.field-0.0 (λ begun. begins_host _ _ _ _ _ c.in_ok-header.header c.in_ok-header.calls.items _ c.in_ok-header.ensures.ok begun) (rw c.host_redacted.ensures at c.in_err-give_redacted.ensures.sink))
-
-pub returns-in_err-give_redacted-clause-texts : goal.returns-in_err-give_redacted-clause-texts
-returns-in_err-give_redacted-clause-texts g c =
-    let made = err_from_is_err_and c.from_residual-in_err-give_redacted.result c.from_residual-in_err-give_redacted.ensures.1 in
-    rw (made.1, made.2) (texts_after _ _ _ _ _ (Err c.in_err-give_redacted.field-0.0) c.in_ok-header.ensures.texts c.in_err-give_redacted.ensures.fault)

@@ -1,6 +1,6 @@
 use Rattle.std.proofs.Common.{true}
 use Rattle.kc_parts.proofs.Writing.{write-place}
-use Rattle.kc_parts.proofs.Placeholders.{held-set}
+use Rattle.kc_parts.proofs.Blanks.{held-set}
 use Rattle.kc_parts.proofs.parts.Parts.lay_page.Goals as goal
 
 pub invariant_of-self : goal.invariant_of-self

@@ -1,12 +1,12 @@
 use Rattle.std.proofs.Common.{◌∙◌, false}
 use Rattle.kc_parts.proofs.Writing.{write-place, place-here}
-use Rattle.kc_parts.proofs.Placeholders.{held-set}
+use Rattle.kc_parts.proofs.Blanks.{held-set}
 use Rattle.kc_parts.proofs.parts.Parts.lift_page.Goals as goal
 
 pub invariant_of-self : goal.invariant_of-self
 invariant_of-self c =
     let p = c.self.inside in
-    rw c.set.ensures (held-set p.numbers p.filled p.pages c.place_of-at.result false c.swap.new.x (λ _. c.swap.ensures.x_after ∙ c.requires.placeholder) c.self.invariant)
+    rw c.set.ensures (held-set p.numbers p.filled p.pages c.place_of-at.result false c.swap.new.x (λ _. c.swap.ensures.x_after ∙ c.requires.blank) c.self.invariant)
 
 pub returns-clause-rest : goal.returns-clause-rest
 returns-clause-rest c =

@@ -1,6 +1,6 @@
 use Rattle.std.proofs.Common.{refl}
 use Rattle.kc_parts.specs.Marks.{scrubbed_if_marked}
-use Rattle.kc_parts.proofs.Placeholders.{held-changed}
+use Rattle.kc_parts.proofs.Blanks.{held-changed}
 use Rattle.kc_parts.proofs.parts.Parts.scrub_marked.Goals as goal
 
 pub invariant_of-self : goal.invariant_of-self

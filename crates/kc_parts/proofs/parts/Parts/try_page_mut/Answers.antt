@@ -1,4 +1,4 @@
-use Rattle.kc_parts.proofs.Placeholders.{held-page}
+use Rattle.kc_parts.proofs.Blanks.{held-page}
 use Rattle.kc_parts.proofs.parts.Parts.try_page_mut.Goals as goal
 
 pub invariant_of-self-lent : goal.invariant_of-self-lent

@@ -1,6 +1,6 @@
 use Rattle.std.proofs.Common.{refl}
 use Rattle.kc_page.specs.Page.{scrubbed_page}
-use Rattle.kc_parts.proofs.Placeholders.{held-changed}
+use Rattle.kc_parts.proofs.Blanks.{held-changed}
 use Rattle.kc_parts.proofs.parts.Parts.wipe.Goals as goal
 
 pub invariant_of-self : goal.invariant_of-self

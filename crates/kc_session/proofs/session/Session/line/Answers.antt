@@ -10,4 +10,4 @@ returns c =
     let there = (c.in-Some.ensures).lookup in
     let is : slice_get c.entries.result.now (c.args.number - 1) ≡ Some c.in-Some.entry.now =
     slice_get_read c.entries.result.now (length c.entries.result.now) (c.args.number - 1) c.in-Some.entry.now refl there.3.0 there.1 in
-    rw (after, ← c.self.view_is, ← c.entries.ensures.entries, is, c.push_line.ensures, c.in_ok-line.ensures.items) refl
+    rw (after, ← c.self.view_is, ← c.entries.ensures.entries, is, c.push_line.ensures, c.in_ok-told.ensures.items) refl

@@ -3,8 +3,8 @@ use Rattle.kc_session.specs.Session.{Kept, GoesOnFrom}
 use Rattle.kc_session.proofs.Begun.{may_begin, memory_of_any}
 use Rattle.kc_session.proofs.session.Session.resume.Goals as goal
 
-pub new-requires-clause-header : goal.new-requires-clause-header
-new-requires-clause-header c = may_begin c.in_ok-read.read.position c.in_ok-read.read.core.state c.in_ok-read.ensures.position c.in_ok-read.ensures.core
+pub of-requires-clause-header : goal.of-requires-clause-header
+of-requires-clause-header c = may_begin c.in_ok-read.read.position c.in_ok-read.read.core.state c.in_ok-read.ensures.position c.in_ok-read.ensures.core
 
 pub returns-in-Ok-clause-resumed : goal.returns-in-Ok-clause-resumed
 returns-in-Ok-clause-resumed c =

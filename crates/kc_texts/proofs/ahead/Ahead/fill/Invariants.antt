@@ -1,6 +1,6 @@
 use Rattle.std.proofs.Common.{◌≡◌, ◌-◌, false, length, drop}
 use Rattle.std.specs.Io.KnownBytes.{Keeps, prepend_known}
-use Rattle.kc_trace.specs.Header.{longest_header}
+use Rattle.kc_trace.specs.Spelling.{longest_call}
 use Rattle.kc_texts.proofs.ahead.Ahead.fill.Given as goal
 
 -- all bytes are left, some of them ahead
@@ -11,4 +11,4 @@ invariant-loop-self g l = record {
 }
 
 abbrev pub decreases-loop-self : goal.decreases-loop-self
-decreases-loop-self g l = longest_header - (length l.self.ahead.items - l.self.position)
+decreases-loop-self g l = longest_call - (length l.self.ahead.items - l.self.position)

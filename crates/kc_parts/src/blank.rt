@@ -1,14 +1,14 @@
-//! Placeholders: blank pages in the places of missing ones.
+//! Blank pages, which take the place of missing ones.
 ghost use Rattle.std.specs.Prelude.{◌≡◌, replicate, IfOk};
-ghost use Rattle.kc_parts.specs.Parts.{placeholder_page};
+ghost use Rattle.kc_parts.specs.Parts.{blank_page};
 
 use kc_page::{Page, PageBytes, PageRecord};
 use kc_types::{MaybeFrame, MaybeGfn, Memory, Owner, OwnerCode};
 use std::alloc::Global;
 
-/// Makes a placeholder, which takes no memory: its record says nothing, and its bytes are zero.
-fn placeholder_page(alloc: Global) -> Page
-    ensures { result ≡ placeholder_page }
+/// Makes a blank page, which takes no memory: its record says nothing, and its bytes are zero.
+fn blank_page(alloc: Global) -> Page
+    ensures { result ≡ blank_page }
 {
     let meta = PageRecord {
         owner: OwnerCode::of(Owner::Core),
@@ -22,14 +22,14 @@ fn placeholder_page(alloc: Global) -> Page
     Page { meta, bytes }
 }
 
-/// Makes this many placeholders; `Memory` if memory for their list runs out.
-pub(crate) fn placeholder_pages(alloc: Global, count: usize) -> Result<Vec<Page>, Memory>
+/// Makes this many blank pages; `Memory` if memory for their list runs out.
+pub(crate) fn blank_pages(alloc: Global, count: usize) -> Result<Vec<Page>, Memory>
     // No clause can rule out that memory runs out: tests take parts out.
-    ensures { IfOk result (λ pages. pages.items ≡ replicate count placeholder_page) }
+    ensures { IfOk result (λ pages. pages.items ≡ replicate count blank_page) }
 {
     let mut pages = Vec::with_capacity(alloc, count)?;
     for _ in 0..count {
-        pages.push(placeholder_page(alloc))?;
+        pages.push(blank_page(alloc))?;
     }
     Ok(pages)
 }

@@ -1,6 +1,0 @@
-use Rattle.std.proofs.Common.{◌≡◌, replicate}
-use Rattle.kc_parts.specs.Parts.{placeholder_page}
-use Rattle.kc_parts.proofs.placeholder.placeholder_pages.Given as goal
-
-abbrev pub invariant-loop : goal.invariant-loop
-invariant-loop l = l.pages.items ≡ replicate l.counter placeholder_page
